@@ -1,0 +1,4 @@
+pub mod Causes
+pub mod Gathered
+pub mod Held
+pub mod Plans

@@ -1,0 +1,7 @@
+/// One end of the program: where its bytes come from, where they go, and its files by name.
+#[derive(Drop)]
+pub struct End<S: Drop, K: Drop, H: Drop> {
+    pub source: S,
+    pub sink: K,
+    pub shelf: H,
+}
