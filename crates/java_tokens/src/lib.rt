@@ -1,0 +1,14 @@
+// The lexical tokens of a Java source text. `tokens` cuts any text into tokens that tile it; the main
+// definition is `AreTokensOf`: each token is the longest that the first fitting rule allows, and the
+// next begins where it ends. Words are made of the characters of the kit's `unicode_ident`.
+// It stands on `lists` and `unicode_ident`.
+#![tactic(auto)]
+
+mod char_class;
+mod rules;
+mod token;
+
+pub use token::{Token, TokenKind, tokens};
+
+#[cfg(test)]
+mod tests;
