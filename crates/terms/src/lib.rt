@@ -1,0 +1,19 @@
+// The base of the meaning: types, declarations, terms and environments, and what it means that a term
+// is an inhabitant of the goal. The main definitions are `IsInhabitant` and the whole list of an
+// environment, `IsWhole`; typing, weights, Java text and order stand below them in `specs/`. The trait
+// `Levels` is what a search owes to everything above it. It stands on `lists` alone.
+#![tactic(auto)]
+
+mod context;
+mod env;
+mod fault;
+mod levels;
+mod parts;
+mod term;
+
+pub use context::Ctx;
+pub use env::Env;
+pub use fault::EnvFault;
+pub use levels::{Level, Levels};
+pub use parts::{Arg, Decl, Form, Parts};
+pub use term::{Term, TermArg};

@@ -1,0 +1,59 @@
+use lists::{Items, Text};
+
+/// What a declaration wants at a place.
+#[derive(Debug, Drop)]
+pub enum Arg {
+    /// A value of a type, by the type's number.
+    Plain(u32),
+    /// A lambda with parameters of these types, in order, whose body has the last type.
+    Fun(Items<u32>, u32),
+}
+
+/// How a declaration is written in Java. Texts are names as written, in UTF-8.
+#[derive(Debug, Drop)]
+pub enum Form {
+    /// A name or a literal, without arguments.
+    Name(Text),
+    /// `this`.
+    This,
+    /// A call by its name, perhaps with dots: `f(a, b)`.
+    Call(Text),
+    /// A constructor's call: `new C(a, b)`.
+    New(Text),
+    /// A method of its first argument: `a.m(b)`.
+    Method(Text),
+    /// A field of its one argument: `a.k`; the flag says that a local name hides it.
+    Field(Text, bool),
+    /// A lambda as a value of the functional interface with this name.
+    Lambda(Text),
+}
+
+/// A declaration: what it wants, what it gives, and what a use of it weighs.
+#[derive(Debug, Drop)]
+pub struct Decl {
+    pub args: Items<Arg>,
+    pub result: u32,
+    pub weight: u32,
+    /// Whether a coercion at one of its places has to be written as a cast.
+    pub crowded: bool,
+    pub form: Form,
+}
+
+/// The parts of an environment, as they were given. Types and declarations are named by their places
+/// in the lists, from 0.
+#[derive(Debug, Drop)]
+pub struct Parts {
+    /// The texts of the types.
+    pub types: Items<Text>,
+    /// The strict subtype pairs: the first stands where the second is wanted.
+    pub pairs: Items<(u32, u32)>,
+    pub decls: Items<Decl>,
+    /// The type that is asked for.
+    pub goal: u32,
+    /// The greatest weight of a term.
+    pub limit: u32,
+    /// How deep lambdas may nest.
+    pub depth: u32,
+    /// What a lambda's variables are called, before their numbers.
+    pub binder: Text,
+}
