@@ -27,10 +27,11 @@ unfoldable pub first_below : {X : Type 0} → (ℕ → Option X) → ℕ → Opt
 first_below f zero = None
 first_below f (suc n) = or_then (first_below f n) (f n)
 
--- the limit is from 1 to 10,000, and the depth 0 or 1
+-- a fault, unless the limit is from 1 to 10,000
 abbrev pub limit_fault : Parts → Option EnvFault
 limit_fault g = unless (nat_lt 0 g.limit && nat_lt g.limit 10001) (Limit g.limit)
 
+-- a fault, unless the depth is 0 or 1
 abbrev pub depth_fault : Parts → Option EnvFault
 depth_fault g = unless (nat_lt g.depth 2) (Depth g.depth)
 
@@ -104,7 +105,7 @@ first_env_fault g =
 abbrev pub IsValid : Parts → Type 0
 IsValid g = first_env_fault g ≡ None
 
--- each list and text is shorter than 2^32, declarations are fewer than 2^31, and fewer than 2^32 with the pairs
+-- types and pairs are fewer than 2^32, declarations fewer than 2^31, and fewer than 2^32 with the pairs
 pub record HasLengths (g : Parts) : Type 0 where
   pub types : length g.types < 2 ^ 32
   pub pairs : length g.pairs < 2 ^ 32

@@ -12,3 +12,4 @@ pub mod Order
 pub mod Listing
 pub mod Faults
 pub mod Table
+pub mod Rating

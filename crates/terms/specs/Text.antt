@@ -96,7 +96,7 @@ has_cast p = is_some p.cast
 abbrev pub receiver_text : Printed → List ℕ
 receiver_text p = if has_cast p || p.lambda then bracketed (argument_text p) else p.text
 
--- whether a receiver is `this` without a cast, which a call or a field leaves out
+-- whether a receiver is `this` without a cast, which a method, and a field that isn't hidden, leave out
 abbrev pub is_bare_this : Printed → Bool
 is_bare_this p = p.this && not (has_cast p)
 

@@ -42,7 +42,7 @@ args_wanted None = []
 args_wanted (Some d) = d.args
 
 unfoldable mutual
-  -- the type of a term under these rows, or none
+  -- the type of a term under at most three rows, or none
   pub type_in : Parts → List (List ℕ) → Expr → Option ℕ
   type_in g ctx (var n) = slice_get (joined ctx) n
   type_in g ctx (head d xs) = result_if (slice_get g.decls d) (fits g ctx xs (args_wanted (slice_get g.decls d)))

@@ -9,7 +9,7 @@ use Rattle.terms.specs.declared.parts.Decl.{Decl}
 use Rattle.terms.specs.declared.parts.Parts.{Parts}
 use Rattle.terms.specs.declared.context.Ctx.{Ctx}
 
--- what the coercion from the one type to the other weighs: nothing where they are one
+-- what the coercion from the one type to the other weighs: nothing where they are one, or where there is no type
 abbrev pub step : Option ℕ → ℕ → ℕ
 step None b = 0
 step (Some a) b = if a == b then 0 else 10

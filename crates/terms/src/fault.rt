@@ -3,9 +3,9 @@ use std::alloc::AllocError;
 /// Why parts make no environment. Numbers are places in the lists, from 0.
 #[derive(Clone, Copy, Debug, PartialEq, Eq)]
 pub enum EnvFault {
-    /// A declaration names no type of the list; with the number of declarations, the goal does.
+    /// A declaration has a number that is no type's; with the number of declarations, the goal is such a number.
     TypeRange(u32),
-    /// A pair names no type of the list, or one type twice.
+    /// A side of a pair is no type's number, or both sides are one type.
     PairRange(u32),
     /// A pair that stood before.
     PairTwice(u32),

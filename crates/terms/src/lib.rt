@@ -4,11 +4,15 @@
 // `Levels` is what a search owes to everything above it. It stands on `lists` alone.
 #![tactic(auto)]
 
+mod above;
 mod context;
+mod declarations;
+mod depth;
 mod env;
 mod fault;
 mod levels;
 mod parts;
+mod rating;
 mod term;
 
 pub use context::Ctx;

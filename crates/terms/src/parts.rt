@@ -1,11 +1,12 @@
-use lists::{Items, Text};
+use lists::{Copies, Items, Text, copy_all};
+use std::alloc::{AllocError, Global};
 
 /// What a declaration wants at a place.
 #[derive(Debug, Drop)]
 pub enum Arg {
     /// A value of a type, by the type's number.
     Plain(u32),
-    /// A lambda with parameters of these types, in order, whose body has the last type.
+    /// A lambda with parameters of these types, in order, whose body fits the last type.
     Fun(Items<u32>, u32),
 }
 
@@ -50,10 +51,59 @@ pub struct Parts {
     pub decls: Items<Decl>,
     /// The type that is asked for.
     pub goal: u32,
-    /// The greatest weight of a term.
+    /// The greatest total: the weight of a term with its coercion to the goal.
     pub limit: u32,
     /// How deep lambdas may nest.
     pub depth: u32,
     /// What a lambda's variables are called, before their numbers.
     pub binder: Text,
+}
+
+impl Copies for Arg {
+    fn copy(&self, alloc: Global) -> Result<Arg, AllocError> {
+        match self {
+            Arg::Plain(wanted) => Ok(Arg::Plain(*wanted)),
+            Arg::Fun(params, result) => Ok(Arg::Fun(copy_all(alloc, params)?, *result)),
+        }
+    }
+}
+
+impl Copies for Form {
+    fn copy(&self, alloc: Global) -> Result<Form, AllocError> {
+        match self {
+            Form::Name(text) => Ok(Form::Name(text.copy(alloc)?)),
+            Form::This => Ok(Form::This),
+            Form::Call(text) => Ok(Form::Call(text.copy(alloc)?)),
+            Form::New(text) => Ok(Form::New(text.copy(alloc)?)),
+            Form::Method(text) => Ok(Form::Method(text.copy(alloc)?)),
+            Form::Field(text, hidden) => Ok(Form::Field(text.copy(alloc)?, *hidden)),
+            Form::Lambda(text) => Ok(Form::Lambda(text.copy(alloc)?)),
+        }
+    }
+}
+
+impl Copies for Decl {
+    fn copy(&self, alloc: Global) -> Result<Decl, AllocError> {
+        Ok(Decl {
+            args: copy_all(alloc, &self.args)?,
+            result: self.result,
+            weight: self.weight,
+            crowded: self.crowded,
+            form: self.form.copy(alloc)?,
+        })
+    }
+}
+
+impl Copies for Parts {
+    fn copy(&self, alloc: Global) -> Result<Parts, AllocError> {
+        Ok(Parts {
+            types: copy_all(alloc, &self.types)?,
+            pairs: Items::from_slice(alloc, self.pairs.as_slice())?,
+            decls: copy_all(alloc, &self.decls)?,
+            goal: self.goal,
+            limit: self.limit,
+            depth: self.depth,
+            binder: self.binder.copy(alloc)?,
+        })
+    }
 }

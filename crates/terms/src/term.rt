@@ -1,6 +1,9 @@
-use lists::Items;
+ghost use Rattle.std.specs.Prelude.{◌≡◌, IfOk};
 
-/// A term in long normal form. Its recursion is as deep as the term nests.
+use lists::{Copies, Items};
+use std::alloc::{AllocError, Global};
+
+/// A term in long normal form. Calls go as deep as the term nests.
 #[cycle(term)]
 #[derive(Debug, Drop)]
 pub enum Term {
@@ -18,4 +21,38 @@ pub enum TermArg {
     Plain(Term),
     /// The body of a lambda, whose binders the declaration gives.
     Lam(Term),
+}
+
+impl Term {
+    /// An equal term in memory of its own.
+    #[cycle(copy)]
+    pub fn copy(&self, alloc: Global) -> Result<Term, AllocError>
+        ensures equal { IfOk result (λ copy. copy ≡ self.now) }
+    {
+        match self {
+            Term::Var(number) => Ok(Term::Var(*number)),
+            Term::Head(decl, args) => Ok(Term::Head(*decl, copy_args(alloc, args)?)),
+        }
+    }
+}
+
+#[cycle(copy)]
+fn copy_args(alloc: Global, args: &Items<TermArg>) -> Result<Items<TermArg>, AllocError>
+    ensures equal { IfOk result (λ copies. copies ≡ args.now) }
+{
+    let mut copies = Items::new(alloc);
+    for arg in args.as_slice() {
+        let copied = match arg {
+            TermArg::Plain(term) => TermArg::Plain(term.copy(alloc)?),
+            TermArg::Lam(body) => TermArg::Lam(body.copy(alloc)?),
+        };
+        copies.push(copied)?;
+    }
+    Ok(copies)
+}
+
+impl Copies for Term {
+    fn copy(&self, alloc: Global) -> Result<Term, AllocError> {
+        Term::copy(self, alloc)
+    }
 }
