@@ -1,0 +1,7 @@
+pub mod Codec
+pub mod Entries
+pub mod Steps
+pub mod Heads
+pub mod IndexLaws
+pub mod FaultLaws
+mod UnitLaws

@@ -1,0 +1,6 @@
+pub mod Spelling
+pub mod Reading
+pub mod Index
+pub mod Faults
+pub mod Units
+pub mod Views

@@ -1,0 +1,5 @@
+mod NameLaws
+mod FieldLaws
+mod ParamLaws
+mod TextLaws
+mod MethodLaws
