@@ -4,4 +4,4 @@ pub mod Steps
 pub mod Heads
 pub mod IndexLaws
 pub mod FaultLaws
-mod UnitLaws
+pub mod UnitLaws

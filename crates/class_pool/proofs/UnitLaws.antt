@@ -246,10 +246,10 @@ units_again bytes (u ∷ us) h =
     let first : unit_at bytes ≡ Some (u, h.1) = ap unit_at h.2 ∙ unit_again h.0 u h.1 h.3 in
     one_unit bytes h.1 u first ∙ rw (units_again h.1 us h.4) refl
 
-text_again : (bytes text : List ℕ) → IsText bytes text → text_of bytes ≡ Some text
+pub text_again : (bytes text : List ℕ) → IsText bytes text → text_of bytes ≡ Some text
 text_again bytes text t = rw (units_again bytes t.units t.are, t.paired) (ap (λ (x : List ℕ). some x) (sym t.spelled))
 
-text_take : (bytes text : List ℕ) → text_of bytes ≡ Some text → IsText bytes text
+pub text_take : (bytes text : List ℕ) → text_of bytes ≡ Some text → IsText bytes text
 text_take bytes text e = go (units_in bytes) refl e
   where
     paired : (us : List ℕ) (b : Bool) → has_unpaired_surrogate us ≡ b → units_in bytes ≡ Some us → cond b None (some (encode_utf8_all (utf16_lossy_chars us))) ≡ Some text → IsText bytes text

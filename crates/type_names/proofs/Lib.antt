@@ -1,5 +1,5 @@
-mod NameLaws
-mod FieldLaws
-mod ParamLaws
-mod TextLaws
-mod MethodLaws
+pub mod NameLaws
+pub mod FieldLaws
+pub mod ParamLaws
+pub mod TextLaws
+pub mod MethodLaws

@@ -1,0 +1,5 @@
+mod Loops
+mod SeenCodec
+mod FileLaws
+mod MeaningLaws
+mod ShapeLaws

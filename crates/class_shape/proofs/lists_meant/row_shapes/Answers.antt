@@ -1,0 +1,13 @@
+use Rattle.std.proofs.Common.{rules, ◌≡◌, sym}
+use Rattle.class_shape.specs.Meaning.{row_shape}
+use Rattle.class_shape.proofs.Loops.{each_more, each_ends, each_done}
+use Rattle.class_shape.proofs.lists_meant.row_shapes.Goals as goal
+
+pub returns-in_err-shape : goal.returns-in_err-shape
+returns-in_err-shape c = search (rules, each_ends (row_shape c.args.pool.now.entries) c.loop-i.i _ c.loop-i.shapes c.args.rows.now c.in_err-shape.field-0.0 c.loop-i-test.true c.in_err-shape.ensures c.loop-i.invariant)
+
+pub loop-i-preserved : goal.loop-i-preserved
+loop-i-preserved c = rw c.in_ok-push.ensures.ok (each_more (row_shape c.args.pool.now.entries) c.loop-i.i _ c.loop-i.shapes c.args.rows.now _ c.loop-i-test.true c.in_ok-shape.ensures c.loop-i.invariant)
+
+pub returns : goal.returns
+returns c = each_done (row_shape c.args.pool.now.entries) c.loop-i.i c.loop-i.shapes c.args.rows.now c.loop-i-test.false c.loop-i.invariant

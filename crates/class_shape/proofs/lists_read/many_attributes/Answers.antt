@@ -1,0 +1,16 @@
+use Rattle.std.proofs.Common.{rules, arith, ◌≡◌, subst, sym}
+use Rattle.class_shape.specs.Reading.{attribute_at}
+use Rattle.class_shape.proofs.Loops.{one_more, one_ends, all_done}
+use Rattle.class_shape.proofs.lists_read.many_attributes.Goals as goal
+
+pub returns-in_err-one : goal.returns-in_err-one
+returns-in_err-one c =
+    search (rules, one_ends (attribute_at c.args.total) _ _ _ _ c.in_err-one.field-0.0 _ c.loop-test.true c.loop.invariant.so_far c.in_err-one.ensures.exact)
+
+pub loop-preserved : goal.loop-preserved
+loop-preserved c =
+    let s = one_more (attribute_at c.args.total) _ _ _ _ _ _ _ c.loop-test.true c.loop.invariant.so_far c.in_ok-one.ensures.exact in
+    record { within = omega (arith, c.in_ok-one.ensures.shorter, c.loop.invariant.within); so_far = rw c.in_ok-push.ensures.items s }
+
+pub returns-clause-exact : goal.returns-clause-exact
+returns-clause-exact c = all_done (attribute_at c.args.total) _ _ _ _ _ c.loop-test.false c.loop.invariant.so_far

@@ -1,0 +1,6 @@
+pub mod Parts
+pub mod Shapes
+pub mod Reading
+pub mod Meaning
+pub mod Violations
+pub mod Views

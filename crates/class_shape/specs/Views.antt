@@ -1,0 +1,10 @@
+-- How the definitions see the reader's own structures.
+use Rattle.class_shape.specs.declared.lists_read.Lists.{Lists}
+use Rattle.class_shape.specs.declared.lists_read.Body.{Body}
+use Rattle.class_shape.specs.Reading.{ListsSeen, BodySeen}
+
+abbrev pub lists_view : Lists → ListsSeen
+lists_view l = record { interfaces = l.interfaces.items; fields = l.fields.items; methods = l.methods.items; attributes = l.attributes.items }
+
+abbrev pub body_view : Body → BodySeen
+body_view b = record { own = b.own; lists = lists_view b.lists }

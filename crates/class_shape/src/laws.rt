@@ -1,0 +1,15 @@
+ghost use Rattle.std.specs.Prelude.{◌≡◌, ◌↔◌, List, ℕ, None};
+ghost use Rattle.class_pool.specs.Reading.{IsBytes};
+ghost use Rattle.class_shape.specs.declared.shapes.ClassShape.{ClassShape};
+ghost use Rattle.class_shape.specs.Shapes.{IsClassFile};
+ghost use Rattle.class_shape.specs.Violations.{first_violation};
+
+/// No two shapes fit the same bytes.
+pub fn one_shape()
+    ensures one { (bytes : List ℕ) (shape other : ClassShape) → IsClassFile bytes shape → IsClassFile bytes other → shape ≡ other }
+{}
+
+/// Some shape fits bytes exactly where they have no violation.
+pub fn fits_or_faults()
+    ensures exactly { (bytes : List ℕ) → IsBytes bytes → (first_violation bytes ≡ None) ↔ ((shape : ClassShape) × IsClassFile bytes shape) }
+{}

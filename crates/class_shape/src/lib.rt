@@ -1,0 +1,21 @@
+// The shape of a class file (JVMS chapter 4): its version, names, members and `InnerClasses`. The main
+// definition is the relation `IsClassFile bytes shape`, which splits the whole string into the spellings of
+// its parts; `read_class` answers the one shape, or the first violation. It stands on `class_pool` and
+// `type_names`.
+#![tactic(auto)]
+
+mod laws;
+mod lists_meant;
+mod lists_read;
+mod meaning;
+mod parts;
+mod reader;
+mod shapes;
+mod texts;
+
+pub use laws::{fits_or_faults, one_shape};
+pub use reader::read_class;
+pub use shapes::{ClassShape, InnerRow, MemberKind, MemberShape};
+
+#[cfg(test)]
+mod tests;
