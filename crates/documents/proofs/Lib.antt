@@ -1,0 +1,3 @@
+mod Edits
+mod Rests
+mod LineStarts

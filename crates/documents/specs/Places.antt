@@ -1,0 +1,77 @@
+-- Places in a text by lines and UTF-16 units (LSP 3.17, "Position"), on its characters.
+use Rattle.std.specs.Prelude.{◌≡◌, ℕ, zero, suc, ◌+◌, ◌-◌, ◌≤◌, ◌<◌, Bool, false, List, [], ◌∷◌, if◌then◌else◌, nat_lt, ◌==◌, ◌&&◌, ◌||◌, not, length, drop, get_or, Option, Some, None}
+use Rattle.std.specs.Char.{len_utf8}
+use Rattle.std.specs.Str.{chars, IsCharBoundary}
+
+-- CR or LF.
+unfoldable pub is_newline : ℕ → Bool
+is_newline c = c == 13 || c == 10
+
+-- How many UTF-16 units a character takes.
+unfoldable pub units : ℕ → ℕ
+units c = if nat_lt c 0x1_0000 then 1 else 2
+
+-- Whether the text begins with LF.
+abbrev pub starts_with_lf : List ℕ → Bool
+starts_with_lf [] = false
+starts_with_lf (c ∷ cs) = c == 10
+
+-- Whether a line ends with c, which the others follow: at LF, or at a CR that no LF follows.
+unfoldable pub ends_line : ℕ → List ℕ → Bool
+ends_line c cs = c == 10 || (c == 13 && not (starts_with_lf cs))
+
+-- How many bytes these characters take in UTF-8.
+unfoldable pub byte_len : List ℕ → ℕ
+byte_len [] = 0
+byte_len (c ∷ cs) = len_utf8 c + byte_len cs
+
+-- The text from the start of a line on, or none where it has no such line. Line 0 is always there.
+unfoldable pub from_line : ℕ → List ℕ → Option (List ℕ)
+from_line zero cs = Some cs
+from_line (suc l) [] = None
+from_line (suc l) (c ∷ cs) = if ends_line c cs then from_line l cs else from_line (suc l) cs
+
+-- The text from a UTF-16 unit of its first line on: from the line's end where the line is shorter, and from
+-- the start of a character where the unit is inside it.
+unfoldable pub from_unit : ℕ → List ℕ → List ℕ
+from_unit u [] = []
+from_unit u (c ∷ cs) = if is_newline c then c ∷ cs else if nat_lt u (units c) then c ∷ cs else from_unit (u - units c) cs
+
+-- How many of n bytes stand before that unit of the line that begins the rest.
+abbrev pub place : ℕ → ℕ → Option (List ℕ) → Option ℕ
+place n u None = None
+place n u (Some cs) = Some (n - byte_len (from_unit u cs))
+
+-- How many bytes of the text stand before a position, or none where it has no such line.
+abbrev pub offset_of : List ℕ → ℕ → ℕ → Option ℕ
+offset_of cs l u = place (byte_len cs) u (from_line l cs)
+
+-- The line and unit n bytes further on, where the text begins at a unit of a line.
+unfoldable pub position_from : ℕ → ℕ → ℕ → List ℕ → ℕ × ℕ
+position_from l u n [] = (l, u)
+position_from l u n (c ∷ cs) =
+    if n == 0 then (l, u)
+    else if ends_line c cs then position_from (l + 1) 0 (n - len_utf8 c) cs
+    else position_from l (u + units c) (n - len_utf8 c) cs
+
+-- The line and unit that n bytes stand before.
+abbrev pub position_of : List ℕ → ℕ → ℕ × ℕ
+position_of cs n = position_from 0 0 n cs
+
+-- The second text is what follows some place of the first.
+pub record IsRest (text rest : List ℕ) : Type 0 where
+  pub le : length rest ≤ length text
+  pub is : rest ≡ drop (length text - length rest) text
+
+-- The line begins at this byte of the text.
+pub record IsStart (text : List ℕ) (line at : ℕ) : Type 0 where
+  pub boundary : IsCharBoundary text at
+  pub is : from_line line (chars text) ≡ Some (chars (drop at text))
+
+-- These are where the first lines of the text begin, as many as there are entries.
+abbrev pub AreStarts : List ℕ → List ℕ → Type 0
+AreStarts text starts = (l : ℕ) → l < length starts → IsStart text l (get_or starts l 0)
+
+-- Each line before this one begins before the offset.
+unfoldable pub IsAfterLines : List ℕ → ℕ → ℕ → Type 0
+IsAfterLines text line offset = (l a : ℕ) → l < line → IsStart text l a → a < offset

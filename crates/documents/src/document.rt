@@ -1,0 +1,179 @@
+ghost use Rattle.std.specs.Prelude.{◌≡◌, ◌≤◌, ◌<◌, ◌+◌, ℕ, length, drop, take, ◌++◌, ◌∷◌, [], None, Some, IfSome, MatchOption, MatchResult, string_bytes};
+ghost use Rattle.std.specs.Str.{chars, IsCharBoundary};
+ghost use Rattle.documents.specs.Places.{offset_of, position_of, from_line, IsAfterLines, IsRest};
+ghost use Rattle.documents.specs.Edits.{edit_between, within, edited, document_after, Refuses};
+
+use crate::change::{EditFault, TextChange};
+use crate::starts::{learn, nearest, nearest_before};
+use crate::text::{from_line, from_unit, position_from};
+use std::alloc::Global;
+use std::marker::Model;
+
+const LONGEST: u64 = 16_777_216;
+
+/// The text of an open document, which changes are applied to. Contracts see its bytes in UTF-8.
+/// It keeps where lines begin, as far as changes have had to look for them, and forgets what a change
+/// puts in question. So a change costs the way from the nearest known line, and the move of the bytes
+/// after it.
+#[derive(Drop)]
+pub struct Document {
+    text: String,
+    starts: Vec<u32>,
+}
+
+impl Model for Document {
+    ghost use Rattle.std.specs.Prelude.{List, ℕ, ◌≤◌, length, string_bytes};
+    ghost use Rattle.documents.specs.Places.{AreStarts};
+
+    ghost Value = { List ℕ };
+
+    ghost view = { λ d. string_bytes d.text };
+
+    ghost invariant = { λ d. (length (string_bytes d.text) ≤ 16777216) × AreStarts (string_bytes d.text) d.starts.items };
+}
+
+impl Document {
+    /// A document with this text, of at most 16 MiB. It takes no memory of its own.
+    pub fn from_text(alloc: Global, text: String) -> Document
+        requires at_most_16_mib { length (string_bytes text) ≤ 16777216 }
+        ensures { result ≡ string_bytes text }
+    {
+        Document {
+            text,
+            starts: Vec::new(alloc),
+        }
+    }
+
+    /// The whole text.
+    pub fn text(&self) -> &str
+        ensures value { result.now ≡ self.now }
+        ensures at_most_16_mib { length self.now ≤ 16777216 }
+    {
+        self.text.as_str()
+    }
+
+    /// The text from a line on.
+    #[tactic(auto, using(crate::proofs::LineStarts::places))]
+    fn line(&self, line: u32) -> Option<&str>
+        ensures value { MatchOption result (from_line line (chars self.now) ≡ None) (λ r. from_line line (chars self.now) ≡ Some (chars r.now)) }
+        ensures rest { IfSome result (λ r. IsRest self.now r.now) }
+    {
+        let (known, rest) = nearest(self.text(), self.starts.as_slice(), line);
+        from_line(rest, line - known)
+    }
+
+    /// The offset of a position; every line before its own begins before it.
+    #[tactic(auto, using(crate::proofs::Edits::edits))]
+    fn place(&self, line: u32, unit: u32) -> Option<u32>
+        ensures value { result ≡ offset_of (chars self.now) line unit }
+        ensures boundary { IfSome result (λ n. IsCharBoundary self.now n) }
+        ensures lines { IfSome result (λ n. IsAfterLines self.now line n) }
+    {
+        match self.line(line) {
+            Some(start) => {
+                let rest = from_unit(start, unit);
+                Some((self.text().len() - rest.len()) as u32)
+            }
+            None => None,
+        }
+    }
+
+    /// How many bytes stand before a UTF-16 unit of a line, both counted from 0; None where the document
+    /// has no such line. A unit past the line's end means its end, one inside a character its start.
+    pub fn offset(&self, line: u32, unit: u32) -> Option<u32>
+        ensures value { result ≡ offset_of (chars self.now) line unit }
+        ensures boundary { IfSome result (λ n. IsCharBoundary self.now n) }
+    {
+        self.place(line, unit)
+    }
+
+    /// The line and UTF-16 unit that the first `offset` bytes stand before, both counted from 0.
+    #[tactic(auto, using(crate::proofs::LineStarts::places))]
+    pub fn position(&self, offset: u32) -> (u32, u32)
+        requires boundary { IsCharBoundary self.now offset }
+        ensures { result ≡ position_of (chars self.now) offset }
+    {
+        let (line, rest) = nearest_before(self.text(), self.starts.as_slice(), offset);
+        let before = self.text().len() - rest.len();
+        position_from(rest, line, offset as usize - before)
+    }
+
+    /// Puts a text in place of the bytes of a range that begins in line `line`.
+    #[tactic(auto, unfolding(crate::specs::Edits::within), using(crate::proofs::Edits::edits))]
+    fn replace(&mut self, line: u32, from: u32, to: u32, new: &str) -> Result<(), EditFault>
+        requires range { from ≤ to }
+        requires from { IsCharBoundary self.old from }
+        requires to { IsCharBoundary self.old to }
+        requires lines { IsAfterLines self.old line from }
+        ensures { MatchResult result
+            (λ _. within ((take from self.old ++ new.now) ++ drop to self.old) ≡ edited self.new)
+            (λ e. Refuses (within ((take from self.old ++ new.now) ++ drop to self.old)) e × (self.new ≡ self.old)) }
+    {
+        let kept = self.text.len() - (to - from) as usize;
+        let len = kept as u64 + new.len() as u64;
+        if len > LONGEST {
+            return Err(EditFault::TooLong(len));
+        }
+        self.text.replace_range(from as usize..to as usize, new)?;
+        self.starts.truncate(line as usize);
+        Ok(())
+    }
+
+    /// Puts a text in place of the whole text.
+    #[tactic(auto, using(crate::proofs::Edits::edits))]
+    fn replace_all(&mut self, new: &str) -> Result<(), EditFault>
+        ensures { MatchResult result
+            (λ _. within new.now ≡ edited self.new)
+            (λ e. Refuses (within new.now) e × (self.new ≡ self.old)) }
+    {
+        let len = self.text().len() as u32;
+        self.replace(0, 0, len, new)
+    }
+
+    /// Puts a text in place of the text between two positions.
+    #[tactic(auto, using(crate::proofs::Edits::edits))]
+    fn replace_range(
+        &mut self,
+        start: (u32, u32),
+        end: (u32, u32),
+        new: &str,
+    ) -> Result<(), EditFault>
+        ensures { MatchResult result
+            (λ _. edit_between self.old new.now (offset_of (chars self.old) start.0 start.1) (offset_of (chars self.old) end.0 end.1) ≡ edited self.new)
+            (λ e. Refuses (edit_between self.old new.now (offset_of (chars self.old) start.0 start.1) (offset_of (chars self.old) end.0 end.1)) e × (self.new ≡ self.old)) }
+    {
+        let Some(from) = self.place(start.0, start.1) else {
+            return Err(EditFault::Range);
+        };
+        let Some(to) = self.place(end.0, end.1) else {
+            return Err(EditFault::Range);
+        };
+        if to < from {
+            return Err(EditFault::Range);
+        }
+        self.replace(start.0, from, to, new)
+    }
+
+    /// Finds where further lines begin, up to this one.
+    fn learn(&mut self, line: u32)
+        ensures { self.new ≡ self.old }
+    {
+        learn(self.text.as_str(), &mut self.starts, line);
+    }
+
+    /// Makes a change, or none where it is refused.
+    #[tactic(auto, using(crate::proofs::Edits::edits))]
+    pub fn apply(&mut self, change: &TextChange) -> Result<(), EditFault>
+        ensures { MatchResult result
+            (λ _. document_after (edited self.old) (change.now ∷ []) ≡ edited self.new)
+            (λ e. Refuses (document_after (edited self.old) (change.now ∷ [])) e × (self.new ≡ self.old)) }
+    {
+        match change.range {
+            Some((start, end)) => {
+                self.learn(start.0.max(end.0));
+                self.replace_range(start, end, change.text.as_str())
+            }
+            None => self.replace_all(change.text.as_str()),
+        }
+    }
+}
