@@ -31,7 +31,7 @@ abbrev pub then_change : Edit → TextChange → Edit
 then_change (edited bytes) change = edit_of bytes change.text change.range
 then_change (refused fault) change = refused fault
 
--- The text after these changes in order, or the fault of the first that is refused.
+-- The text after these changes in order, or the fault of the first that is refused; the changes after it make no text.
 unfoldable pub document_after : Edit → List TextChange → Edit
 document_after before [] = before
 document_after before (change ∷ changes) = document_after (then_change before change) changes

@@ -54,7 +54,7 @@ position_from l u n (c ∷ cs) =
     else if ends_line c cs then position_from (l + 1) 0 (n - len_utf8 c) cs
     else position_from l (u + units c) (n - len_utf8 c) cs
 
--- The line and unit that n bytes stand before.
+-- The line and unit that n bytes stand before. Between the CR and the LF of one line end it is a unit past the line's end.
 abbrev pub position_of : List ℕ → ℕ → ℕ × ℕ
 position_of cs n = position_from 0 0 n cs
 

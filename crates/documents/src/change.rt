@@ -7,7 +7,7 @@ use std::alloc::AllocError;
 /// Why a change is refused. The document is then as before.
 #[derive(Clone, Copy, Debug, PartialEq, Eq)]
 pub enum EditFault {
-    /// A line of the range isn't in the document, or the range ends before it starts.
+    /// A line of the range isn't in the document, or its end has a lesser offset than its start.
     Range,
     /// The new text would have this many bytes, more than 16 MiB.
     TooLong(u64),
