@@ -15,7 +15,7 @@ first_below-none f zero h = refl
 first_below-none f (suc n) h = rw (first_below-none f n (λ k low. h k (omega (arith, low))), h n (omega arith)) refl
 
 -- where there is none below, each is none
-first_below-each : {X : Type 0} (f : ℕ → Option X) (n : ℕ) → first_below f n ≡ None → (k : ℕ) → k < n → f k ≡ None
+pub first_below-each : {X : Type 0} (f : ℕ → Option X) (n : ℕ) → first_below f n ≡ None → (k : ℕ) → k < n → f k ≡ None
 unfolding first_below
 first_below-each f zero none k low = absurd (omega (arith, low))
 first_below-each f (suc n) none k low =

@@ -1,13 +1,16 @@
 -- What follows from there being no fault.
-use Rattle.std.proofs.Common.{◌≡◌, ◌≢◌, ℕ, ◌<◌, ◌≤◌, true, ◌&&◌, nat_lt, List, [], length, Option, Some, None, refl, sym, ◌∙◌, arith}
-use Rattle.std.proofs.lemmas.Bool.{ltb-true, and_parts}
-use Rattle.terms.specs.Typing.{is_pair}
-use Rattle.terms.specs.Faults.{or_then, limit_fault, depth_fault, pairs_fault, order_fault, decls_fault, goal_fault, first_env_fault, IsValid}
+use Rattle.std.proofs.Common.{◌≡◌, ◌≢◌, inl, inr, ℕ, zero, suc, ◌+◌, ◌<◌, ◌≤◌, Bool, true, false, not, ◌||◌, ◌&&◌, ◌==◌, nat_lt, List, [], ◌∷◌, length, slice_get, Option, Some, None, refl, sym, subst, ◌∙◌, arith}
+use Rattle.std.specs.List.{list_all}
+use Rattle.std.proofs.lemmas.Bool.{ltb-true, and_parts, eq-eqb, eqb-true, or_cases, both_ways}
+use Rattle.terms.specs.Typing.{is_pair, is_below}
+use Rattle.terms.specs.Faults.{or_then, unless, first_below, limit_fault, depth_fault, pairs_fault, order_fault, decl_fault, decls_fault, goal_fault, first_env_fault, is_arg_known, is_well_formed, is_gap, IsValid}
 use Rattle.terms.specs.declared.fault.EnvFault.{EnvFault}
-use Rattle.terms.specs.declared.fault.EnvFault.TheVariants.{TypeRange, Limit, Depth}
+use Rattle.terms.specs.declared.fault.EnvFault.TheVariants.{TypeRange, Weight, Limit, NotTransitive, Depth}
+use Rattle.terms.specs.declared.fault.EnvFault.TheVariants as fault
 use Rattle.terms.specs.declared.parts.Decl.{Decl}
 use Rattle.terms.specs.declared.parts.Parts.{Parts}
 use Rattle.terms.proofs.Pairs.{or_then-none, unless-none, pairs-known}
+use Rattle.terms.proofs.Gaps.{first_below-each}
 
 -- the six tests, one by one
 record Passes (g : Parts) : Type 0 where
@@ -71,3 +74,82 @@ first-later g o bounds sound is = first-split g ∙ rw (bounds, sound) (sym is)
 -- the fault of the declarations, over what the code calls them
 pub of-decls : (g : Parts) (n : ℕ) (ds : List Decl) (o : Option EnvFault) → n ≡ length g.types → ds ≡ g.decls → o ≡ decls_fault n 0 ds → o ≡ decls_fault (length g.types) 0 g.decls
 of-decls g n ds o len same is = is ∙ rw (len, same) refl
+
+-- the pairs of an environment are transitive
+pub valid-transitive : (g : Parts) → IsValid g → (a b c : ℕ) → is_pair g.pairs a b ≡ true → is_pair g.pairs b c ≡ true → is_pair g.pairs a c ≡ true
+unfolding order_fault
+valid-transitive g valid a b c ab bc =
+    let n = length g.types in
+    let first = valid-pair g valid a b ab in
+    let last = valid-pair g valid b c bc in
+    let at_a = first_below-each (λ x. first_below (λ y. first_below (λ z. unless (not (is_gap g.pairs x y z)) (NotTransitive x y z)) n) n) n (passes g valid).order a first.0 in
+    let at_b = first_below-each (λ y. first_below (λ z. unless (not (is_gap g.pairs a y z)) (NotTransitive a y z)) n) n at_a b first.1 in
+    let at_c = first_below-each (λ z. unless (not (is_gap g.pairs a b z)) (NotTransitive a b z)) n at_b c last.1 in
+    no-gap (is_pair g.pairs a b) (is_pair g.pairs b c) (is_pair g.pairs a c) ab bc (unless-none (not (is_gap g.pairs a b c)) (NotTransitive a b c) at_c)
+  where
+    no-gap : (x y z : Bool) → x ≡ true → y ≡ true → not ((x && y) && not z) ≡ true → z ≡ true
+    no-gap true true true ex ey h = refl
+    no-gap true true false ex ey h = absurd (both_ways true (sym h) refl)
+    no-gap false y z ex ey h = absurd (both_ways true (sym ex) refl)
+    no-gap true false z ex ey h = absurd (both_ways true (sym ey) refl)
+
+-- so is being at or below
+pub below-transitive : (g : Parts) → IsValid g → (a b c : ℕ) → is_below g a b ≡ true → is_below g b c ≡ true → is_below g a c ≡ true
+unfolding is_below
+below-transitive g valid a b c ab bc = elim (or_cases (a == b) (is_pair g.pairs a b) ab) [
+  | inl same ↦ subst (λ x. (x == c) || is_pair g.pairs x c ≡ true) (sym (eqb-true a b same)) bc
+  | inr first ↦ (elim (or_cases (b == c) (is_pair g.pairs b c) bc) [
+    | inl same ↦ rw (subst (λ x. is_pair g.pairs a x ≡ true) (eqb-true b c same) first) (or_true (a == c))
+    | inr next ↦ rw (valid-transitive g valid a b c first next) (or_true (a == c))
+  ])
+]
+  where
+    or_true : (x : Bool) → x || true ≡ true
+    or_true true = refl
+    or_true false = refl
+
+-- a type is at or below itself
+pub below-itself : (g : Parts) (a : ℕ) → is_below g a a ≡ true
+unfolding is_below
+below-itself g a = rw (eq-eqb a a refl) refl
+
+-- what is known of each declaration
+pub record IsSound (g : Parts) (d : Decl) : Type 0 where
+  pub args : list_all (is_arg_known (length g.types)) d.args ≡ true
+  pub result : d.result < length g.types
+  pub heavy : 5 ≤ d.weight
+  pub light : d.weight ≤ 10000
+  pub formed : is_well_formed d.form d.args ≡ true
+
+sound : (g : Parts) (n : ℕ) (d : Decl) → decl_fault (length g.types) n d ≡ None → IsSound g d
+unfolding decl_fault
+sound g n d none =
+    let types = length g.types in
+    let a = or_then-none (unless (list_all (is_arg_known types) d.args && nat_lt d.result types) (TypeRange n)) _ none in
+    let b = or_then-none (unless (nat_lt 4 d.weight && nat_lt d.weight 10001) (Weight n)) (unless (is_well_formed d.form d.args) (fault.Form n)) a.1 in
+    let known = and_parts (list_all (is_arg_known types) d.args) (nat_lt d.result types) (unless-none (list_all (is_arg_known types) d.args && nat_lt d.result types) (TypeRange n) a.0) in
+    let weight = and_parts (nat_lt 4 d.weight) (nat_lt d.weight 10001) (unless-none (nat_lt 4 d.weight && nat_lt d.weight 10001) (Weight n) b.0) in
+    record {
+      args = known.0;
+      result = ltb-true d.result types known.1;
+      heavy = omega (arith, ltb-true 4 d.weight weight.0);
+      light = omega (arith, ltb-true d.weight 10001 weight.1);
+      formed = unless-none (is_well_formed d.form d.args) (fault.Form n) b.1;
+    }
+
+sound-from : (g : Parts) (n : ℕ) (ds : List Decl) → decls_fault (length g.types) n ds ≡ None → (k : ℕ) (d : Decl) → slice_get ds k ≡ Some d → IsSound g d
+unfolding decls_fault
+sound-from g n [] none k d is = cc
+sound-from g n (c ∷ ds) none zero d is =
+    let parts = or_then-none (decl_fault (length g.types) n c) (decls_fault (length g.types) (n + 1) ds) none in
+    let same : c ≡ d = cc in
+    subst (λ x. IsSound g x) same (sound g n c parts.0)
+sound-from g n (c ∷ ds) none (suc k) d is =
+    sound-from g (n + 1) ds (or_then-none (decl_fault (length g.types) n c) (decls_fault (length g.types) (n + 1) ds) none).1 k d is
+
+-- each declaration of an environment is sound; so each weighs more than 0
+pub valid-decl : (g : Parts) → IsValid g → (k : ℕ) (d : Decl) → slice_get g.decls k ≡ Some d → IsSound g d
+valid-decl g valid k d is = sound-from g 0 g.decls (passes g valid).decls k d is
+
+pub valid-heavy : (g : Parts) → IsValid g → (k : ℕ) (d : Decl) → slice_get g.decls k ≡ Some d → 0 < d.weight
+valid-heavy g valid k d is = omega (arith, (valid-decl g valid k d is).heavy)

@@ -29,3 +29,8 @@ count p (x ∷ xs) = once_if (p x) + count p xs
 -- the term stands in the list
 abbrev pub Stands : Expr → List Expr → Type 0
 Stands e es = 1 ≤ count (expr_eq e) es
+
+-- a number summed over a list
+abbrev pub total : {X : Type 0} → (X → ℕ) → List X → ℕ
+total f [] = 0
+total f (x ∷ xs) = f x + total f xs

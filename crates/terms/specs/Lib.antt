@@ -13,3 +13,4 @@ pub mod Listing
 pub mod Faults
 pub mod Table
 pub mod Rating
+pub mod Apart

@@ -10,6 +10,7 @@ mod declarations;
 mod depth;
 mod env;
 mod fault;
+mod laws;
 mod levels;
 mod parts;
 mod rating;
@@ -18,6 +19,10 @@ mod term;
 pub use context::Ctx;
 pub use env::Env;
 pub use fault::EnvFault;
+pub use laws::{list_laws, pair_laws};
 pub use levels::{Level, Levels};
 pub use parts::{Arg, Decl, Form, Parts};
 pub use term::{Term, TermArg};
+
+#[cfg(test)]
+mod tests;

@@ -1,3 +1,6 @@
+ghost use Rattle.std.specs.Prelude.{IsTrue};
+ghost use Rattle.terms.specs.Faults.{HasLengths};
+
 use lists::{Copies, Items, Text, copy_all};
 use std::alloc::{AllocError, Global};
 
@@ -57,6 +60,29 @@ pub struct Parts {
     pub depth: u32,
     /// What a lambda's variables are called, before their numbers.
     pub binder: Text,
+}
+
+impl Parts {
+    /// Whether the lists are short enough for an environment: types and pairs fewer than 2^32, declarations
+    /// fewer than 2^31, and declarations and pairs together fewer than 2^32.
+    pub fn has_lengths(&self) -> bool
+        ensures yes { IsTrue result → HasLengths self.now }
+        ensures no { HasLengths self.now → IsTrue result }
+    {
+        let types = self.types.as_slice().len();
+        let pairs = self.pairs.as_slice().len();
+        let decls = self.decls.as_slice().len();
+        if types >= 4_294_967_296 {
+            return false;
+        }
+        if pairs >= 4_294_967_296 {
+            return false;
+        }
+        if decls >= 2_147_483_648 {
+            return false;
+        }
+        decls + pairs < 4_294_967_296
+    }
 }
 
 impl Copies for Arg {
