@@ -1,0 +1,67 @@
+-- The lists that the generator makes of what its tables hold, in its order.
+use Rattle.std.specs.Prelude.{ℕ, ◌+◌, ◌-◌, ◌==◌, ◌&&◌, nat_le, cond, List, [], ◌∷◌, ◌++◌, length, map, slice_get, Option, None, Some}
+use Rattle.std.specs.List.{range_with_len, flat_map}
+use Rattle.terms.specs.Expr.{Expr, var, head, Args, no_args, plain, lam}
+use Rattle.terms.specs.Typing.{is_below}
+use Rattle.terms.specs.Weights.{step}
+use Rattle.terms.specs.declared.parts.Arg.{Arg}
+use Rattle.terms.specs.declared.parts.Arg.TheVariants.{Plain, Fun}
+use Rattle.terms.specs.declared.parts.Decl.{Decl}
+use Rattle.terms.specs.declared.parts.Parts.{Parts}
+
+-- the terms of a weight for a wanted type, in one context
+abbrev pub Table : Type 0
+Table = ℕ → ℕ → List Expr
+
+-- the tables under one lambda more, by its parameters
+abbrev pub Inner : Type 0
+Inner = List ℕ → Table
+
+-- a lambda's body with n binders above it weighs n more
+abbrev pub bound : (ℕ → List Expr) → ℕ → ℕ → List Expr
+bound bodies n k = cond (nat_le n k) (bodies (k - n)) []
+
+-- the terms that may stand at an argument and weigh k there
+abbrev pub candidates : Table → Inner → Arg → ℕ → List Expr
+candidates here under (Plain b) k = here k b
+candidates here under (Fun ps r) k = bound (λ j. under ps j r) (length ps) k
+
+-- a term as the first argument
+abbrev pub placed : Arg → Expr → Args → Args
+placed (Plain b) e rest = plain e rest
+placed (Fun ps r) e rest = lam e rest
+
+-- each of the terms before each of the lists
+abbrev pub firsts : Arg → List Expr → List Args → List Args
+firsts a es more = flat_map (λ e. map (placed a e) more) es
+
+-- all arguments for these places that weigh exactly w together
+unfoldable pub fills : Table → Inner → List Arg → ℕ → List Args
+fills here under [] w = cond (w == 0) (no_args ∷ []) []
+fills here under (a ∷ more) w = flat_map (λ k. firsts a (candidates here under a k) (fills here under more (w - k))) (range_with_len 0 (w + 1))
+
+-- what a declaration costs at a place for b, its arguments left out
+abbrev pub cost : Decl → ℕ → ℕ
+cost d b = d.weight + step (Some d.result) b
+
+-- the terms with this declaration at the head
+abbrev pub headed : Parts → Table → Inner → ℕ → ℕ → ℕ → Option Decl → List Expr
+headed g here under w b n None = []
+headed g here under w b n (Some d) = cond (is_below g d.result b && nat_le (cost d b) w) (map (head n) (fills here under d.args (w - cost d b))) []
+
+-- variable n, where its type stands for b and it weighs just w there
+abbrev pub variable : Parts → ℕ → ℕ → ℕ → Option ℕ → List Expr
+variable g w b n None = []
+variable g w b n (Some a) = cond (is_below g a b && (1 + step (Some a) b == w)) (var n ∷ []) []
+
+-- the variables that stand for b and weigh w there
+abbrev pub variables : Parts → List ℕ → ℕ → ℕ → List Expr
+variables g vs w b = flat_map (λ n. variable g w b n (slice_get vs n)) (range_with_len 0 (length vs))
+
+-- the other terms
+abbrev pub heads : Parts → Table → Inner → ℕ → ℕ → List Expr
+heads g here under w b = flat_map (λ n. headed g here under w b n (slice_get g.decls n)) (range_with_len 0 (length g.decls))
+
+-- all terms for b that weigh exactly w, where vs are the types of the variables
+abbrev pub made : Parts → List ℕ → Table → Inner → ℕ → ℕ → List Expr
+made g vs here under w b = variables g vs w b ++ heads g here under w b

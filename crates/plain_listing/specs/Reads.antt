@@ -1,0 +1,13 @@
+-- The tables that a step of the generator reads.
+use Rattle.std.specs.Prelude.{◌≡◌}
+use Rattle.plain_listing.specs.Generate.{Table, Inner}
+use Rattle.plain_listing.specs.Tables.{at, under}
+use Rattle.plain_listing.specs.declared.site.Site.{Site}
+
+-- the table of its context
+abbrev pub here : Site → Table
+here s = at s.rows.now s.number
+
+-- the tables under one lambda more
+abbrev pub deeper : Site → Inner
+deeper s = under s.contexts.now s.rows.now

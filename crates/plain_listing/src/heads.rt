@@ -1,0 +1,157 @@
+ghost use Rattle.std.specs.Prelude.{◌≡◌, ◌++◌, ◌<◌, ◌^◌, Some, length, map, slice_get, IfOk, OnOk};
+ghost use Rattle.terms.specs.View.{expr};
+ghost use Rattle.terms.specs.Weights.{step};
+ghost use Rattle.plain_listing.specs.Generate.{cost, headed, heads, variable, variables, made};
+ghost use Rattle.plain_listing.specs.Reads.{here, deeper};
+
+use crate::fills::fills;
+use crate::site::Site;
+use lists::{Items, at};
+use std::alloc::{AllocError, Global};
+use terms::{Decl, Term};
+
+/// What the coercion from the one type to the other weighs.
+fn step(from: u32, to: u32) -> usize
+    ensures { result ≡ step (Some from) to }
+{
+    if from == to { 0 } else { 10 }
+}
+
+/// Adds the variable, where its type stands for the wanted one and it weighs just `weight` there.
+fn push_typed(
+    all: &mut Items<Term>,
+    site: &Site<'_>,
+    weight: usize,
+    wanted: u32,
+    n: u32,
+    of: u32,
+) -> Result<(), AllocError>
+    ensures { OnOk result (map expr all.new ≡ map expr all.old ++ variable site.now.env.now weight wanted n (Some of)) }
+{
+    if !site.env.is_below(of, wanted) {
+        return Ok(());
+    }
+    if 1 + step(of, wanted) != weight {
+        return Ok(());
+    }
+    all.push(Term::Var(n))?;
+    Ok(())
+}
+
+/// Adds variable `n`, where there is one that fits.
+fn push_variable(
+    all: &mut Items<Term>,
+    site: &Site<'_>,
+    weight: usize,
+    wanted: u32,
+    n: u32,
+) -> Result<(), AllocError>
+    ensures { OnOk result (map expr all.new ≡ map expr all.old ++ variable site.now.env.now weight wanted n (slice_get site.now.variables.now n)) }
+{
+    match at(site.variables, n as usize) {
+        Some(of) => push_typed(all, site, weight, wanted, n, *of),
+        None => Ok(()),
+    }
+}
+
+/// Adds the variables that stand for the wanted type and weigh `weight` there.
+#[tactic(auto, using(crate::proofs::Making::making))]
+fn push_variables(
+    all: &mut Items<Term>,
+    site: &Site<'_>,
+    weight: usize,
+    wanted: u32,
+) -> Result<(), AllocError>
+    requires { length site.now.variables.now < 2 ^ 32 }
+    ensures { OnOk result (map expr all.new ≡ map expr all.old ++ variables site.now.env.now site.now.variables.now weight wanted) }
+{
+    for n in 0..site.variables.len() {
+        push_variable(all, site, weight, wanted, n as u32)?;
+    }
+    Ok(())
+}
+
+/// What the declaration costs at the place, with the coercion.
+fn cost(decl: &Decl, wanted: u32) -> usize
+    ensures { result ≡ cost decl.now wanted }
+{
+    decl.weight as usize + step(decl.result, wanted)
+}
+
+/// Adds the terms that the declaration heads.
+fn push_declared(
+    alloc: Global,
+    all: &mut Items<Term>,
+    site: &Site<'_>,
+    weight: usize,
+    wanted: u32,
+    n: u32,
+    decl: &Decl,
+) -> Result<(), AllocError>
+    requires { weight < 2 ^ 32 }
+    ensures { OnOk result (map expr all.new ≡ map expr all.old ++ headed site.now.env.now (here site.now) (deeper site.now) weight wanted n (Some decl.now)) }
+{
+    let cost = cost(decl, wanted);
+    if !site.env.is_below(decl.result, wanted) || cost > weight {
+        return Ok(());
+    }
+    let lists = fills(alloc, site, decl.args.as_slice(), weight - cost)?;
+    for args in lists {
+        all.push(Term::Head(n, args))?;
+    }
+    Ok(())
+}
+
+/// Adds the terms that declaration `n` heads, where there is one.
+fn push_headed(
+    alloc: Global,
+    all: &mut Items<Term>,
+    site: &Site<'_>,
+    weight: usize,
+    wanted: u32,
+    n: u32,
+) -> Result<(), AllocError>
+    requires { weight < 2 ^ 32 }
+    ensures { OnOk result (map expr all.new ≡ map expr all.old ++ headed site.now.env.now (here site.now) (deeper site.now) weight wanted n (slice_get site.now.env.now.decls n)) }
+{
+    match site.env.parts().decls.get(n as usize) {
+        Some(decl) => push_declared(alloc, all, site, weight, wanted, n, decl),
+        None => Ok(()),
+    }
+}
+
+/// Adds the terms that a declaration heads.
+#[tactic(auto, using(crate::proofs::Making::making))]
+fn push_heads(
+    alloc: Global,
+    all: &mut Items<Term>,
+    site: &Site<'_>,
+    weight: usize,
+    wanted: u32,
+) -> Result<(), AllocError>
+    requires { weight < 2 ^ 32 }
+    ensures { OnOk result (map expr all.new ≡ map expr all.old ++ heads site.now.env.now (here site.now) (deeper site.now) weight wanted) }
+{
+    let count = site.env.parts().decls.len();
+    for n in 0..count {
+        push_headed(alloc, all, site, weight, wanted, n as u32)?;
+    }
+    Ok(())
+}
+
+/// All terms for the wanted type that weigh exactly `weight`.
+pub fn made(
+    alloc: Global,
+    site: &Site<'_>,
+    weight: usize,
+    wanted: u32,
+) -> Result<Items<Term>, AllocError>
+    requires variables { length site.now.variables.now < 2 ^ 32 }
+    requires weight { weight < 2 ^ 32 }
+    ensures { IfOk result (λ terms. map expr terms ≡ made site.now.env.now site.now.variables.now (here site.now) (deeper site.now) weight wanted) }
+{
+    let mut all = Items::new(alloc);
+    push_variables(&mut all, site, weight, wanted)?;
+    push_heads(alloc, &mut all, site, weight, wanted)?;
+    Ok(all)
+}

@@ -1,0 +1,104 @@
+ghost use Rattle.std.specs.Prelude.{◌≡◌, ◌<◌, bytes_eq, length, map, slice_get, IfSome};
+ghost use Rattle.terms.specs.View.{expr};
+ghost use Rattle.plain_listing.specs.Generate.{bound, candidates};
+ghost use Rattle.plain_listing.specs.Tables.{listed, for_type, at, number_of};
+ghost use Rattle.plain_listing.specs.Reads.{here, deeper};
+
+use lists::Items;
+use terms::{Arg, Env, Term};
+
+/// What a step of the generator reads: the environment, the tables so far, and the context of the terms
+/// that it makes.
+#[derive(Clone, Copy)]
+pub struct Site<'a> {
+    pub env: &'a Env,
+    /// For each weight, for each context, for each type the terms. Context 0 has no lambda, the others
+    /// have one.
+    pub rows: &'a [Items<Items<Items<Term>>>],
+    /// The number of the context.
+    pub number: usize,
+    /// The types of the variables.
+    pub variables: &'a [u32],
+    /// The lists of parameters of the lambdas that may stand in the terms: the contexts from 1 on.
+    pub contexts: &'a [Items<u32>],
+}
+
+/// The terms for a type, in the lists by type.
+fn for_type(column: &Items<Items<Term>>, wanted: u32) -> &[Term]
+    ensures { map expr result.now ≡ listed (slice_get column.now wanted) }
+{
+    match column.get(wanted as usize) {
+        Some(terms) => terms.as_slice(),
+        None => &[],
+    }
+}
+
+/// The terms for a type in a context, in the lists by context.
+pub fn in_context(row: &Items<Items<Items<Term>>>, number: usize, wanted: u32) -> &[Term]
+    ensures { map expr result.now ≡ for_type (slice_get row.now number) wanted }
+{
+    match row.get(number) {
+        Some(column) => for_type(column, wanted),
+        None => &[],
+    }
+}
+
+/// The terms of a weight, for a type in a context.
+fn terms_at(
+    rows: &[Items<Items<Items<Term>>>],
+    number: usize,
+    weight: usize,
+    wanted: u32,
+) -> &[Term]
+    ensures { map expr result.now ≡ at rows.now number weight wanted }
+{
+    match rows.get(weight) {
+        Some(row) => in_context(row, number, wanted),
+        None => &[],
+    }
+}
+
+/// Whether two lists of types are the same.
+fn is_same(row: &Items<u32>, params: &[u32]) -> bool
+    ensures { result ≡ bytes_eq row.now params.now }
+{
+    row.as_slice() == params
+}
+
+/// The number of a list of parameters among the contexts.
+pub fn number_of(contexts: &[Items<u32>], params: &[u32]) -> Option<usize>
+    ensures value { result ≡ number_of contexts.now params.now }
+    ensures within { IfSome result (λ n. n < length contexts.now) }
+{
+    for n in 0..contexts.len() {
+        if is_same(&contexts[n], params) {
+            return Some(n);
+        }
+    }
+    None
+}
+
+impl Site<'_> {
+    /// The bodies of a lambda with these parameters that weighs `weight` with its binders.
+    fn bodies(&self, params: &[u32], body: u32, weight: usize) -> &[Term]
+        ensures { map expr result.now ≡ bound (λ j. deeper self.now params.now j body) (length params.now) weight }
+    {
+        if weight < params.len() {
+            return &[];
+        }
+        match number_of(self.contexts, params) {
+            Some(n) => terms_at(self.rows, n + 1, weight - params.len(), body),
+            None => &[],
+        }
+    }
+
+    /// The terms that may stand as this argument and weigh `weight` there.
+    pub fn candidates(&self, arg: &Arg, weight: usize) -> &[Term]
+        ensures { map expr result.now ≡ candidates (here self.now) (deeper self.now) arg.now weight }
+    {
+        match arg {
+            Arg::Plain(wanted) => terms_at(self.rows, self.number, weight, *wanted),
+            Arg::Fun(params, body) => self.bodies(params.as_slice(), *body, weight),
+        }
+    }
+}
