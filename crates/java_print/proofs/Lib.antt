@@ -1,0 +1,4 @@
+-- Lemmas of the printer.
+pub mod Equations
+pub mod Lists
+pub mod Sizes

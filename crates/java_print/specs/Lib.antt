@@ -1,0 +1,2 @@
+-- The pieces in which the printer writes a text.
+pub mod Pieces
