@@ -9,3 +9,6 @@ mod scope;
 mod words;
 
 pub use printing::text;
+
+#[cfg(test)]
+mod tests;
