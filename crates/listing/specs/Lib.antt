@@ -1,0 +1,3 @@
+-- The definitions of a listing.
+pub mod Found
+pub mod Pages

@@ -1,0 +1,105 @@
+ghost use Rattle.std.specs.Prelude.{◌≡◌, ◌↔◌, ◌<◌, ◌≤◌, ◌+◌, ◌^◌, [], IsTrue, IfOk, OnErr, false, length, take, drop};
+ghost use Rattle.listing.specs.Found.{IsListed, IsLonger};
+ghost use Rattle.listing.specs.Pages.{IsPage, items_of};
+
+use crate::growing::Growing;
+use crate::item::Item;
+use crate::page::{Page, page_of};
+use crate::same::Same;
+use lists::Items;
+use std::alloc::{AllocError, Global};
+use std::marker::Model;
+use terms::{Env, Levels};
+
+/// The list of one environment, found level by level as far as someone asked. Contracts see the
+/// environment's parts, the items found, whether the search has met its end, and its count of steps.
+#[derive(Drop)]
+pub struct Listing<E: Levels> {
+    growing: Growing<E>,
+}
+
+impl<E: Levels> Model for Listing<E> {
+    ghost use Rattle.terms.specs.contracts.term.Term as term;
+    ghost use Rattle.std.specs.Coded.{codes};
+    ghost use Rattle.listing.specs.Found.{Listed, IsKept};
+
+    ghost Value = { Listed };
+
+    ghost coded = { Prim.hlevel (codes, term.the_row.coded) };
+
+    ghost view = { λ l. record {
+      parts = (E.progress l.growing.levels).parts;
+      found = l.growing.found.items;
+      at_end = l.growing.at_end;
+      pops = E.popped l.growing.levels;
+    } };
+
+    ghost invariant = { λ l. IsKept (E.progress l.growing.levels) l.growing.found.items l.growing.waiting l.growing.keyed.items l.growing.weight l.growing.below l.growing.at_end };
+}
+
+impl<E: Levels> Listing<E> {
+    /// A listing that has found nothing yet. It owns the environment.
+    pub fn new(alloc: Global, env: Env) -> Result<Listing<E>, AllocError>
+        ensures fresh { IfOk result (λ listing. listing ≡ record { parts = env; found = []; at_end = false; pops = 0 }) }
+    {
+        Ok(Listing {
+            growing: Growing {
+                levels: E::over(alloc, env)?,
+                found: Vec::new(alloc),
+                waiting: Items::new(alloc),
+                keyed: Vec::new(alloc),
+                weight: 0,
+                below: 0,
+                at_end: false,
+            },
+        })
+    }
+
+    /// The page of at most `count` items from the item `from` on, counted from 0. It finds whole levels
+    /// until one item more than the page is found, or the list is whole. After want of memory what was
+    /// found stays, and the next call goes on; it never comes where nothing has to be found.
+    pub fn page(&mut self, alloc: Global, from: u64, count: u64) -> Result<Page, AllocError>
+        requires from { from < 2 ^ 62 }
+        requires count { (1 ≤ count) × (count ≤ 1000) }
+        ensures listed { IsListed self.new }
+        ensures same_env { self.new.parts ≡ self.old.parts }
+        ensures longer { IsLonger self.old.found self.new.found }
+        ensures page { IfOk result (λ page. IsPage from count self.old self.new page) }
+        ensures no_memory { OnErr result ((length self.old.found ≤ from + count) × (self.old.at_end ≡ false)) }
+        ensures pops_rise { self.old.pops ≤ self.new.pops }
+    {
+        let before = self.growing.found.as_slice().len();
+        self.growing.lengthen(alloc, (from + count + 1) as usize)?;
+        let found = self.growing.found.as_slice().len();
+        Ok(page_of(
+            from,
+            count,
+            before as u64,
+            found as u64,
+            self.growing.at_end,
+        ))
+    }
+
+    /// The items of a page. Takes no memory.
+    pub fn items(&self, page: &Page) -> &[Item]
+        requires within { page.now.first + page.now.len ≤ length self.now.found }
+        ensures slice { result.now ≡ items_of self.now page.now }
+    {
+        let first = page.first as usize;
+        &self.growing.found.as_slice()[first..first + page.len as usize]
+    }
+
+    /// Whether this is the list of that environment. Takes no memory.
+    pub fn same_env(&self, env: &Env) -> bool
+        ensures exact { IsTrue result ↔ (self.now.parts ≡ env.now) }
+    {
+        self.growing.levels.env().parts().same(env.parts())
+    }
+
+    /// How many steps the search has taken, where it counts them. Takes no memory.
+    pub fn pops(&self) -> u64
+        ensures count { result ≡ self.now.pops }
+    {
+        self.growing.levels.pops()
+    }
+}
