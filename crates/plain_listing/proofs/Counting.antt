@@ -1,5 +1,5 @@
 -- Each term that may stand at a place is made exactly once.
-use Rattle.std.proofs.Common.{◌≡◌, ◌≢◌, inl, inr, ℕ, zero, suc, ◌+◌, ◌-◌, ◌*◌, ◌<◌, ◌≤◌, Bool, true, false, ◌&&◌, ◌==◌, nat_le, nat_lt, cond, List, [], ◌∷◌, ◌++◌, length, map, slice_get, Option, None, Some, refl, sym, ap, ◌∙◌, add-zero, zero-add, flat_map, arith}
+use Rattle.std.proofs.Common.{◌≡◌, ◌≢◌, inl, inr, ℕ, zero, suc, ◌+◌, ◌-◌, ◌*◌, ◌<◌, ◌≤◌, Bool, true, false, ◌&&◌, ◌==◌, nat_le, cond, List, [], ◌∷◌, ◌++◌, length, map, slice_get, Option, None, Some, refl, sym, ap, ◌∙◌, add-zero, zero-add, arith}
 use Rattle.std.proofs.Math.Nat.{one-mul, zero-mul}
 use Rattle.std.proofs.lemmas.Bool.{cases_lt, cases_eq, eq-eqb, ne_eqb, le-leb, lt-leb, leb-true, and_parts, lt-ltb}
 use Rattle.std.proofs.lemmas.Option.{slice_get_past}
@@ -8,7 +8,7 @@ use Rattle.terms.specs.Expr.{Expr, var, head, Args, no_args, plain, lam}
 use Rattle.terms.specs.Typing.{type_in, fits, some_below, is_below, result_if, args_wanted, joined}
 use Rattle.terms.specs.Weights.{step, weight_in, args_weight, decl_weight}
 use Rattle.terms.specs.Count.{expr_eq, args_eq, once_if, count}
-use Rattle.terms.specs.Place.{Place, shallow, args_shallow, fits_place, weigh}
+use Rattle.terms.specs.Place.{shallow, args_shallow, fits_place, weigh}
 use Rattle.terms.specs.declared.parts.Parts.{Parts}
 use Rattle.terms.specs.declared.parts.Decl.{Decl}
 use Rattle.terms.specs.declared.parts.Arg.{Arg}

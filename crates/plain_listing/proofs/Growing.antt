@@ -1,5 +1,5 @@
 -- Tables with one weight more.
-use Rattle.std.proofs.Common.{◌≡◌, ◌≢◌, ◌⊎◌, inl, inr, ℕ, zero, suc, ◌+◌, ◌-◌, ◌*◌, ◌<◌, ◌≤◌, Bool, true, false, ◌&&◌, ◌==◌, nat_le, nat_lt, cond, List, [], ◌∷◌, ◌++◌, length, slice_get, Option, None, Some, refl, sym, ap, subst, ◌∙◌, append-nil, arith}
+use Rattle.std.proofs.Common.{◌≡◌, inl, inr, ℕ, zero, suc, ◌+◌, ◌<◌, ◌≤◌, Bool, true, false, ◌&&◌, ◌==◌, nat_le, nat_lt, cond, List, [], ◌∷◌, ◌++◌, length, slice_get, Option, Some, refl, sym, ap, subst, ◌∙◌, append-nil, arith}
 use Rattle.std.specs.List.{list_all}
 use Rattle.std.proofs.lemmas.Bool.{cases_lt, cases_eq, and_parts, ltb-true, le-leb, lt-leb, eq-eqb, ne_eqb}
 use Rattle.std.proofs.lemmas.List.{length_push}
@@ -21,7 +21,7 @@ use Rattle.plain_listing.specs.Tables.{listed, for_type, in_context, at, by_numb
 use Rattle.plain_listing.specs.Contexts.{contexts_of}
 use Rattle.plain_listing.proofs.Counting.{suits, stands-suits, suits_under, and_no, AreServed, IsServed, count-bound, count-made}
 use Rattle.plain_listing.proofs.Numbers.{number-nil}
-use Rattle.plain_listing.proofs.Ranges.{IsInRange, Ranges}
+use Rattle.plain_listing.proofs.Ranges.{Ranges}
 use Rattle.plain_listing.proofs.Finding.{HasNumber, number-there, AreFound, no_contexts, all_contexts}
 
 no_bodies : (g : Parts) (ctx : List (List ℕ)) (ps : List ℕ) (r k n : ℕ) (e : Expr) → count (expr_eq e) (cond (nat_le n k) [] []) ≡ 0

@@ -1,12 +1,11 @@
 -- What the declarations and numbers of a valid environment are.
-use Rattle.std.proofs.Common.{◌≡◌, ℕ, zero, suc, ◌+◌, ◌<◌, ◌≤◌, Bool, true, false, ◌&&◌, nat_lt, List, [], ◌∷◌, length, Option, None, Some, slice_get, refl, sym, ap, subst, ◌∙◌, arith}
+use Rattle.std.proofs.Common.{◌≡◌, ℕ, zero, suc, ◌+◌, ◌<◌, ◌≤◌, Bool, true, false, List, [], ◌∷◌, length, Option, None, Some, slice_get, refl, subst, arith}
 use Rattle.std.specs.List.{list_all}
 use Rattle.std.proofs.lemmas.Bool.{and_parts, ltb-true}
 use Rattle.std.proofs.lemmas.Option.{slice_get_within}
-use Rattle.terms.specs.Faults.{or_then, unless, is_arg_known, is_well_formed, decl_fault, decls_fault, pairs_fault, order_fault, limit_fault, depth_fault, goal_fault, first_env_fault, IsValid}
+use Rattle.terms.specs.Faults.{or_then, unless, is_arg_known, decl_fault, decls_fault, pairs_fault, order_fault, limit_fault, depth_fault, goal_fault, first_env_fault, IsValid}
 use Rattle.terms.specs.declared.fault.EnvFault.{EnvFault}
 use Rattle.terms.specs.declared.fault.EnvFault.TheVariants.{TypeRange, Weight, Limit, Depth}
-use Rattle.terms.specs.declared.fault.EnvFault.TheVariants as fault
 use Rattle.terms.specs.declared.parts.Decl.{Decl}
 use Rattle.terms.specs.declared.parts.Parts.{Parts}
 

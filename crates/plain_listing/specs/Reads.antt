@@ -1,5 +1,4 @@
 -- The tables that a step of the generator reads.
-use Rattle.std.specs.Prelude.{◌≡◌}
 use Rattle.plain_listing.specs.Generate.{Table, Inner}
 use Rattle.plain_listing.specs.Tables.{at, under}
 use Rattle.plain_listing.specs.declared.site.Site.{Site}

@@ -1,5 +1,5 @@
 -- The tables of the code, and what it means that they are right.
-use Rattle.std.specs.Prelude.{◌≡◌, ℕ, suc, ◌+◌, ◌-◌, ◌<◌, ◌≢◌, ◌⊎◌, ◌==◌, ◌&&◌, if◌then◌else◌, Bool, All, bytes_eq, List, [], ◌∷◌, length, map, slice_get, Option, None, Some}
+use Rattle.std.specs.Prelude.{◌≡◌, ℕ, ◌+◌, ◌<◌, ◌==◌, ◌&&◌, if◌then◌else◌, Bool, bytes_eq, List, [], ◌∷◌, length, map, slice_get, Option, None, Some}
 use Rattle.terms.specs.Expr.{Expr}
 use Rattle.terms.specs.View.{expr}
 use Rattle.terms.specs.Count.{expr_eq, once_if, count}

@@ -1,5 +1,4 @@
 use Rattle.std.proofs.Common.{◌≡◌, ◌++◌, take}
-use Rattle.terms.specs.View.{expr, arg}
 use Rattle.plain_listing.proofs.fills.with_first.Given as goal
 
 abbrev pub invariant-loop-term : goal.invariant-loop-term

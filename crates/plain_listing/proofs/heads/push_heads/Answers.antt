@@ -1,4 +1,3 @@
-use Rattle.std.proofs.Common.{◌≡◌, ◌∙◌}
 use Rattle.plain_listing.proofs.Making.{made_next}
 use Rattle.plain_listing.proofs.heads.push_heads.Goals as goal
 

@@ -1,5 +1,4 @@
-use Rattle.std.proofs.Common.{◌≡◌, ◌≤◌, ◌<◌, ◌∙◌, ℕ, List, All, map, slice_get, ap, sym, subst, length, arith}
-use Rattle.terms.specs.Expr.{Expr}
+use Rattle.std.proofs.Common.{◌≡◌, ◌≤◌, ◌∙◌, ℕ, List, All, map, slice_get, ap, sym, subst, length, arith}
 use Rattle.terms.specs.View.{expr}
 use Rattle.terms.specs.Count.{expr_eq, once_if, count}
 use Rattle.terms.specs.Listing.{Progress, level_of}
