@@ -68,7 +68,7 @@ fn shape_in(alloc: Global, bytes: &[u8]) -> Result<ClassShape, ClassFault>
 /// order (Truncated, Magic, Version, Tag, Extra), before that of the second, which follows the used indices
 /// in file order (Place, Name, Descriptor, Attribute). Attributes of members are passed unread, and of the
 /// class's own only `InnerClasses` is read. Memory taken is at most a small multiple of the file's size, whatever
-/// its counts promise: a shape whose texts would be longer than sixteen times the file and a mebibyte is
+/// its counts promise: a shape whose texts would be longer than sixteen times the file and 64 MiB is
 /// answered `OutOfMemory`.
 pub fn read_class(alloc: Global, bytes: &[u8]) -> Result<ClassShape, ClassFault>
     requires { length bytes.now ≤ 16777216 }

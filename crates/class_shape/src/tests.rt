@@ -202,7 +202,8 @@ fn members_and_inner_classes_are_read(rt: HostRuntime) -> Result<(), Fail> {
 
 /// A class without super class whose name has 60,000 letters, with so many methods of that name and
 /// descriptor.
-fn same_methods(rt: &HostRuntime, methods: u8) -> Result<Vec<u8>, Fail> {
+fn same_methods(rt: &HostRuntime, methods: u16) -> Result<Vec<u8>, Fail> {
+    let count = methods.to_be_bytes();
     let mut bytes = Vec::new(rt.alloc());
     bytes.extend_from_slice(&[
         0xCA, 0xFE, 0xBA, 0xBE, 0, 0, 0, 52, 0, 3, 7, 0, 2, 1, 0xEA, 0x60,
@@ -210,7 +211,8 @@ fn same_methods(rt: &HostRuntime, methods: u8) -> Result<Vec<u8>, Fail> {
     for _ in 0..60_000 {
         bytes.push(b'a')?;
     }
-    bytes.extend_from_slice(&[0, 0, 0, 1, 0, 0, 0, 0, 0, 0, 0, methods])?;
+    bytes.extend_from_slice(&[0, 0, 0, 1, 0, 0, 0, 0, 0, 0])?;
+    bytes.extend_from_slice(&count)?;
     for _ in 0..methods {
         bytes.extend_from_slice(&[0, 0, 0, 2, 0, 2, 0, 0])?;
     }
@@ -228,7 +230,7 @@ fn a_long_text_named_often_takes_no_memory(rt: HostRuntime) -> Result<(), Fail> 
             ClassCause::Descriptor
         )
     );
-    let many = same_methods(&rt, 60)?;
+    let many = same_methods(&rt, 4000)?;
     assert!(rt; has(&read_class(rt.alloc(), &many), 0, ClassCause::OutOfMemory));
     Ok(())
 }

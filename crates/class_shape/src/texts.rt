@@ -17,11 +17,11 @@ pub fn too_much_text() -> ClassFault
     }
 }
 
-/// Whether the texts of a shape are together at most sixteen times as long as the file and a mebibyte. A
+/// Whether the texts of a shape are together at most sixteen times as long as the file and 64 MiB. A
 /// file can name one long text many times, so that its shape would be tens of thousands of times as long;
 /// such a one isn't built. The shapes of a JDK's classes hold at most 1.3 times as much text as their files.
 pub fn are_texts_within(pool: &Pool<'_>, body: &Body<'_>, file: usize) -> bool {
-    let limit = (file as u64).saturating_mul(16).saturating_add(1_048_576);
+    let limit = (file as u64).saturating_mul(16).saturating_add(67_108_864);
     let names = class_texts(pool, &body.lists.interfaces);
     let fields = member_texts(pool, &body.lists.fields);
     let methods = member_texts(pool, &body.lists.methods);
