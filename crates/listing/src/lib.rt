@@ -15,3 +15,6 @@ mod sorting;
 pub use item::Item;
 pub use listing::Listing;
 pub use page::Page;
+
+#[cfg(test)]
+mod tests;

@@ -1,0 +1,5 @@
+mod Bodies
+pub mod Inputs
+mod Pieces
+mod Scans
+pub mod Tails

@@ -1,0 +1,120 @@
+-- Bytes that are written in two parts.
+use Rattle.std.proofs.Common.{◌≡◌, ℕ, suc, zero, ◌+◌, ◌-◌, ◌^◌, ◌≤◌, ◌<◌, min, List, [], ◌∷◌, ◌++◌, take, drop, length, get_or, Option, Some, None, sym, ap, ◌∙◌, append_assoc, append-nil, arith, refl, subst, flat_map, decimal, codes, nat_lt, true, false, cond, ◌/◌, ◌%◌}
+use Rattle.std.proofs.lemmas.List.{length-append, take-append-le, take_more, take_all, drop_more, drop_all, take-append-drop}
+use Rattle.std.proofs.Math.Seq.{take-append-add}
+use Rattle.std.specs.Prelude.{Result, Ok, Err, OnErr}
+use Rattle.std.specs.Io.KnownBytes.{Appends}
+use Rattle.outside.specs.Causes.{HasCause, Rose}
+use Rattle.outside.specs.Gathered.{WroteFront}
+use Rattle.std.specs.Char.{digit_char}
+use Rattle.json.specs.Print.{escape, escape_byte, escape_letter, quoted}
+use Rattle.json_rpc.specs.Replies.{before_id, id_text, no_memory_reply, quote}
+use Rattle.json_rpc.specs.declared.message.Id.{Id}
+
+pub appends-none : (a : Option (List ℕ)) → Appends a a []
+appends-none None = tt
+appends-none (Some xs) = sym (append-nil xs)
+
+pub appends-both : (a b c : Option (List ℕ)) (xs ys : List ℕ) → Appends a b xs → Appends b c ys → Appends a c (xs ++ ys)
+appends-both None b c xs ys h k = tt
+appends-both (Some p) None c xs ys h k = absurd h
+appends-both (Some p) (Some q) None xs ys h k = k
+appends-both (Some p) (Some q) (Some r) xs ys h k = k ∙ ap (λ t. t ++ ys) h ∙ append_assoc p xs ys
+
+pub front-left : (a b : Option (List ℕ)) (xs ys : List ℕ) → WroteFront a b xs → WroteFront a b (xs ++ ys)
+front-left a b xs ys w = record {
+  count = w.count;
+  within = omega (arith, w.within, length-append xs ys);
+  wrote = let P : List ℕ → Type 0 = λ t. Appends a b t in subst P (sym (take-append-le w.count xs ys w.within)) w.wrote;
+}
+
+pub front-right : (a b c : Option (List ℕ)) (xs ys : List ℕ) → Appends a b xs → WroteFront b c ys → WroteFront a c (xs ++ ys)
+front-right a b c xs ys h w = record {
+  count = length xs + w.count;
+  within = omega (arith, w.within, length-append xs ys);
+  wrote = let P : List ℕ → Type 0 = λ t. Appends a c t in subst P (sym (take-append-add xs ys w.count)) (appends-both a b c xs (take w.count ys) h w.wrote);
+}
+
+rose-later : (a b c : ℕ) → a ≤ b → Rose b c → Rose a c
+rose-later a b c l r = grind (arith, l, r)
+
+pub cause-later : {T E : Type 0} (a b c : ℕ) (r : Result T E) → a ≤ b → HasCause b c r → HasCause a c r
+cause-later a b c (Ok x) l h = record { later = omega (arith, l, h.later); failed = tt }
+cause-later a b c (Err e) l h = record { later = omega (arith, l, h.later); failed = rose-later a b c l h.failed }
+
+flat_map-append : (xs ys : List ℕ) → escape (xs ++ ys) ≡ escape xs ++ escape ys
+flat_map-append [] ys = refl
+flat_map-append (x ∷ xs) ys = ap (λ t. escape_byte x ++ t) (flat_map-append xs ys) ∙ sym (append_assoc (escape_byte x) (escape xs) (escape ys))
+
+pub escape-more : (bs : List ℕ) (i : ℕ) → i < length bs → escape (take (i + 1) bs) ≡ escape (take i bs) ++ escape_byte (get_or bs i 0)
+escape-more bs i l = ap escape (take_more bs i 0 l) ∙ flat_map-append (take i bs) (get_or bs i 0 ∷ []) ∙ ap (λ t. escape (take i bs) ++ t) (append-nil (escape_byte (get_or bs i 0)))
+
+pub escape-all : (bs : List ℕ) → escape (take (length bs) bs) ≡ escape bs
+escape-all bs = ap escape (take_all (length bs) bs (omega arith))
+
+pub escape-split : (bs : List ℕ) (i : ℕ) → escape bs ≡ escape (take i bs) ++ escape (drop i bs)
+escape-split bs i = ap escape (sym (take-append-drop i bs)) ∙ flat_map-append (take i bs) (drop i bs)
+
+pub escape-rest : (bs : List ℕ) (i : ℕ) → i < length bs → escape (drop i bs) ≡ escape_byte (get_or bs i 0) ++ escape (drop (i + 1) bs)
+escape-rest bs i l = ap escape (drop_more bs i 0 l)
+
+pub escape-end : (bs : List ℕ) (i : ℕ) → length bs ≤ i → escape (drop i bs) ≡ []
+escape-end bs i l = ap escape (drop_all i bs l)
+
+-- What stands for a byte, by its three cases.
+pub escape-short : (b : ℕ) → 0 < escape_letter b → escape_byte b ≡ 92 ∷ escape_letter b ∷ []
+unfolding escape_byte
+escape-short b l = let e : nat_lt 0 (escape_letter b) ≡ true = grind (arith, l) in rw e refl
+
+pub escape-hex : (b : ℕ) → escape_letter b ≡ 0 → b < 32 → escape_byte b ≡ 92 ∷ 117 ∷ 48 ∷ 48 ∷ digit_char (b / 16) ∷ digit_char (b % 16) ∷ []
+unfolding escape_byte
+escape-hex b z l =
+    let e : nat_lt 0 (escape_letter b) ≡ false = grind (arith, z) in
+    let f : nat_lt b 32 ≡ true = grind (arith, l) in
+    rw (e, f) refl
+
+pub escape-plain : (b : ℕ) → escape_letter b ≡ 0 → 32 ≤ b → escape_byte b ≡ b ∷ []
+unfolding escape_byte
+escape-plain b z l =
+    let e : nat_lt 0 (escape_letter b) ≡ false = grind (arith, z) in
+    let f : nat_lt b 32 ≡ false = grind (arith, l) in
+    rw (e, f) refl
+
+-- The same for a letter that the code has found.
+pub short-is : (b letter : ℕ) → letter ≡ escape_letter b → 0 < letter → escape_byte b ≡ 92 ∷ letter ∷ []
+short-is b letter e l = escape-short b (omega (arith, e, l)) ∙ ap (λ x. 92 ∷ x ∷ []) (sym e)
+
+pub length-more : (bs : List ℕ) (i : ℕ) → i < length bs → length (escape (take (i + 1) bs)) ≡ length (escape (take i bs)) + length (escape_byte (get_or bs i 0))
+length-more bs i l = ap length (escape-more bs i l) ∙ length-append (escape (take i bs)) (escape_byte (get_or bs i 0))
+
+-- The quotes round a text.
+pub quoted-is : (s : List ℕ) → quote ++ (escape s ++ quote) ≡ quoted s
+unfolding quote
+quoted-is s = refl
+
+pub length-quoted : (s : List ℕ) → length (quoted s) ≡ length (escape s) + 2
+length-quoted s = omega (arith, length-append (escape s) (34 ∷ []))
+
+-- A fault while one byte of a text is written.
+pub front-escape : (a b c : Option (List ℕ)) (bs : List ℕ) (i : ℕ) → i < length bs → Appends a b (escape (take i bs)) → WroteFront b c (escape_byte (get_or bs i 0)) → WroteFront a c (escape bs)
+front-escape a b c bs i l h w =
+    let all : escape bs ≡ (escape (take i bs) ++ escape_byte (get_or bs i 0)) ++ escape (drop (i + 1) bs) =
+    escape-split bs i ∙ ap (λ t. escape (take i bs) ++ t) (escape-rest bs i l) ∙ sym (append_assoc (escape (take i bs)) (escape_byte (get_or bs i 0)) (escape (drop (i + 1) bs))) in
+    let P : List ℕ → Type 0 = λ t. WroteFront a c t in
+    subst P (sym all) (front-left a c (escape (take i bs) ++ escape_byte (get_or bs i 0)) (escape (drop (i + 1) bs)) (front-right a b c (escape (take i bs)) (escape_byte (get_or bs i 0)) h w))
+
+-- One byte of a text more.
+pub appends-escape : (a b c : Option (List ℕ)) (bs : List ℕ) (i : ℕ) → i < length bs → Appends a b (escape (take i bs)) → Appends b c (escape_byte (get_or bs i 0)) → Appends a c (escape (take (i + 1) bs))
+appends-escape a b c bs i l h k =
+    let P : List ℕ → Type 0 = λ t. Appends a c t in
+    subst P (sym (escape-more bs i l)) (appends-both a b c (escape (take i bs)) (escape_byte (get_or bs i 0)) h k)
+
+pub length-reply : (id : Id) (n : ℕ) → n ≡ length (id_text id) → n + 69 ≡ length (no_memory_reply id)
+unfolding no_memory_reply before_id
+length-reply id n e = omega (arith, e, length-append (id_text id) (codes ",\"jsonrpc\":\"2.0\"}"))
+
+pub ruleset escapes = (escape-short, escape-hex, escape-plain, short-is, length-more, escape-all, length-quoted)
+
+pub ruleset pieces = (appends-none, appends-both, appends-escape, front-left, front-right, cause-later, front-escape, escape-all, length-reply)
+
+pub ruleset quotes = (quoted-is)

@@ -1,0 +1,33 @@
+-- What is written: frames, and the reply for which there was no memory.
+use Rattle.std.specs.Prelude.{ℕ, ℤ, negsuc, List, [], ◌∷◌, ◌++◌, ◌+◌, length, codes, decimal}
+use Rattle.std.specs.Fmt.{signed_decimal}
+use Rattle.json.specs.Print.{quoted}
+use Rattle.json_rpc.specs.declared.message.Id.{Id}
+use Rattle.json_rpc.specs.declared.message.Id.TheVariants.{Number, Text}
+
+-- What stands before the length, and before the id of the reply below; and a quote.
+unfoldable pub length_mark : List ℕ
+length_mark = codes "Content-Length: "
+
+unfoldable pub before_id : List ℕ
+before_id = codes "{\"error\":{\"code\":-32803,\"message\":\"no memory\"},\"id\":"
+
+unfoldable pub quote : List ℕ
+quote = codes "\""
+
+-- The header part of a frame whose body has n bytes (LSP 3.17, "Header Part").
+unfoldable pub head_of : ℕ → List ℕ
+head_of n = length_mark ++ (decimal n ++ codes "\r\n\r\n")
+
+-- The frame of a body.
+unfoldable pub frame_of : List ℕ → List ℕ
+frame_of body = head_of (length body) ++ body
+
+-- The JSON of an id.
+unfoldable pub id_text : Id → List ℕ
+id_text (Number z) = signed_decimal z
+id_text (Text s) = quoted s
+
+-- The reply to a request for which there was no memory: the error -32803 of LSP 3.17, without data.
+unfoldable pub no_memory_reply : Id → List ℕ
+no_memory_reply id = before_id ++ (id_text id ++ codes ",\"jsonrpc\":\"2.0\"}")

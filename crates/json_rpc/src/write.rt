@@ -1,0 +1,259 @@
+ghost use Rattle.std.specs.Prelude.{◌≡◌, ◌≤◌, ◌<◌, ◌*◌, ◌^◌, ◌++◌, length, codes, decimal, OnOk, OnErr};
+ghost use Rattle.std.specs.Char.{digit_char};
+ghost use Rattle.std.specs.Io.KnownBytes.{Appends};
+ghost use Rattle.outside.specs.Causes.{HasCause};
+ghost use Rattle.outside.specs.Gathered.{WroteFront};
+ghost use Rattle.json.specs.Print.{escape, escape_byte, escape_letter};
+ghost use Rattle.json_rpc.specs.Replies.{before_id, frame_of, head_of, id_text, length_mark, no_memory_reply, quote};
+
+use crate::message::Id;
+use itoa::Buffer;
+use outside::{Failed, Sink, write_all};
+
+/// How many bytes the reply "no memory" has beside its id.
+const ROUND_ID: u128 = 69;
+
+/// Writes the length of a body and what ends the header part.
+#[tactic(auto, using(crate::proofs::Pieces::pieces))]
+fn write_length<K: Sink>(sink: &mut K, length: u128) -> Result<(), Failed>
+    ensures all { OnOk result (Appends (K.written sink.old) (K.written sink.new) (decimal length ++ codes "\r\n\r\n")) }
+    ensures front { OnErr result (WroteFront (K.written sink.old) (K.written sink.new) (decimal length ++ codes "\r\n\r\n")) }
+    ensures cause { HasCause (K.faults sink.old) (K.faults sink.new) result }
+{
+    let mut buffer = Buffer::new();
+    write_all(sink, buffer.format(length).as_bytes())?;
+    write_all(sink, b"\r\n\r\n")
+}
+
+/// Writes what stands before the length.
+#[tactic(auto, unfolding(crate::specs::Replies::length_mark))]
+fn write_mark<K: Sink>(sink: &mut K) -> Result<(), Failed>
+    ensures all { OnOk result (Appends (K.written sink.old) (K.written sink.new) length_mark) }
+    ensures front { OnErr result (WroteFront (K.written sink.old) (K.written sink.new) length_mark) }
+    ensures cause { HasCause (K.faults sink.old) (K.faults sink.new) result }
+{
+    write_all(sink, b"Content-Length: ")
+}
+
+/// Writes the header part of a frame.
+#[tactic(auto, using(crate::proofs::Pieces::pieces), unfolding(crate::specs::Replies::head_of))]
+fn write_head<K: Sink>(sink: &mut K, length: u128) -> Result<(), Failed>
+    ensures all { OnOk result (Appends (K.written sink.old) (K.written sink.new) (head_of length)) }
+    ensures front { OnErr result (WroteFront (K.written sink.old) (K.written sink.new) (head_of length)) }
+    ensures cause { HasCause (K.faults sink.old) (K.faults sink.new) result }
+{
+    write_mark(sink)?;
+    write_length(sink, length)
+}
+
+/// Writes a frame with this body, and takes no memory. After a fault a front of the frame is written.
+#[tactic(auto, using(crate::proofs::Pieces::pieces), unfolding(crate::specs::Replies::frame_of))]
+pub fn write_frame<K: Sink>(sink: &mut K, body: &[u8]) -> Result<(), Failed>
+    ensures frame { OnOk result (Appends (K.written sink.old) (K.written sink.new) (frame_of body.now)) }
+    ensures front { OnErr result (WroteFront (K.written sink.old) (K.written sink.new) (frame_of body.now)) }
+    ensures cause { HasCause (K.faults sink.old) (K.faults sink.new) result }
+{
+    write_head(sink, body.len() as u128)?;
+    write_all(sink, body)
+}
+
+/// The letter of a byte's short escape in JSON (RFC 8259, section 7), or 0 where it has none.
+fn escape_letter(byte: u8) -> u8
+    ensures { result ≡ escape_letter byte }
+{
+    match byte {
+        b'"' | b'\\' => byte,
+        8 => b'b',
+        12 => b'f',
+        b'\n' => b'n',
+        b'\r' => b'r',
+        b'\t' => b't',
+        _ => 0,
+    }
+}
+
+/// A digit below 16.
+fn hex_digit(value: u8) -> u8
+    requires { value < 16 }
+    ensures { result ≡ digit_char value }
+{
+    if value < 10 {
+        return b'0' + value;
+    }
+    b'a' + (value - 10)
+}
+
+/// Writes what stands for a byte in a JSON string.
+#[tactic(auto, using(crate::proofs::Pieces::escapes))]
+fn write_byte<K: Sink>(sink: &mut K, byte: u8) -> Result<(), Failed>
+    ensures all { OnOk result (Appends (K.written sink.old) (K.written sink.new) (escape_byte byte)) }
+    ensures front { OnErr result (WroteFront (K.written sink.old) (K.written sink.new) (escape_byte byte)) }
+    ensures cause { HasCause (K.faults sink.old) (K.faults sink.new) result }
+{
+    let letter = escape_letter(byte);
+    if letter > 0 {
+        return write_all(sink, &[b'\\', letter]);
+    }
+    if byte < 32 {
+        return write_all(
+            sink,
+            &[
+                b'\\',
+                b'u',
+                b'0',
+                b'0',
+                hex_digit(byte / 16),
+                hex_digit(byte % 16),
+            ],
+        );
+    }
+    write_all(sink, &[byte])
+}
+
+/// Writes what stands for a text in a JSON string.
+#[tactic(auto, using(crate::proofs::Pieces::pieces))]
+fn write_escaped<K: Sink>(sink: &mut K, bytes: &[u8]) -> Result<(), Failed>
+    ensures all { OnOk result (Appends (K.written sink.old) (K.written sink.new) (escape bytes.now)) }
+    ensures front { OnErr result (WroteFront (K.written sink.old) (K.written sink.new) (escape bytes.now)) }
+    ensures cause { HasCause (K.faults sink.old) (K.faults sink.new) result }
+{
+    for i in 0..bytes.len() {
+        write_byte(sink, bytes[i])?;
+    }
+    Ok(())
+}
+
+/// Writes a quote.
+#[tactic(auto, unfolding(crate::specs::Replies::quote))]
+fn write_quote<K: Sink>(sink: &mut K) -> Result<(), Failed>
+    ensures all { OnOk result (Appends (K.written sink.old) (K.written sink.new) quote) }
+    ensures front { OnErr result (WroteFront (K.written sink.old) (K.written sink.new) quote) }
+    ensures cause { HasCause (K.faults sink.old) (K.faults sink.new) result }
+{
+    write_all(sink, b"\"")
+}
+
+/// Writes what stands for a text in a JSON string, and the quote after it.
+#[tactic(auto, using(crate::proofs::Pieces::pieces))]
+fn write_to_quote<K: Sink>(sink: &mut K, bytes: &[u8]) -> Result<(), Failed>
+    ensures all { OnOk result (Appends (K.written sink.old) (K.written sink.new) (escape bytes.now ++ quote)) }
+    ensures front { OnErr result (WroteFront (K.written sink.old) (K.written sink.new) (escape bytes.now ++ quote)) }
+    ensures cause { HasCause (K.faults sink.old) (K.faults sink.new) result }
+{
+    write_escaped(sink, bytes)?;
+    write_quote(sink)
+}
+
+/// Writes a text as a JSON string.
+#[tactic(auto, using(crate::proofs::Pieces::pieces))]
+fn write_quoted<K: Sink>(sink: &mut K, bytes: &[u8]) -> Result<(), Failed>
+    ensures all { OnOk result (Appends (K.written sink.old) (K.written sink.new) (quote ++ (escape bytes.now ++ quote))) }
+    ensures front { OnErr result (WroteFront (K.written sink.old) (K.written sink.new) (quote ++ (escape bytes.now ++ quote))) }
+    ensures cause { HasCause (K.faults sink.old) (K.faults sink.new) result }
+{
+    write_quote(sink)?;
+    write_to_quote(sink, bytes)
+}
+
+/// Writes the JSON of an id.
+#[tactic(auto, unfolding(crate::specs::Replies::id_text), using(crate::proofs::Pieces::quotes))]
+fn write_id<K: Sink>(sink: &mut K, id: &Id) -> Result<(), Failed>
+    ensures all { OnOk result (Appends (K.written sink.old) (K.written sink.new) (id_text id.now)) }
+    ensures front { OnErr result (WroteFront (K.written sink.old) (K.written sink.new) (id_text id.now)) }
+    ensures cause { HasCause (K.faults sink.old) (K.faults sink.new) result }
+{
+    match id {
+        Id::Number(number) => {
+            let mut buffer = Buffer::new();
+            write_all(sink, buffer.format(*number).as_bytes())
+        }
+        Id::Text(text) => write_quoted(sink, text.as_bytes()),
+    }
+}
+
+/// Writes the reply "no memory" from its id on.
+#[tactic(auto, using(crate::proofs::Pieces::pieces))]
+fn write_from_id<K: Sink>(sink: &mut K, id: &Id) -> Result<(), Failed>
+    ensures all { OnOk result (Appends (K.written sink.old) (K.written sink.new) (id_text id.now ++ codes ",\"jsonrpc\":\"2.0\"}")) }
+    ensures front { OnErr result (WroteFront (K.written sink.old) (K.written sink.new) (id_text id.now ++ codes ",\"jsonrpc\":\"2.0\"}")) }
+    ensures cause { HasCause (K.faults sink.old) (K.faults sink.new) result }
+{
+    write_id(sink, id)?;
+    write_all(sink, b",\"jsonrpc\":\"2.0\"}")
+}
+
+/// Writes the reply "no memory" up to its id.
+#[tactic(auto, unfolding(crate::specs::Replies::before_id))]
+fn write_before_id<K: Sink>(sink: &mut K) -> Result<(), Failed>
+    ensures all { OnOk result (Appends (K.written sink.old) (K.written sink.new) before_id) }
+    ensures front { OnErr result (WroteFront (K.written sink.old) (K.written sink.new) before_id) }
+    ensures cause { HasCause (K.faults sink.old) (K.faults sink.new) result }
+{
+    write_all(
+        sink,
+        b"{\"error\":{\"code\":-32803,\"message\":\"no memory\"},\"id\":",
+    )
+}
+
+/// Writes the reply "no memory".
+#[tactic(auto, using(crate::proofs::Pieces::pieces), unfolding(crate::specs::Replies::no_memory_reply))]
+fn write_reply<K: Sink>(sink: &mut K, id: &Id) -> Result<(), Failed>
+    ensures all { OnOk result (Appends (K.written sink.old) (K.written sink.new) (no_memory_reply id.now)) }
+    ensures front { OnErr result (WroteFront (K.written sink.old) (K.written sink.new) (no_memory_reply id.now)) }
+    ensures cause { HasCause (K.faults sink.old) (K.faults sink.new) result }
+{
+    write_before_id(sink)?;
+    write_from_id(sink, id)
+}
+
+/// How many bytes stand for a byte in a JSON string.
+#[tactic(auto, using(crate::proofs::Pieces::escapes))]
+fn escaped_width(byte: u8) -> u128
+    ensures width { result ≡ length (escape_byte byte) }
+    ensures short { result ≤ 6 }
+{
+    if escape_letter(byte) > 0 {
+        return 2;
+    }
+    if byte < 32 { 6 } else { 1 }
+}
+
+/// How many bytes stand for a text in a JSON string.
+#[tactic(auto, using(crate::proofs::Pieces::escapes))]
+fn escaped_length(bytes: &[u8]) -> u128
+    ensures length { result ≡ length (escape bytes.now) }
+    ensures bound { result ≤ 6 * length bytes.now }
+{
+    let mut length = 0;
+    for i in 0..bytes.len() {
+        length += escaped_width(bytes[i]);
+    }
+    length
+}
+
+/// How many bytes the JSON of an id has.
+#[tactic(auto, unfolding(crate::specs::Replies::id_text), using(crate::proofs::Pieces::escapes))]
+fn id_length(id: &Id) -> u128
+    ensures length { result ≡ length (id_text id.now) }
+    ensures bound { result ≤ 2 ^ 100 }
+{
+    match id {
+        Id::Number(number) => {
+            let mut buffer = Buffer::new();
+            buffer.format(*number).len() as u128
+        }
+        Id::Text(text) => escaped_length(text.as_bytes()) + 2,
+    }
+}
+
+/// Writes the frame of the reply "no memory" to this id in pieces, and takes no memory: it counts the
+/// body's length first, and escapes the id as it writes. After a fault a front of the frame is written.
+#[tactic(auto, using(crate::proofs::Pieces::pieces), unfolding(crate::specs::Replies::frame_of))]
+pub fn write_no_memory<K: Sink>(sink: &mut K, id: &Id) -> Result<(), Failed>
+    ensures frame { OnOk result (Appends (K.written sink.old) (K.written sink.new) (frame_of (no_memory_reply id.now))) }
+    ensures front { OnErr result (WroteFront (K.written sink.old) (K.written sink.new) (frame_of (no_memory_reply id.now))) }
+    ensures cause { HasCause (K.faults sink.old) (K.faults sink.new) result }
+{
+    write_head(sink, id_length(id) + ROUND_ID)?;
+    write_reply(sink, id)
+}
