@@ -13,6 +13,11 @@ mod numbering;
 mod sets;
 mod tables;
 
+pub use by_kind::sources_by_kind;
 pub use compressed::Compressed;
 pub use kind::Succinct;
 pub use need::Need;
+pub use numbering::number_of;
+
+#[cfg(test)]
+mod tests;
