@@ -1,0 +1,92 @@
+-- How a run of `list` ends.
+use Rattle.std.proofs.Common.{rules, ◌≡◌, ◌⊎◌, inl, inr, ⊎_elim, ℕ, zero, suc, ◌≤◌, ◌<◌, List, ◌++◌, length, Option, Some, None, Bool, true, false, not, if◌then◌else◌, ap, subst, refl, ◌∙◌, append-nil, arith, length-append}
+use Rattle.std.specs.Prelude.{nat_le}
+use Rattle.std.specs.Io.KnownBytes.{Consumes, IsAtEnd, Keeps}
+use Rattle.outside.specs.Causes.{Rose}
+use Rattle.outside.specs.Gathered.{WroteFront}
+use Rattle.terms.specs.Expr.{Expr}
+use Rattle.terms.specs.Listing.{IsWhole}
+use Rattle.terms.specs.declared.parts.Parts.{Parts}
+use Rattle.serving.specs.Sheets.{Fault, IsSheet, sheet_fault, text_fault, fault_or}
+use Rattle.serving.specs.Runs.{ReadAll, HasListed, HasRefused, HasBegun, HasWritten, EndsBy, status_of, list_text}
+use Rattle.serving.specs.declared.status.Ending.{Ending}
+use Rattle.serving.specs.declared.status.Ending.TheVariants.{Whole, NotSheet, ReadFault, WriteFault, OutOfMemory}
+
+pub keeps : (a : Option (List ℕ)) → Keeps a a
+keeps None = tt
+keeps (Some xs) = refl
+
+short_of : (b : Bool) (f : Fault) (rest later : Option Fault) → fault_or (if not b then Some f else rest) later ≡ None → b ≡ true
+unfolding fault_or
+short_of true f rest later e = refl
+short_of false f rest later e = absurd cc
+
+within : (m n : ℕ) → nat_le m n ≡ true → m ≤ n
+within m n e = search rules
+
+-- a sheet has at most 16,777,216 bytes
+sheet-short : (bs : List ℕ) → sheet_fault bs ≡ None → length bs ≤ 16777216
+unfolding sheet_fault text_fault
+sheet-short bs e = within (length bs) 16777216 (short_of (nat_le (length bs) 16777216) _ _ _ e)
+
+read-all : (l l' : Option (List ℕ)) (bs : List ℕ) → Consumes l l' bs → (length bs < 16777217 → IsAtEnd l') → sheet_fault bs ≡ None → ReadAll l l' bs
+read-all l l' bs read ended e = record {
+  read = read;
+  ended = ended (omega (arith, sheet-short bs e));
+}
+
+pub listed : (l l' w w' : Option (List ℕ)) (bs : List ℕ) (g : Parts) → Consumes l l' bs → (length bs < 16777217 → IsAtEnd l') → IsSheet bs g → HasWritten g w w' → HasListed l l' w w'
+listed l l' w w' bs g read ended sheet written = record {
+  bytes = bs;
+  input = read-all l l' bs read ended sheet.faultless;
+  parts = g;
+  sheet = sheet;
+  list = written.list;
+  whole = written.whole;
+  wrote = written.wrote;
+}
+
+pub begun : (l l' w w' : Option (List ℕ)) (bs : List ℕ) (g : Parts) → Consumes l l' bs → (length bs < 16777217 → IsAtEnd l') → IsSheet bs g → ((list : List Expr) → IsWhole g list → WroteFront w w' (list_text g list)) → HasBegun l l' w w'
+begun l l' w w' bs g read ended sheet front = record {
+  bytes = bs;
+  input = read-all l l' bs read ended sheet.faultless;
+  parts = g;
+  sheet = sheet;
+  front = front;
+}
+
+pub refused : (l l' w : Option (List ℕ)) (bs : List ℕ) (line cause : ℕ) → Consumes l l' bs → (length bs < 16777217 → IsAtEnd l') → sheet_fault bs ≡ Some (record { line = line; cause = cause }) → HasRefused l l' w w line cause
+refused l l' w bs line cause read ended fault = record {
+  bytes = bs;
+  read = read;
+  ended = ended;
+  fault = fault;
+  silent = keeps w;
+}
+
+either_way : (m n : ℕ) → (m < n) ⊎ (n ≤ m)
+either_way m zero = inr (omega arith)
+either_way zero (suc n) = inl (omega arith)
+either_way (suc m) (suc n) = ⊎_elim (λ l. inl (omega (arith, l))) (λ l. inr (omega (arith, l))) (either_way m n)
+
+some_none : {X : Type 0} (x : X) (a : Option X) → a ≡ Some x → a ≡ None → ⊥
+some_none x a e f = cc
+
+-- of a sheet no refusal is right
+not-refused : (bs : List ℕ) (l' w w' : Option (List ℕ)) (line cause : ℕ) → sheet_fault bs ≡ None → HasRefused (Some bs) l' w w' line cause → ⊥
+not-refused bs None w w' line cause e h = h.read
+not-refused bs (Some ys) w w' line cause e h =
+    let at_end : length h.bytes < 16777217 → ⊥ = λ l.
+    let same : bs ≡ h.bytes = h.read ∙ ap (λ t. h.bytes ++ t) (h.ended l) ∙ append-nil h.bytes in
+    some_none _ (sheet_fault bs) (ap sheet_fault same ∙ h.fault) e in
+    let too_long : 16777217 ≤ length h.bytes → ⊥ = λ l. omega (arith, l, sheet-short bs e, ap length h.read, length-append h.bytes ys) in
+    ⊎_elim at_end too_long (either_way (length h.bytes) 16777217)
+
+-- over ends that don't fail a sheet is listed, or memory was wanting
+pub complete : (ending : Ending) (bs : List ℕ) (g : Parts) (l l' w w' : Option (List ℕ)) (s s' k k' : ℕ) → l ≡ Some bs → IsSheet bs g → ¬ (Rose s s') → ¬ (Rose k k') → EndsBy ending l l' w w' s s' k k' → ((status_of ending).code ≡ 0) ⊎ ((status_of ending).code ≡ 6)
+unfolding status_of
+complete Whole bs g l l' w w' s s' k k' told sheet source sink h = inl refl
+complete (NotSheet line cause) bs g l l' w w' s s' k k' told sheet source sink h = absurd (not-refused bs l' w w' line cause sheet.faultless (subst (λ x. HasRefused x l' w w' line cause) told h))
+complete ReadFault bs g l l' w w' s s' k k' told sheet source sink h = absurd (source h.0)
+complete WriteFault bs g l l' w w' s s' k k' told sheet source sink h = absurd (sink h.0)
+complete OutOfMemory bs g l l' w w' s s' k k' told sheet source sink h = inr refl

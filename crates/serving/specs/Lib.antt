@@ -1,0 +1,5 @@
+pub mod Words
+pub mod SheetLines
+pub mod Sheets
+pub mod Standing
+pub mod Runs
