@@ -90,7 +90,11 @@ fn faults_have_their_codes(rt: HostRuntime) -> Result<(), AllocError> {
         assert_eq!(rt; found, status(4, 0, 0));
         assert!(rt; written.is_empty());
     }
-    for (write, wanted) in [(1u64, ""), (2, "5 x\n25 f(x"), (3, "5 x\n25 f(x)\n45 f(f(")] {
+    for (write, wanted) in [
+        (1u64, ""),
+        (2, "5 x\n25 f(x"),
+        (3, "5 x\n25 f(x)\n45 f(f(x"),
+    ] {
         let (found, written) = listed(rt.alloc(), CALLS, 10, 0, write)?;
         assert_eq!(rt; found, status(5, 0, 0));
         assert_eq!(rt; written.as_slice(), wanted.as_bytes());

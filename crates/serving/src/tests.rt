@@ -17,87 +17,88 @@ fn found(alloc: Global, bytes: &[u8]) -> Result<(u32, u32), AllocError> {
     }
 }
 
-// Sheets without their first line, each with the line and the cause of its first fault.
+/// Sheets without their first line, each with the line and the cause of its first fault.
+const FAULTS: [(&str, u32, u32); 43] = [
+    (
+        "type int\ntype long\nsub int long\ndecl 5 int name x\ndecl 20 int call f long\ngoal long\nlimit 75",
+        0,
+        0,
+    ),
+    ("type int\r\ngoal int\r\n", 0, 0),
+    ("# a comment\r with a return\n\ntype int\n#\ngoal int", 0, 0),
+    (
+        "type ->\ndecl 5 -> lambda S -> -> ->\ngoal ->\ndepth 0\nbinder q\nlimit 000000001",
+        0,
+        0,
+    ),
+    (
+        "type int\ntype P\ndecl 5 P this\ndecl 20 int field k P\ndecl 20 int hidden-field j P\ngoal int",
+        0,
+        0,
+    ),
+    (
+        "type A\ntype B\nsub B A\ndecl 5 B name b\ncrowded 25 A method m A\ndecl 5 A new A\ngoal A\nlimit 70",
+        0,
+        0,
+    ),
+    ("type int\nsub int short", 3, 5),
+    ("type int\ngoal int\nlimit 0", 4, 15),
+    (
+        "type int\ntype long\ntype A\nsub int long\nsub long A\ngoal A",
+        8,
+        16,
+    ),
+    ("type int\ngoal int\ndepth 2", 4, 17),
+    (
+        "type int\ndecl 5 int name x\nsub int int\ngoal int\ndecl 4 int name y\nlimit 0",
+        7,
+        15,
+    ),
+    ("type int\ndecl 4 int name x\nsub int int\ngoal int", 4, 12),
+    (
+        "type int\ntype long\nsub int long\nsub int long\ngoal int",
+        5,
+        13,
+    ),
+    (
+        "type int\ndecl 5 int name x\ndecl 4 int name y\ngoal int",
+        4,
+        14,
+    ),
+    ("type int\ngoal int\ndecl 10001 int name y", 4, 14),
+    ("type int\ngoal int\n\ndecl 5 int name x int", 5, 18),
+    ("type int\ngoal int\ndecl 5 int method m", 4, 18),
+    ("type int\ngoal int\ndecl 5 int this int", 4, 18),
+    ("type int\ngoal int\ndecl 5 int field k", 4, 18),
+    ("type int\ntype int", 3, 6),
+    ("type int", 3, 8),
+    ("", 2, 8),
+    ("goal int", 2, 5),
+    ("type int\ngoal int\ngoal x", 4, 5),
+    ("type int\ngoal int\ngoal int", 4, 7),
+    ("type int\ngoal int\nlimit 5\nlimit 1234567890", 5, 4),
+    ("type int\ngoal int\nlimit 5\nlimit 6", 5, 7),
+    ("type int\ndepth 1\ndepth 1", 4, 7),
+    ("binder p\nbinder p", 3, 7),
+    ("limit -1", 2, 4),
+    ("limit", 2, 3),
+    ("limit ", 2, 3),
+    ("type  int", 2, 3),
+    (" type int", 2, 3),
+    (" ", 2, 3),
+    ("type int \n", 2, 3),
+    ("type a\rb", 2, 3),
+    ("type int\r", 2, 3),
+    ("Type int", 2, 3),
+    ("type int\ndecl 5 int name", 3, 3),
+    ("type int\ndecl x short name y", 3, 4),
+    ("type int\ndecl 5 int call f short", 3, 5),
+    ("type int\ndecl 5 int lambda S int int", 3, 3),
+];
+
 #[test]
 fn first_faults_of_sheets(rt: HostRuntime) -> Result<(), AllocError> {
-    let table: [(&str, u32, u32); 43] = [
-        (
-            "type int\ntype long\nsub int long\ndecl 5 int name x\ndecl 20 int call f long\ngoal long\nlimit 75",
-            0,
-            0,
-        ),
-        ("type int\r\ngoal int\r\n", 0, 0),
-        ("# a comment\r with a return\n\ntype int\n#\ngoal int", 0, 0),
-        (
-            "type ->\ndecl 5 -> lambda S -> -> ->\ngoal ->\ndepth 0\nbinder q\nlimit 000000001",
-            0,
-            0,
-        ),
-        (
-            "type int\ntype P\ndecl 5 P this\ndecl 20 int field k P\ndecl 20 int hidden-field j P\ngoal int",
-            0,
-            0,
-        ),
-        (
-            "type A\ntype B\nsub B A\ndecl 5 B name b\ncrowded 25 A method m A\ndecl 5 A new A\ngoal A\nlimit 70",
-            0,
-            0,
-        ),
-        ("type int\nsub int short", 3, 5),
-        ("type int\ngoal int\nlimit 0", 4, 15),
-        (
-            "type int\ntype long\ntype A\nsub int long\nsub long A\ngoal A",
-            8,
-            16,
-        ),
-        ("type int\ngoal int\ndepth 2", 4, 17),
-        (
-            "type int\ndecl 5 int name x\nsub int int\ngoal int\ndecl 4 int name y\nlimit 0",
-            7,
-            15,
-        ),
-        ("type int\ndecl 4 int name x\nsub int int\ngoal int", 4, 12),
-        (
-            "type int\ntype long\nsub int long\nsub int long\ngoal int",
-            5,
-            13,
-        ),
-        (
-            "type int\ndecl 5 int name x\ndecl 4 int name y\ngoal int",
-            4,
-            14,
-        ),
-        ("type int\ngoal int\ndecl 10001 int name y", 4, 14),
-        ("type int\ngoal int\n\ndecl 5 int name x int", 5, 18),
-        ("type int\ngoal int\ndecl 5 int method m", 4, 18),
-        ("type int\ngoal int\ndecl 5 int this int", 4, 18),
-        ("type int\ngoal int\ndecl 5 int field k", 4, 18),
-        ("type int\ntype int", 3, 6),
-        ("type int", 3, 8),
-        ("", 2, 8),
-        ("goal int", 2, 5),
-        ("type int\ngoal int\ngoal x", 4, 5),
-        ("type int\ngoal int\ngoal int", 4, 7),
-        ("type int\ngoal int\nlimit 5\nlimit 1234567890", 5, 4),
-        ("type int\ngoal int\nlimit 5\nlimit 6", 5, 7),
-        ("type int\ndepth 1\ndepth 1", 4, 7),
-        ("binder p\nbinder p", 3, 7),
-        ("limit -1", 2, 4),
-        ("limit", 2, 3),
-        ("limit ", 2, 3),
-        ("type  int", 2, 3),
-        (" type int", 2, 3),
-        (" ", 2, 3),
-        ("type int \n", 2, 3),
-        ("type a\rb", 2, 3),
-        ("type int\r", 2, 3),
-        ("Type int", 2, 3),
-        ("type int\ndecl 5 int name", 3, 3),
-        ("type int\ndecl x short name y", 3, 4),
-        ("type int\ndecl 5 int call f short", 3, 5),
-        ("type int\ndecl 5 int lambda S int int", 3, 3),
-    ];
-    for (body, line, cause) in table {
+    for (body, line, cause) in FAULTS {
         assert_eq!(rt; fault(rt.alloc(), body)?, (line, cause));
     }
     Ok(())
