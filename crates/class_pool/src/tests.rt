@@ -68,8 +68,11 @@ fn the_first_fault_of_a_pool_is_answered(rt: HostRuntime) -> Result<(), Fail> {
     ];
     for (place, value, len, at, cause) in rows {
         let mut bytes = LONG;
-        bytes[place] = value;
-        match read_pool(rt.alloc(), &bytes[..len]) {
+        if let Some(byte) = bytes.get_mut(place) {
+            *byte = value;
+        }
+        let front = bytes.get(..len).ok_or("the bytes are as long")?;
+        match read_pool(rt.alloc(), front) {
             Err(fault) => {
                 assert_eq!(rt; fault.at, at);
                 assert_eq!(rt; fault.cause, cause);

@@ -110,6 +110,12 @@ const READ: [(usize, u8); 8] = [
     (162, 0),
 ];
 
+fn change(bytes: &mut [u8], place: usize, value: u8) {
+    if let Some(byte) = bytes.get_mut(place) {
+        *byte = value;
+    }
+}
+
 fn has(answer: &Result<ClassShape, ClassFault>, at: u32, cause: ClassCause) -> bool {
     match answer {
         Ok(_) => false,
@@ -167,12 +173,12 @@ fn each_prefix_and_each_changed_byte(rt: HostRuntime) -> Result<(), Fail> {
 fn uses_are_followed_in_file_order(rt: HostRuntime) -> Result<(), Fail> {
     for (place, value, at, cause) in FAULTS {
         let mut bytes = B;
-        bytes[place] = value;
+        change(&mut bytes, place, value);
         assert!(rt; has(&read_class(rt.alloc(), &bytes), at, cause));
     }
     for (place, value) in READ {
         let mut bytes = B;
-        bytes[place] = value;
+        change(&mut bytes, place, value);
         assert!(rt; read_class(rt.alloc(), &bytes).is_ok());
     }
     Ok(())
@@ -223,6 +229,10 @@ fn same_methods(rt: &HostRuntime, methods: u16) -> Result<Vec<u8>, Fail> {
 #[test]
 fn a_long_text_named_often_takes_no_memory(rt: HostRuntime) -> Result<(), Fail> {
     let few = same_methods(&rt, 8)?;
+    let many = same_methods(&rt, 4000)?;
+    if few.len() > 1_000_000 || many.len() > 1_000_000 {
+        return Err("the files are short".into());
+    }
     assert!(rt;
         has(
             &read_class(rt.alloc(), &few),
@@ -230,7 +240,6 @@ fn a_long_text_named_often_takes_no_memory(rt: HostRuntime) -> Result<(), Fail> 
             ClassCause::Descriptor
         )
     );
-    let many = same_methods(&rt, 4000)?;
     assert!(rt; has(&read_class(rt.alloc(), &many), 0, ClassCause::OutOfMemory));
     Ok(())
 }
