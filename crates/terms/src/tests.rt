@@ -2,16 +2,46 @@ use crate::{Arg, Ctx, Decl, Env, EnvFault, Form, Parts, Term, TermArg};
 use lists::{Copies, Items, Text};
 use std::alloc::{AllocError, Global};
 
-/// A declaration with this form and a weight.
+/// What is told of a small environment: the types int, long and short, `decl 5 int name x` and one more
+/// declaration.
+#[derive(Clone, Copy)]
+struct Sheet {
+    limit: u32,
+    depth: u32,
+    pairs: &'static [(u32, u32)],
+    weight: u32,
+    of: u32,
+    goal: u32,
+}
+
+/// `sub int long`, `decl 20 int call f long`, `goal long`, `limit 75`.
+const COERCIONS: Sheet = Sheet {
+    limit: 75,
+    depth: 0,
+    pairs: &[(0, 1)],
+    weight: 20,
+    of: 0,
+    goal: 1,
+};
+
+fn types(alloc: Global) -> Result<Items<Text>, AllocError> {
+    let mut types = Items::new(alloc);
+    for word in ["int", "long", "short"] {
+        types.push(Text::from_str(alloc, word)?)?;
+    }
+    Ok(types)
+}
+
+/// A declaration over at most one argument.
 fn decl(
     alloc: Global,
     form: Form,
-    wanted: Option<Arg>,
+    arg: Option<Arg>,
     of: u32,
     weight: u32,
 ) -> Result<Decl, AllocError> {
     let mut args = Items::new(alloc);
-    if let Some(arg) = wanted {
+    if let Some(arg) = arg {
         args.push(arg)?;
     }
     Ok(Decl {
@@ -23,38 +53,25 @@ fn decl(
     })
 }
 
-/// `type int`, `type long`, `sub int long`, `decl 5 int name x`, `decl 20 int call f long`, `goal long`.
-fn coercions(alloc: Global, limit: u32) -> Result<Parts, AllocError> {
-    let mut types = Items::new(alloc);
-    types.push(Text::from_str(alloc, "int")?)?;
-    types.push(Text::from_str(alloc, "long")?)?;
+/// `decl 5 int name x`, and this one.
+fn decls(alloc: Global, last: Decl) -> Result<Items<Decl>, AllocError> {
     let x = Form::Name(Text::from_str(alloc, "x")?);
-    let f = Form::Call(Text::from_str(alloc, "f")?);
     let mut decls = Items::new(alloc);
     decls.push(decl(alloc, x, None, 0, 5)?)?;
-    decls.push(decl(alloc, f, Some(Arg::Plain(1)), 0, 20)?)?;
-    Ok(Parts {
-        types,
-        pairs: Items::from_slice(alloc, &[(0, 1)])?,
-        decls,
-        goal: 1,
-        limit,
-        depth: 0,
-        binder: Text::from_str(alloc, "p")?,
-    })
+    decls.push(last)?;
+    Ok(decls)
 }
 
-/// `type int`, `type I`, `decl 5 int name x`, `decl 10 I lambda I int -> int`, `goal I`, `limit 20`.
-fn lambdas(alloc: Global, depth: u32) -> Result<Parts, AllocError> {
-    let mut parts = coercions(alloc, 20)?;
-    let lambda = Form::Lambda(Text::from_str(alloc, "I")?);
-    let wanted = Arg::Fun(Items::from_slice(alloc, &[0])?, 0);
-    parts.pairs = Items::new(alloc);
-    parts
-        .decls
-        .set(1, decl(alloc, lambda, Some(wanted), 1, 10)?);
-    parts.depth = depth;
-    Ok(parts)
+fn parts(alloc: Global, sheet: Sheet, form: Form, arg: Option<Arg>) -> Result<Parts, AllocError> {
+    Ok(Parts {
+        types: types(alloc)?,
+        pairs: Items::from_slice(alloc, sheet.pairs)?,
+        decls: decls(alloc, decl(alloc, form, arg, sheet.of, sheet.weight)?)?,
+        goal: sheet.goal,
+        limit: sheet.limit,
+        depth: sheet.depth,
+        binder: Text::from_str(alloc, "p")?,
+    })
 }
 
 fn checked(alloc: Global, parts: Parts) -> Result<Env, EnvFault> {
@@ -64,111 +81,238 @@ fn checked(alloc: Global, parts: Parts) -> Result<Env, EnvFault> {
     Env::checked(alloc, parts)
 }
 
-/// A declaration over one argument.
-fn over(alloc: Global, number: u32, arg: TermArg) -> Result<Term, AllocError> {
+/// The environment of a sheet whose last declaration is a call of one long.
+fn calls(alloc: Global, sheet: Sheet) -> Result<Env, EnvFault> {
+    let f = Form::Call(Text::from_str(alloc, "f")?);
+    checked(alloc, parts(alloc, sheet, f, Some(Arg::Plain(1)))?)
+}
+
+/// `decl 10 long lambda long int -> int`, `goal long`, `limit 20`.
+fn lambdas(alloc: Global, depth: u32) -> Result<Env, EnvFault> {
+    let sheet = Sheet {
+        limit: 20,
+        depth,
+        pairs: &[],
+        weight: 10,
+        of: 1,
+        goal: 1,
+    };
+    let form = Form::Lambda(Text::from_str(alloc, "I")?);
+    let arg = Arg::Fun(Items::from_slice(alloc, &[0])?, 0);
+    checked(alloc, parts(alloc, sheet, form, Some(arg))?)
+}
+
+/// The last declaration over one argument.
+fn over(alloc: Global, arg: TermArg) -> Result<Term, AllocError> {
     let mut args = Items::new(alloc);
     args.push(arg)?;
-    Ok(Term::Head(number, args))
+    Ok(Term::Head(1, args))
 }
 
 fn leaf(alloc: Global, number: u32) -> Term {
     Term::Head(number, Items::new(alloc))
 }
 
+/// `x` under so many calls.
+fn nested(alloc: Global, calls: u32) -> Result<Term, AllocError> {
+    let mut term = leaf(alloc, 0);
+    for _ in 0..calls {
+        term = over(alloc, TermArg::Plain(term))?;
+    }
+    Ok(term)
+}
+
+/// Whether the term has this weight, and is an inhabitant as said.
+fn is_so(env: &Env, term: &Term, weight: Option<u32>, inhabitant: bool) -> bool {
+    env.weight(&Ctx::empty(), term) == weight && env.is_inhabitant(term) == inhabitant
+}
+
 #[test]
 fn coercions_are_weighed_at_their_places(rt: HostRuntime) -> Result<(), EnvFault> {
-    let alloc = rt.alloc();
-    let env = checked(alloc, coercions(alloc, 75)?)?;
-    assert!(rt; env.is_below(0, 1));
-    assert!(rt; !env.is_below(1, 0));
-    let mut term = leaf(alloc, 0);
-    for (weight, within) in [(5, true), (35, true), (65, true), (95, false)] {
-        assert_eq!(rt; env.type_of(&Ctx::empty(), &term), Some(0));
-        assert_eq!(rt; env.weight(&Ctx::empty(), &term), Some(weight));
-        assert_eq!(rt; env.is_inhabitant(&term), within);
-        assert_eq!(rt;
-            env.copy(alloc)?.is_inhabitant(&Copies::copy(&term, alloc)?),
-            within
-        );
-        term = over(alloc, 1, TermArg::Plain(term))?;
+    let env = calls(rt.alloc(), COERCIONS)?;
+    for (calls, weight, inhabitant) in [
+        (0, 5, true),
+        (1, 35, true),
+        (2, 65, true),
+        (3, 95, false),
+    ] {
+        assert!(rt; is_so(&env, &nested(rt.alloc(), calls)?, Some(weight), inhabitant));
     }
-    let short = checked(alloc, coercions(alloc, 74)?)?;
-    let second = over(alloc, 1, TermArg::Plain(leaf(alloc, 0)))?;
-    assert!(rt; short.is_inhabitant(&second));
-    assert!(rt; !short.is_inhabitant(&over(alloc, 1, TermArg::Plain(second))?));
-    assert_eq!(rt; env.type_of(&Ctx::empty(), &leaf(alloc, 1)), None);
-    assert_eq!(rt; env.weight(&Ctx::empty(), &leaf(alloc, 2)), None);
+    Ok(())
+}
+
+#[test]
+fn the_limit_counts_the_goals_coercion(rt: HostRuntime) -> Result<(), EnvFault> {
+    let env = calls(
+        rt.alloc(),
+        Sheet {
+            limit: 74,
+            ..COERCIONS
+        },
+    )?;
+    for (calls, weight, inhabitant) in [(1, 35, true), (2, 65, false)] {
+        assert!(rt; is_so(&env, &nested(rt.alloc(), calls)?, Some(weight), inhabitant));
+    }
+    Ok(())
+}
+
+#[test]
+fn what_has_no_type_has_no_weight(rt: HostRuntime) -> Result<(), EnvFault> {
+    let env = calls(rt.alloc(), COERCIONS)?;
+    assert!(rt; is_so(&env, &leaf(rt.alloc(), 1), None, false));
+    assert!(rt; is_so(&env, &leaf(rt.alloc(), 2), None, false));
+    assert!(rt; is_so(&env, &Term::Var(0), None, false));
+    assert!(rt; env.is_below(0, 1) && !env.is_below(1, 0));
+    Ok(())
+}
+
+#[test]
+fn copies_answer_alike(rt: HostRuntime) -> Result<(), EnvFault> {
+    let env = calls(rt.alloc(), COERCIONS)?.copy(rt.alloc())?;
+    let term = nested(rt.alloc(), 2)?.copy(rt.alloc())?;
+    assert!(rt; is_so(&env, &term, Some(65), true));
     assert_eq!(rt; env.parts().decls.len(), 2);
     Ok(())
 }
 
 #[test]
 fn lambdas_bind_and_are_weighed(rt: HostRuntime) -> Result<(), EnvFault> {
-    let alloc = rt.alloc();
-    let env = checked(alloc, lambdas(alloc, 1)?)?;
-    let flat = checked(alloc, lambdas(alloc, 0)?)?;
-    let bound = over(alloc, 1, TermArg::Lam(Term::Var(0)))?;
-    let constant = over(alloc, 1, TermArg::Lam(leaf(alloc, 0)))?;
-    assert_eq!(rt; env.weight(&Ctx::empty(), &bound), Some(12));
-    assert_eq!(rt; env.weight(&Ctx::empty(), &constant), Some(16));
-    assert!(rt; env.is_inhabitant(&bound) && env.is_inhabitant(&constant));
-    assert!(rt; !flat.is_inhabitant(&bound));
-    assert!(rt; !env.is_inhabitant(&over(alloc, 1, TermArg::Lam(Term::Var(1)))?));
+    let bound = over(rt.alloc(), TermArg::Lam(Term::Var(0)))?;
+    let env = lambdas(rt.alloc(), 1)?;
+    assert!(rt; is_so(&env, &bound, Some(12), true));
+    assert!(rt;
+        is_so(
+            &env,
+            &over(rt.alloc(), TermArg::Lam(leaf(rt.alloc(), 0)))?,
+            Some(16),
+            true
+        )
+    );
+    assert!(rt;
+        is_so(
+            &env,
+            &over(rt.alloc(), TermArg::Lam(Term::Var(1)))?,
+            None,
+            false
+        )
+    );
+    assert!(rt; is_so(&lambdas(rt.alloc(), 0)?, &bound, Some(12), false));
+    Ok(())
+}
+
+#[test]
+fn contexts_have_at_most_three_rows(rt: HostRuntime) -> Result<(), EnvFault> {
+    let env = lambdas(rt.alloc(), 1)?;
     let row = [0];
     let full = Ctx::empty().with(&row).with(&row).with(&row);
     assert_eq!(rt; env.type_of(&full, &Term::Var(2)), Some(0));
     assert_eq!(rt; env.type_of(&full, &Term::Var(3)), None);
-    assert_eq!(rt; env.type_of(&full, &bound), None);
+    assert_eq!(rt;
+        env.type_of(&full, &over(rt.alloc(), TermArg::Lam(Term::Var(0)))?),
+        None
+    );
     assert_eq!(rt; env.type_of(&Ctx { used: 4, ..full }, &Term::Var(0)), None);
     Ok(())
 }
 
-/// The parts with coercions, with one thing changed.
-fn changed(alloc: Global, case: usize) -> Result<Parts, AllocError> {
-    let mut parts = coercions(alloc, 75)?;
-    match case {
-        0 => parts.limit = 0,
-        1 => parts.limit = 10_001,
-        2 => parts.depth = 2,
-        3 => parts.pairs = Items::from_slice(alloc, &[(0, 1), (1, 2)])?,
-        4 => parts.pairs = Items::from_slice(alloc, &[(1, 1)])?,
-        5 => parts.pairs = Items::from_slice(alloc, &[(0, 1), (1, 0), (0, 1)])?,
-        6 => parts.pairs = Items::from_slice(alloc, &[(1, 0), (0, 1)])?,
-        7 => parts.decls.push(decl(alloc, Form::This, None, 2, 5)?)?,
-        8 => parts.decls.push(decl(alloc, Form::This, None, 0, 4)?)?,
-        9 => parts.decls.push(decl(alloc, Form::This, None, 0, 10_001)?)?,
-        10 => parts
-            .decls
-            .push(decl(alloc, Form::This, Some(Arg::Plain(0)), 0, 5)?)?,
-        11 => parts.goal = 2,
-        _ => {
-            parts.types.push(Text::from_str(alloc, "short")?)?;
-            parts.pairs = Items::from_slice(alloc, &[(2, 0), (0, 1)])?;
-        }
+#[test]
+fn the_first_fault_is_answered(rt: HostRuntime) -> Result<(), AllocError> {
+    let sheets = [
+        (
+            Sheet {
+                limit: 0,
+                depth: 2,
+                ..COERCIONS
+            },
+            EnvFault::Limit(0),
+        ),
+        (
+            Sheet {
+                limit: 10_001,
+                ..COERCIONS
+            },
+            EnvFault::Limit(10_001),
+        ),
+        (
+            Sheet {
+                depth: 2,
+                ..COERCIONS
+            },
+            EnvFault::Depth(2),
+        ),
+        (
+            Sheet {
+                pairs: &[(0, 1), (1, 3)],
+                ..COERCIONS
+            },
+            EnvFault::PairRange(1),
+        ),
+        (
+            Sheet {
+                pairs: &[(1, 1)],
+                ..COERCIONS
+            },
+            EnvFault::PairRange(0),
+        ),
+        (
+            Sheet {
+                pairs: &[(0, 1), (1, 0), (0, 1)],
+                ..COERCIONS
+            },
+            EnvFault::PairTwice(2),
+        ),
+        (
+            Sheet {
+                pairs: &[(1, 0), (0, 1)],
+                ..COERCIONS
+            },
+            EnvFault::NotTransitive(0, 1, 0),
+        ),
+        (
+            Sheet {
+                pairs: &[(2, 0), (0, 1)],
+                of: 3,
+                ..COERCIONS
+            },
+            EnvFault::NotTransitive(2, 0, 1),
+        ),
+        (Sheet { of: 3, ..COERCIONS }, EnvFault::TypeRange(1)),
+        (
+            Sheet {
+                weight: 4,
+                goal: 3,
+                ..COERCIONS
+            },
+            EnvFault::Weight(1),
+        ),
+        (
+            Sheet {
+                weight: 10_001,
+                ..COERCIONS
+            },
+            EnvFault::Weight(1),
+        ),
+        (
+            Sheet {
+                goal: 3,
+                ..COERCIONS
+            },
+            EnvFault::TypeRange(2),
+        ),
+    ];
+    for (sheet, fault) in sheets {
+        assert!(rt; calls(rt.alloc(), sheet).is_err_and(|e| e == fault));
     }
-    Ok(parts)
+    Ok(())
 }
 
 #[test]
-fn the_first_fault_is_answered(rt: HostRuntime) -> Result<(), AllocError> {
-    let alloc = rt.alloc();
-    let faults = [
-        EnvFault::Limit(0),
-        EnvFault::Limit(10_001),
-        EnvFault::Depth(2),
-        EnvFault::PairRange(1),
-        EnvFault::PairRange(0),
-        EnvFault::PairTwice(2),
-        EnvFault::NotTransitive(0, 1, 0),
-        EnvFault::TypeRange(2),
-        EnvFault::Weight(2),
-        EnvFault::Weight(2),
-        EnvFault::Form(2),
-        EnvFault::TypeRange(2),
-        EnvFault::NotTransitive(2, 0, 1),
-    ];
-    for (case, fault) in faults.iter().enumerate() {
-        assert_eq!(rt; checked(alloc, changed(alloc, case)?).err(), Some(*fault));
-    }
+fn arguments_suit_their_form(rt: HostRuntime) -> Result<(), AllocError> {
+    let wrong = checked(
+        rt.alloc(),
+        parts(rt.alloc(), COERCIONS, Form::This, Some(Arg::Plain(1)))?,
+    );
+    assert!(rt; wrong.is_err_and(|e| e == EnvFault::Form(1)));
+    assert!(rt; checked(rt.alloc(), parts(rt.alloc(), COERCIONS, Form::This, None)?).is_ok());
     Ok(())
 }
