@@ -18,7 +18,7 @@ fn found(alloc: Global, bytes: &[u8]) -> Result<(u32, u32), AllocError> {
 }
 
 /// Sheets without their first line, each with the line and the cause of its first fault.
-const FAULTS: [(&str, u32, u32); 43] = [
+const FAULTS: [(&str, u32, u32); 51] = [
     (
         "type int\ntype long\nsub int long\ndecl 5 int name x\ndecl 20 int call f long\ngoal long\nlimit 75",
         0,
@@ -94,12 +94,88 @@ const FAULTS: [(&str, u32, u32); 43] = [
     ("type int\ndecl x short name y", 3, 4),
     ("type int\ndecl 5 int call f short", 3, 5),
     ("type int\ndecl 5 int lambda S int int", 3, 3),
+    ("type int\nlimit 0", 4, 8),
+    ("type int\nnonsense", 3, 3),
+    (
+        "type int\ntype long\ntype A\nsub int long\nsub int long\nsub long A\ngoal A",
+        6,
+        13,
+    ),
+    (
+        "type int\ntype long\ntype A\nsub int long\nsub long A\nsub int int\ngoal A",
+        7,
+        12,
+    ),
+    (
+        "type int\ntype long\ntype A\nsub int long\nsub long A\ndecl 4 int name x\ngoal A",
+        9,
+        16,
+    ),
+    (
+        "type int\ngoal int\ndecl 5 int name x int\ndecl 4 int name y",
+        4,
+        18,
+    ),
+    (
+        "type int\ngoal int\ndecl 4 int name y\ndecl 5 int name x int",
+        4,
+        14,
+    ),
+    ("type int\ngoal int\ndecl 4 int name x int", 4, 14),
 ];
 
 #[test]
 fn first_faults_of_sheets(rt: HostRuntime) -> Result<(), AllocError> {
     for (body, line, cause) in FAULTS {
         assert_eq!(rt; fault(rt.alloc(), body)?, (line, cause));
+    }
+    Ok(())
+}
+
+/// Lines with a cause of their own after a good sheet, and lines that only the environment refuses, in the
+/// order in which it looks at them.
+const BY_LINE: [(&str, u32); 5] = [
+    ("nonsense", 3),
+    ("limit x", 4),
+    ("goal short", 5),
+    ("type int", 6),
+    ("goal int", 7),
+];
+
+const BY_PARTS: [(&str, u32); 4] = [
+    ("limit 0", 15),
+    ("depth 2", 17),
+    ("sub int int", 12),
+    ("decl 4 int name x", 14),
+];
+
+/// The fault of a good sheet with two further lines, of which the first has the number 4.
+fn of_two(alloc: Global, first: &str, second: &str) -> Result<(u32, u32), AllocError> {
+    let body = format!(in alloc; "type int\ngoal int\n{first}\n{second}")?;
+    fault(alloc, &body)
+}
+
+#[test]
+fn the_earlier_line_comes_first(rt: HostRuntime) -> Result<(), AllocError> {
+    for (line, cause) in BY_LINE {
+        for (other, _) in BY_LINE {
+            assert_eq!(rt; of_two(rt.alloc(), line, other)?, (4, cause));
+        }
+        for (other, _) in BY_PARTS {
+            assert_eq!(rt; of_two(rt.alloc(), other, line)?, (5, cause));
+        }
+    }
+    Ok(())
+}
+
+#[test]
+fn the_environment_has_an_order_of_its_own(rt: HostRuntime) -> Result<(), AllocError> {
+    let ordered = [(0, 1), (0, 2), (0, 3), (1, 2), (1, 3), (2, 3)];
+    for (earlier, later) in ordered {
+        let (line, cause) = BY_PARTS.get(earlier).copied().unwrap_or(("", 0));
+        let (other, _) = BY_PARTS.get(later).copied().unwrap_or(("", 0));
+        assert_eq!(rt; of_two(rt.alloc(), line, other)?, (4, cause));
+        assert_eq!(rt; of_two(rt.alloc(), other, line)?, (5, cause));
     }
     Ok(())
 }
