@@ -41,6 +41,9 @@ fn env_of(alloc: Global, goal: u32) -> Result<Option<Env>, AllocError> {
         depth: 0,
         binder: Text::from_str(alloc, "p")?,
     };
+    if !parts.has_lengths() {
+        return Ok(None);
+    }
     match Env::checked(alloc, parts) {
         Ok(env) => Ok(Some(env)),
         Err(_) => Ok(None),
@@ -49,6 +52,9 @@ fn env_of(alloc: Global, goal: u32) -> Result<Option<Env>, AllocError> {
 
 /// The page of a new listing.
 fn page_of(alloc: Global, goal: u32, from: u64, count: u64) -> Result<Option<Page>, AllocError> {
+    if from > 100 || count == 0 || count > 100 {
+        return Ok(None);
+    }
     match env_of(alloc, goal)? {
         Some(env) => {
             let mut listing: Listing<Plain> = Listing::new(alloc, env)?;
