@@ -1,4 +1,0 @@
-pub mod Numberings
-pub mod Rising
-pub mod Needs
-pub mod Places
