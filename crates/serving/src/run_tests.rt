@@ -32,9 +32,24 @@ fn listed(
     let words = vec![in alloc; String::from_str(alloc, "list")?]?;
     let status = run(alloc, words.as_slice(), &mut ends);
     match ends.pop() {
-        Some(end) => Ok((status, end.sink.bytes)),
+        Some(end) => Ok((status, written(end))),
         None => Err(AllocError),
     }
+}
+
+/// What the sink of an end holds.
+fn written(end: End<MemSource<'_>, MemSink, SteadyShelf>) -> Vec<u8> {
+    let End {
+        source: _,
+        sink,
+        shelf: _,
+    } = end;
+    let MemSink {
+        bytes,
+        most: _,
+        plan: _,
+    } = sink;
+    bytes
 }
 
 /// A status by its code, place and cause, of end 0.
