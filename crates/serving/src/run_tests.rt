@@ -67,7 +67,7 @@ const CALLS: &str = "type int\ndecl 5 int name x\ndecl 20 int call f int\ngoal i
 // Sheets without their first line, and what is written for them.
 #[test]
 fn sheets_are_listed(rt: HostRuntime) -> Result<(), AllocError> {
-    let table: [(&str, &str); 6] = [
+    let table: [(&str, &str); 7] = [
         ("type int\ntype A\ndecl 5 int name x\ngoal A", ""),
         (
             "type int\ndecl 5 int name b\ndecl 5 int name a\ngoal int",
@@ -85,6 +85,10 @@ fn sheets_are_listed(rt: HostRuntime) -> Result<(), AllocError> {
         (
             "type A\ntype B\nsub B A\ndecl 5 B name b\ncrowded 25 A method m A\ngoal A\nlimit 70",
             "15 b\n40 ((A) b).m()\n65 ((A) b).m().m()\n",
+        ),
+        (
+            "type int\ntype P\ndecl 5 P this\ndecl 20 int field k P\ndecl 20 int hidden-field j P\ngoal int",
+            "25 k\n25 this.j\n",
         ),
     ];
     for (sheet, wanted) in table {

@@ -132,51 +132,113 @@ fn first_faults_of_sheets(rt: HostRuntime) -> Result<(), AllocError> {
     Ok(())
 }
 
-/// Lines with a cause of their own after a good sheet, and lines that only the environment refuses, in the
-/// order in which it looks at them.
-const BY_LINE: [(&str, u32); 5] = [
-    ("nonsense", 3),
-    ("limit x", 4),
-    ("goal short", 5),
-    ("type int", 6),
-    ("goal int", 7),
+/// Lines that bring a fault to a good sheet, each with its cause and with when it is looked for: 0 as the lines
+/// are read, else by the order in which the environment is looked at.
+const FLAWS: [(&str, u32, u32); 12] = [
+    ("nonsense", 3, 0),
+    ("limit x", 4, 0),
+    ("sub int short", 5, 0),
+    ("type int", 6, 0),
+    ("binder q", 7, 0),
+    ("limit 0", 15, 1),
+    ("depth 2", 17, 2),
+    ("sub int int", 12, 3),
+    ("sub int long", 13, 3),
+    ("sub long A", 16, 4),
+    ("decl 4 int name x", 14, 5),
+    ("decl 5 int name x int", 18, 5),
 ];
 
-const BY_PARTS: [(&str, u32); 4] = [
-    ("limit 0", 15),
-    ("depth 2", 17),
-    ("sub int int", 12),
-    ("decl 4 int name x", 14),
-];
+/// A good sheet of seven lines where the goal is `goal int`.
+fn sheet(alloc: Global, goal: &str, more: &str) -> Result<String, AllocError> {
+    format!(in alloc;
+        "insynth sheet 1\ntype int\ntype long\ntype A\nsub int long\nbinder p\n{goal}\n{more}"
+    )
+}
 
-/// The fault of a good sheet with two further lines, of which the first has the number 4.
+/// The fault of a good sheet with two further lines, the lines 8 and 9.
 fn of_two(alloc: Global, first: &str, second: &str) -> Result<(u32, u32), AllocError> {
-    let body = format!(in alloc; "type int\ngoal int\n{first}\n{second}")?;
-    fault(alloc, &body)
+    let more = format!(in alloc; "{first}\n{second}")?;
+    let text = sheet(alloc, "goal int", &more)?;
+    found(alloc, text.as_bytes())
+}
+
+/// The place of a fault: a missing pair stands at the sheet's end.
+fn at(line: u32, cause: u32, end: u32) -> (u32, u32) {
+    if cause == 16 {
+        (end, cause)
+    } else {
+        (line, cause)
+    }
 }
 
 #[test]
-fn the_earlier_line_comes_first(rt: HostRuntime) -> Result<(), AllocError> {
-    for (line, cause) in BY_LINE {
-        for (other, _) in BY_LINE {
-            assert_eq!(rt; of_two(rt.alloc(), line, other)?, (4, cause));
-        }
-        for (other, _) in BY_PARTS {
-            assert_eq!(rt; of_two(rt.alloc(), other, line)?, (5, cause));
+fn of_two_faults_the_first_is_answered(rt: HostRuntime) -> Result<(), AllocError> {
+    for (one, cause, when) in FLAWS {
+        for (two, other, later) in FLAWS {
+            let wanted = if when <= later {
+                at(8, cause, 10)
+            } else {
+                at(9, other, 10)
+            };
+            if one != two {
+                assert_eq!(rt; of_two(rt.alloc(), one, two)?, wanted);
+            }
         }
     }
     Ok(())
 }
 
 #[test]
-fn the_environment_has_an_order_of_its_own(rt: HostRuntime) -> Result<(), AllocError> {
-    let ordered = [(0, 1), (0, 2), (0, 3), (1, 2), (1, 3), (2, 3)];
-    for (earlier, later) in ordered {
-        let (line, cause) = BY_PARTS.get(earlier).copied().unwrap_or(("", 0));
-        let (other, _) = BY_PARTS.get(later).copied().unwrap_or(("", 0));
-        assert_eq!(rt; of_two(rt.alloc(), line, other)?, (4, cause));
-        assert_eq!(rt; of_two(rt.alloc(), other, line)?, (5, cause));
+fn each_fault_stands_at_its_line(rt: HostRuntime) -> Result<(), AllocError> {
+    for (flaw, cause, _) in FLAWS {
+        let text = sheet(rt.alloc(), "goal int", flaw)?;
+        assert_eq!(rt; found(rt.alloc(), text.as_bytes())?, at(8, cause, 9));
     }
+    Ok(())
+}
+
+// Line faults come before the missing goal, and that before what the environment refuses.
+#[test]
+fn a_missing_goal_stands_at_the_end(rt: HostRuntime) -> Result<(), AllocError> {
+    for (flaw, cause, when) in FLAWS {
+        let wanted = if when == 0 { (8, cause) } else { (9, 8) };
+        let text = sheet(rt.alloc(), "#", flaw)?;
+        assert_eq!(rt; found(rt.alloc(), text.as_bytes())?, wanted);
+    }
+    Ok(())
+}
+
+/// A sheet whose first line is another, a sheet with a bad byte at its end, and a sheet that is too long.
+fn spoiled(alloc: Global, flaw: &str, end: &[u8]) -> Result<(u32, u32), AllocError> {
+    let text = sheet(alloc, "goal int", flaw)?;
+    let mut bytes = Vec::new(alloc);
+    bytes.extend_from_slice(text.as_bytes())?;
+    bytes.extend_from_slice(end)?;
+    found(alloc, bytes.as_slice())
+}
+
+#[test]
+fn a_first_line_comes_before_the_others(rt: HostRuntime) -> Result<(), AllocError> {
+    for (flaw, _, _) in FLAWS {
+        let text = format!(in rt.alloc(); "insynth sheet 2\ntype int\n{flaw}")?;
+        assert_eq!(rt; found(rt.alloc(), text.as_bytes())?, (1, 2));
+    }
+    Ok(())
+}
+
+// Bytes that are no text come before all faults of lines, and the length before these.
+#[test]
+fn lengths_and_bytes_come_before_the_lines(rt: HostRuntime) -> Result<(), AllocError> {
+    let mut long = vec![in rt.alloc(); b'#'; 16_777_217]?;
+    for (flaw, _, _) in FLAWS {
+        assert_eq!(rt; spoiled(rt.alloc(), flaw, b"\n\xff")?, (9, 1));
+        assert_eq!(rt; spoiled(rt.alloc(), flaw, long.as_slice())?, (0, 9));
+    }
+    if let Some(byte) = long.get_mut(0) {
+        *byte = 255;
+    }
+    assert_eq!(rt; found(rt.alloc(), long.as_slice())?, (0, 9));
     Ok(())
 }
 
@@ -192,8 +254,6 @@ fn first_lines_bytes_and_lengths(rt: HostRuntime) -> Result<(), AllocError> {
     assert_eq!(rt; found(alloc, b"insynth sheet 1")?, (2, 8));
     assert_eq!(rt; found(alloc, b"insynth sheet 2\n\xff")?, (2, 1));
     assert_eq!(rt; found(alloc, b"\n\n\xc3\n")?, (3, 1));
-    let long = vec![in alloc; b'#'; 16_777_217]?;
-    assert_eq!(rt; found(alloc, long.as_slice())?, (0, 9));
     Ok(())
 }
 
