@@ -215,92 +215,94 @@ fn contexts_have_at_most_three_rows(rt: HostRuntime) -> Result<(), EnvFault> {
     Ok(())
 }
 
+/// Sheets, each with the first fault of its environment.
+const FAULTS: [(Sheet, EnvFault); 12] = [
+    (
+        Sheet {
+            limit: 0,
+            depth: 2,
+            ..COERCIONS
+        },
+        EnvFault::Limit(0),
+    ),
+    (
+        Sheet {
+            limit: 10_001,
+            ..COERCIONS
+        },
+        EnvFault::Limit(10_001),
+    ),
+    (
+        Sheet {
+            depth: 2,
+            ..COERCIONS
+        },
+        EnvFault::Depth(2),
+    ),
+    (
+        Sheet {
+            pairs: &[(0, 1), (1, 3)],
+            ..COERCIONS
+        },
+        EnvFault::PairRange(1),
+    ),
+    (
+        Sheet {
+            pairs: &[(1, 1)],
+            ..COERCIONS
+        },
+        EnvFault::PairRange(0),
+    ),
+    (
+        Sheet {
+            pairs: &[(0, 1), (1, 0), (0, 1)],
+            ..COERCIONS
+        },
+        EnvFault::PairTwice(2),
+    ),
+    (
+        Sheet {
+            pairs: &[(1, 0), (0, 1)],
+            ..COERCIONS
+        },
+        EnvFault::NotTransitive(0, 1, 0),
+    ),
+    (
+        Sheet {
+            pairs: &[(2, 0), (0, 1)],
+            of: 3,
+            ..COERCIONS
+        },
+        EnvFault::NotTransitive(2, 0, 1),
+    ),
+    (Sheet { of: 3, ..COERCIONS }, EnvFault::TypeRange(1)),
+    (
+        Sheet {
+            weight: 4,
+            goal: 3,
+            ..COERCIONS
+        },
+        EnvFault::Weight(1),
+    ),
+    (
+        Sheet {
+            weight: 10_001,
+            ..COERCIONS
+        },
+        EnvFault::Weight(1),
+    ),
+    (
+        Sheet {
+            goal: 3,
+            ..COERCIONS
+        },
+        EnvFault::TypeRange(2),
+    ),
+];
+
 #[test]
 fn the_first_fault_is_answered(rt: HostRuntime) -> Result<(), AllocError> {
-    let sheets = [
-        (
-            Sheet {
-                limit: 0,
-                depth: 2,
-                ..COERCIONS
-            },
-            EnvFault::Limit(0),
-        ),
-        (
-            Sheet {
-                limit: 10_001,
-                ..COERCIONS
-            },
-            EnvFault::Limit(10_001),
-        ),
-        (
-            Sheet {
-                depth: 2,
-                ..COERCIONS
-            },
-            EnvFault::Depth(2),
-        ),
-        (
-            Sheet {
-                pairs: &[(0, 1), (1, 3)],
-                ..COERCIONS
-            },
-            EnvFault::PairRange(1),
-        ),
-        (
-            Sheet {
-                pairs: &[(1, 1)],
-                ..COERCIONS
-            },
-            EnvFault::PairRange(0),
-        ),
-        (
-            Sheet {
-                pairs: &[(0, 1), (1, 0), (0, 1)],
-                ..COERCIONS
-            },
-            EnvFault::PairTwice(2),
-        ),
-        (
-            Sheet {
-                pairs: &[(1, 0), (0, 1)],
-                ..COERCIONS
-            },
-            EnvFault::NotTransitive(0, 1, 0),
-        ),
-        (
-            Sheet {
-                pairs: &[(2, 0), (0, 1)],
-                of: 3,
-                ..COERCIONS
-            },
-            EnvFault::NotTransitive(2, 0, 1),
-        ),
-        (Sheet { of: 3, ..COERCIONS }, EnvFault::TypeRange(1)),
-        (
-            Sheet {
-                weight: 4,
-                goal: 3,
-                ..COERCIONS
-            },
-            EnvFault::Weight(1),
-        ),
-        (
-            Sheet {
-                weight: 10_001,
-                ..COERCIONS
-            },
-            EnvFault::Weight(1),
-        ),
-        (
-            Sheet {
-                goal: 3,
-                ..COERCIONS
-            },
-            EnvFault::TypeRange(2),
-        ),
-    ];
-    for (sheet, fault) in sheets {
+    for (sheet, fault) in FAULTS {
         assert!(rt; calls(rt.alloc(), sheet).is_err_and(|e| e == fault));
     }
     Ok(())
