@@ -4,7 +4,7 @@ use crate::{
 };
 use lists::{Items, Text};
 use outside::{FaultPlan, MemSink, MemSource};
-use std::alloc::AllocError;
+use std::alloc::{AllocError, Global};
 
 const SHUTDOWN: &[u8] = b"{\"jsonrpc\":\"2.0\",\"id\":2,\"method\":\"shutdown\"}";
 
@@ -304,6 +304,38 @@ fn bodies_are_heard(rt: HostRuntime) -> Result<(), AllocError> {
             is_as_said(&found, row),
             "{}",
             String::from_utf8_lossy(rt.alloc(), row.body)?
+        );
+    }
+    Ok(())
+}
+
+/// What a notification is heard as whose parameters are arrays, one in another.
+fn heard_of_nested(
+    alloc: Global,
+    arrays: usize,
+) -> Result<Result<Message, RpcRefusal>, AllocError> {
+    let mut body = String::from_str(alloc, "{\"jsonrpc\":\"2.0\",\"method\":\"a\",\"params\":")?;
+    for _ in 0..arrays {
+        body.push_str("[")?;
+    }
+    for _ in 0..arrays {
+        body.push_str("]")?;
+    }
+    body.push_str("}")?;
+    Ok(read_message(alloc, body.as_bytes()))
+}
+
+// An object around 126 arrays is nested 127 deep.
+#[test]
+fn a_body_that_nests_too_deep_is_no_json(rt: HostRuntime) -> Result<(), AllocError> {
+    for arrays in [1usize, 100, 126] {
+        let found = heard_of_nested(rt.alloc(), arrays)?;
+        assert!(rt; matches!(&found, Ok(Message::Notice { .. })));
+    }
+    for arrays in [127usize, 199, 200, 100_000] {
+        let found = heard_of_nested(rt.alloc(), arrays)?;
+        assert!(rt;
+            matches!(&found, Err(RpcRefusal::Fault(fault)) if fault.code == -32700 && fault.id.is_none())
         );
     }
     Ok(())
