@@ -1,0 +1,7 @@
+use Rattle.std.proofs.Common.{◌≡◌, ◌++◌, take}
+use Rattle.std.specs.List.{flat_map}
+use Rattle.workload.specs.Needs.{row_needs}
+use Rattle.workload.proofs.needs.NeedList.push_rows.Given as goal
+
+abbrev pub invariant-loop-i : goal.invariant-loop-i
+invariant-loop-i l = l.self ≡ l.initial.self ++ flat_map row_needs (take l.i l.rows)
