@@ -1,0 +1,5 @@
+pub mod Answers
+pub mod Cuts
+pub mod Lists
+pub mod Refusals
+pub mod Texts

@@ -1,0 +1,13 @@
+use Rattle.std.proofs.Common.{rules}
+use Rattle.lsp_forms.specs.Commands.{is_pair}
+use Rattle.lsp_forms.proofs.Lists.{every-end, every-more, every-stop}
+use Rattle.lsp_forms.proofs.publishing.are_pairs.Goals as goal
+
+pub returns-then-not-is_pair : goal.returns-then-not-is_pair
+returns-then-not-is_pair c = every-stop is_pair _ _ _ _ c.loop-value.invariant (c.in-Some.ensures.cases).0 (search rules)
+
+pub loop-value-preserved : goal.loop-value-preserved
+loop-value-preserved c = every-more is_pair _ _ _ _ c.loop-value.invariant (c.in-Some.ensures.cases).0 (search rules)
+
+pub returns : goal.returns
+returns c = every-end is_pair _ _ c.loop-value.invariant c.in_default.ensures.cases

@@ -1,0 +1,11 @@
+use Rattle.std.proofs.Common.{◌≡◌, length}
+use Rattle.serde_json.specs.View.{items_view}
+use Rattle.lsp_forms.specs.Commands.{is_pair}
+use Rattle.lsp_forms.specs.Params.{every}
+use Rattle.lsp_forms.proofs.publishing.are_pairs.Given as goal
+
+abbrev pub invariant-loop-value : goal.invariant-loop-value
+invariant-loop-value l = every is_pair (items_view l.values) ≡ every is_pair (items_view l.rest)
+
+abbrev pub decreases-loop-value : goal.decreases-loop-value
+decreases-loop-value l = length l.rest

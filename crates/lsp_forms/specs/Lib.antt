@@ -1,0 +1,6 @@
+pub mod Commands
+pub mod Forms
+pub mod Keys
+pub mod Params
+pub mod Paths
+pub mod Results

@@ -1,0 +1,89 @@
+use lists::{Items, Text};
+
+/// Why parameters are refused: the cause, and the number in its list that it speaks of, 0 where no list
+/// is meant. The causes are 1 (missing or of the wrong kind), 2 (no whole number, or out of its range),
+/// 7 (an unknown command), 8 (no file URI), 12 (no internal name) and 13 (no key of a member).
+#[derive(Clone, Copy, Debug, PartialEq, Eq)]
+pub struct ParamFault {
+    pub cause: u32,
+    pub index: u32,
+}
+
+/// The options of `initialize`, with defaults for what is left out.
+#[derive(Clone, Copy, Debug, PartialEq, Eq)]
+pub struct Initialize {
+    /// The greatest weight of a term, 1 to 10,000; 4,000 by default.
+    pub limit: u32,
+    /// How deep lambdas nest, 0 or 1; 1 by default.
+    pub depth: u32,
+    /// How many items a page has, 1 to 1,000; 20 by default.
+    pub count: u64,
+}
+
+/// The parameters of `textDocument/didOpen`.
+#[derive(Debug, Drop)]
+pub struct DidOpen {
+    pub uri: Text,
+    pub text: Text,
+}
+
+/// One change of `textDocument/didChange`.
+#[derive(Debug, Drop)]
+pub struct ChangeForm {
+    /// The start and the end, each a line and a UTF-16 unit, both from 0; None for the whole text.
+    pub range: Option<((u32, u32), (u32, u32))>,
+    pub text: Text,
+}
+
+/// The parameters of `textDocument/didChange`. `changes` is None where they aren't well formed.
+#[derive(Debug, Drop)]
+pub struct DidChange {
+    pub uri: Text,
+    pub changes: Option<Items<ChangeForm>>,
+}
+
+/// The parameters of `textDocument/didClose`.
+#[derive(Debug, Drop)]
+pub struct DidClose {
+    pub uri: Text,
+}
+
+/// The parameters of `textDocument/completion`.
+#[derive(Debug, Drop)]
+pub struct Completion {
+    pub uri: Text,
+    pub line: u32,
+    pub character: u32,
+}
+
+/// The parameters of `workspace/executeCommand`.
+#[derive(Debug, Drop)]
+pub enum Command {
+    /// `insynth.page`: the next `count` items of a cursor, 1 to 1,000.
+    Page {
+        cursor: u32,
+        count: u64,
+    },
+    /// `insynth.close`: the cursor isn't kept any more.
+    Close {
+        cursor: u32,
+    },
+    /// `insynth.publish`: the decoded paths of class files to put, internal names of classes to remove,
+    /// and how often members are used, each by its key.
+    Publish {
+        puts: Items<Text>,
+        removes: Items<Text>,
+        counts: Items<(Text, u32)>,
+    },
+    /// `insynth.withdraw`: the changes up to this version are withdrawn.
+    Withdraw {
+        through: u32,
+    },
+}
+
+/// An item of a list of completions.
+#[derive(Debug, Drop)]
+pub struct ItemForm {
+    pub weight: u32,
+    pub text: Text,
+}

@@ -1,0 +1,529 @@
+use crate::{
+    Command, ItemForm, ParamFault, make_capabilities, make_list, make_version, read_command,
+    read_completion, read_did_change, read_did_close, read_did_open, read_initialize,
+};
+use json_rpc::Refused;
+use lists::Text;
+use serde_json::Value;
+use std::alloc::Global;
+use std::test::Fail;
+
+/// The methods whose parameters are read.
+#[derive(Clone, Copy)]
+enum Method {
+    Initialize,
+    Open,
+    Change,
+    Close,
+    Complete,
+    Execute,
+}
+
+/// Parameters of a method, and the cause and the index with which they are refused, or 0.
+struct Row {
+    method: Method,
+    params: &'static str,
+    cause: u32,
+    index: u32,
+}
+
+/// What a reader answered: the cause and the index, 0 for a form and 99 for want of memory.
+fn told<T: Drop>(answer: Result<T, Refused<ParamFault>>) -> (u32, u32) {
+    match answer {
+        Ok(_) => (0, 0),
+        Err(Refused::Fault(fault)) => (fault.cause, fault.index),
+        Err(Refused::OutOfMemory) => (99, 0),
+    }
+}
+
+fn outcome(alloc: Global, method: Method, params: &Value) -> (u32, u32) {
+    match method {
+        Method::Initialize => told(read_initialize(params)),
+        Method::Open => told(read_did_open(alloc, params)),
+        Method::Change => told(read_did_change(alloc, params)),
+        Method::Close => told(read_did_close(alloc, params)),
+        Method::Complete => told(read_completion(alloc, params)),
+        Method::Execute => told(read_command(alloc, params)),
+    }
+}
+
+const ROWS: [Row; 48] = [
+    Row {
+        method: Method::Initialize,
+        params: "{}",
+        cause: 0,
+        index: 0,
+    },
+    Row {
+        method: Method::Initialize,
+        params: "null",
+        cause: 0,
+        index: 0,
+    },
+    Row {
+        method: Method::Initialize,
+        params: "[1]",
+        cause: 0,
+        index: 0,
+    },
+    Row {
+        method: Method::Initialize,
+        params: "{\"initializationOptions\":null}",
+        cause: 0,
+        index: 0,
+    },
+    Row {
+        method: Method::Initialize,
+        params: "{\"initializationOptions\":{\"limit\":10000,\"depth\":0,\"count\":1000,\"other\":[]}}",
+        cause: 0,
+        index: 0,
+    },
+    Row {
+        method: Method::Initialize,
+        params: "{\"initializationOptions\":{\"limit\":null}}",
+        cause: 0,
+        index: 0,
+    },
+    Row {
+        method: Method::Initialize,
+        params: "{\"initializationOptions\":[]}",
+        cause: 1,
+        index: 0,
+    },
+    Row {
+        method: Method::Initialize,
+        params: "{\"initializationOptions\":{\"limit\":0,\"depth\":\"1\"}}",
+        cause: 1,
+        index: 0,
+    },
+    Row {
+        method: Method::Initialize,
+        params: "{\"initializationOptions\":{\"limit\":0}}",
+        cause: 2,
+        index: 0,
+    },
+    Row {
+        method: Method::Initialize,
+        params: "{\"initializationOptions\":{\"limit\":10001}}",
+        cause: 2,
+        index: 0,
+    },
+    Row {
+        method: Method::Initialize,
+        params: "{\"initializationOptions\":{\"depth\":2}}",
+        cause: 2,
+        index: 0,
+    },
+    Row {
+        method: Method::Initialize,
+        params: "{\"initializationOptions\":{\"count\":1001}}",
+        cause: 2,
+        index: 0,
+    },
+    Row {
+        method: Method::Initialize,
+        params: "{\"initializationOptions\":{\"count\":1.0}}",
+        cause: 2,
+        index: 0,
+    },
+    Row {
+        method: Method::Open,
+        params: "{\"textDocument\":{\"uri\":\"\",\"text\":\"\"}}",
+        cause: 0,
+        index: 0,
+    },
+    Row {
+        method: Method::Open,
+        params: "{\"textDocument\":{\"uri\":\"a\"}}",
+        cause: 1,
+        index: 0,
+    },
+    Row {
+        method: Method::Open,
+        params: "{\"textDocument\":{\"uri\":null,\"text\":\"b\"}}",
+        cause: 1,
+        index: 0,
+    },
+    Row {
+        method: Method::Change,
+        params: "{\"textDocument\":{\"uri\":\"a\"}}",
+        cause: 0,
+        index: 0,
+    },
+    Row {
+        method: Method::Change,
+        params: "{\"contentChanges\":[]}",
+        cause: 1,
+        index: 0,
+    },
+    Row {
+        method: Method::Close,
+        params: "{\"textDocument\":{\"uri\":\"a\"}}",
+        cause: 0,
+        index: 0,
+    },
+    Row {
+        method: Method::Close,
+        params: "{\"textDocument\":\"a\"}",
+        cause: 1,
+        index: 0,
+    },
+    Row {
+        method: Method::Complete,
+        params: "{}",
+        cause: 1,
+        index: 0,
+    },
+    Row {
+        method: Method::Complete,
+        params: "{\"textDocument\":{\"uri\":\"a\"},\"position\":{\"line\":0,\"character\":2147483647}}",
+        cause: 0,
+        index: 0,
+    },
+    Row {
+        method: Method::Complete,
+        params: "{\"textDocument\":{\"uri\":\"a\"},\"position\":{\"line\":-1,\"character\":\"b\"}}",
+        cause: 1,
+        index: 0,
+    },
+    Row {
+        method: Method::Complete,
+        params: "{\"textDocument\":{\"uri\":\"a\"},\"position\":{\"line\":2147483648,\"character\":0}}",
+        cause: 2,
+        index: 0,
+    },
+    Row {
+        method: Method::Complete,
+        params: "{\"textDocument\":{\"uri\":\"a\"},\"position\":{\"line\":0,\"character\":-0}}",
+        cause: 2,
+        index: 0,
+    },
+    Row {
+        method: Method::Complete,
+        params: "{\"textDocument\":{\"uri\":\"a\"},\"position\":{\"line\":1e2,\"character\":0}}",
+        cause: 2,
+        index: 0,
+    },
+    Row {
+        method: Method::Execute,
+        params: "{\"arguments\":[{}]}",
+        cause: 1,
+        index: 0,
+    },
+    Row {
+        method: Method::Execute,
+        params: "{\"command\":\"insynth.list\"}",
+        cause: 7,
+        index: 0,
+    },
+    Row {
+        method: Method::Execute,
+        params: "{\"command\":\"insynth.page\"}",
+        cause: 1,
+        index: 0,
+    },
+    Row {
+        method: Method::Execute,
+        params: "{\"command\":\"insynth.page\",\"arguments\":[{\"cursor\":1,\"count\":1},{}]}",
+        cause: 1,
+        index: 0,
+    },
+    Row {
+        method: Method::Execute,
+        params: "{\"command\":\"insynth.page\",\"arguments\":{\"cursor\":1,\"count\":1}}",
+        cause: 1,
+        index: 0,
+    },
+    Row {
+        method: Method::Execute,
+        params: "{\"command\":\"insynth.page\",\"arguments\":[{\"cursor\":4294967296}]}",
+        cause: 1,
+        index: 0,
+    },
+    Row {
+        method: Method::Execute,
+        params: "{\"command\":\"insynth.page\",\"arguments\":[{\"cursor\":4294967296,\"count\":1}]}",
+        cause: 2,
+        index: 0,
+    },
+    Row {
+        method: Method::Execute,
+        params: "{\"command\":\"insynth.page\",\"arguments\":[{\"cursor\":1,\"count\":0}]}",
+        cause: 2,
+        index: 0,
+    },
+    Row {
+        method: Method::Execute,
+        params: "{\"command\":\"insynth.page\",\"arguments\":[{\"cursor\":1,\"count\":1000}]}",
+        cause: 0,
+        index: 0,
+    },
+    Row {
+        method: Method::Execute,
+        params: "{\"command\":\"insynth.close\",\"arguments\":[{\"cursor\":4294967295}]}",
+        cause: 0,
+        index: 0,
+    },
+    Row {
+        method: Method::Execute,
+        params: "{\"command\":\"insynth.withdraw\",\"arguments\":[{\"through\":\"1\"}]}",
+        cause: 1,
+        index: 0,
+    },
+    Row {
+        method: Method::Execute,
+        params: "{\"command\":\"insynth.publish\",\"arguments\":[{\"put\":[7]}]}",
+        cause: 1,
+        index: 0,
+    },
+    Row {
+        method: Method::Execute,
+        params: "{\"command\":\"insynth.publish\",\"arguments\":[{\"counts\":[[\"A.f:I\",-1]],\"put\":[\"x\"]}]}",
+        cause: 2,
+        index: 0,
+    },
+    Row {
+        method: Method::Execute,
+        params: "{\"command\":\"insynth.publish\",\"arguments\":[{\"counts\":[[\"A.f:I\",1,2]]}]}",
+        cause: 1,
+        index: 0,
+    },
+    Row {
+        method: Method::Execute,
+        params: "{\"command\":\"insynth.publish\",\"arguments\":[{\"put\":[\"file:///a\",\"file://host/a\"],\"remove\":[\"a.b\"]}]}",
+        cause: 8,
+        index: 1,
+    },
+    Row {
+        method: Method::Execute,
+        params: "{\"command\":\"insynth.publish\",\"arguments\":[{\"put\":[\"file:///%ff\"]}]}",
+        cause: 8,
+        index: 0,
+    },
+    Row {
+        method: Method::Execute,
+        params: "{\"command\":\"insynth.publish\",\"arguments\":[{\"put\":[\"http:///a\"]}]}",
+        cause: 8,
+        index: 0,
+    },
+    Row {
+        method: Method::Execute,
+        params: "{\"command\":\"insynth.publish\",\"arguments\":[{\"remove\":[\"a/b\",\"A\",\"a.b\"],\"counts\":[[\"\",1]]}]}",
+        cause: 12,
+        index: 2,
+    },
+    Row {
+        method: Method::Execute,
+        params: "{\"command\":\"insynth.publish\",\"arguments\":[{\"counts\":[[\"a/A.f:I\",1],[\"A.m:(I)V\",0],[\"A.f\",1]]}]}",
+        cause: 13,
+        index: 2,
+    },
+    Row {
+        method: Method::Execute,
+        params: "{\"command\":\"insynth.publish\",\"arguments\":[{\"counts\":[[\"A.:I\",1]]}]}",
+        cause: 13,
+        index: 0,
+    },
+    Row {
+        method: Method::Execute,
+        params: "{\"command\":\"insynth.publish\",\"arguments\":[{\"counts\":[[\"a.A.f:I\",1]]}]}",
+        cause: 13,
+        index: 0,
+    },
+    Row {
+        method: Method::Execute,
+        params: "{\"command\":\"insynth.publish\",\"arguments\":[{\"counts\":[[\"A.f:J:I\",1]]}]}",
+        cause: 13,
+        index: 0,
+    },
+];
+
+#[test]
+fn parameters_are_refused_by_cause(rt: HostRuntime) -> Result<(), Fail> {
+    for row in &ROWS {
+        let params = Value::from_str(rt.alloc(), row.params)?;
+        assert!(rt;
+            outcome(rt.alloc(), row.method, &params) == (row.cause, row.index),
+            "{}",
+            row.params
+        );
+    }
+    Ok(())
+}
+
+/// A list in a list, so many deep.
+fn nested(alloc: Global, depth: usize) -> Result<String, Fail> {
+    let mut text = String::new(alloc);
+    for _ in 0..depth {
+        text.push_str("[")?;
+    }
+    for _ in 0..depth {
+        text.push_str("]")?;
+    }
+    Ok(text)
+}
+
+#[test]
+fn deep_values_are_answered(rt: HostRuntime) -> Result<(), Fail> {
+    let text = nested(rt.alloc(), 127)?;
+    let params = Value::from_str(rt.alloc(), text.as_str())?;
+    assert!(rt; outcome(rt.alloc(), Method::Complete, &params) == (1, 0));
+    assert!(rt; outcome(rt.alloc(), Method::Execute, &params) == (1, 0));
+    let text = nested(rt.alloc(), 200)?;
+    assert!(rt; Value::from_str(rt.alloc(), text.as_str()).is_err());
+    Ok(())
+}
+
+#[test]
+fn what_is_left_out_has_its_default(rt: HostRuntime) -> Result<(), Fail> {
+    let params = Value::from_str(rt.alloc(), "{\"initializationOptions\":{\"depth\":0}}")?;
+    match read_initialize(&params) {
+        Ok(options) => assert!(rt;
+            options.limit == 4000 && options.depth == 0 && options.count == 20
+        ),
+        Err(_) => assert!(rt; false, "refused"),
+    }
+    match read_initialize(&Value::Null) {
+        Ok(options) => assert!(rt;
+            options.limit == 4000 && options.depth == 1 && options.count == 20
+        ),
+        Err(_) => assert!(rt; false, "refused"),
+    }
+    Ok(())
+}
+
+/// The first range, where all changes are well formed and there are so many.
+fn first_range(
+    alloc: Global,
+    params: &Value,
+    count: usize,
+) -> Option<Option<((u32, u32), (u32, u32))>> {
+    let form = read_did_change(alloc, params).ok()?;
+    let changes = form.changes?;
+    if changes.len() != count {
+        return None;
+    }
+    match changes.as_slice() {
+        [first, ..] => Some(first.range),
+        [] => None,
+    }
+}
+
+const GOOD_CHANGES: &str =
+    "{\"textDocument\":{\"uri\":\"a\"},\"contentChanges\":[{\"range\":{\"start\":{\"line\":1,\"character\":2},\"end\":{\"line\":3,\"character\":4}},\"text\":\"x\"},{\"text\":\"\",\"range\":null}]}";
+
+const BAD_CHANGES: [&str; 5] = [
+    "{\"textDocument\":{\"uri\":\"a\"}}",
+    "{\"textDocument\":{\"uri\":\"a\"},\"contentChanges\":{}}",
+    "{\"textDocument\":{\"uri\":\"a\"},\"contentChanges\":[{\"text\":\"x\"},{}]}",
+    "{\"textDocument\":{\"uri\":\"a\"},\"contentChanges\":[{\"text\":\"x\",\"range\":{}}]}",
+    "{\"textDocument\":{\"uri\":\"a\"},\"contentChanges\":[{\"text\":\"x\",\"range\":{\"start\":{\"line\":1.0,\"character\":2},\"end\":{\"line\":3,\"character\":4}}}]}",
+];
+
+#[test]
+fn changes_are_read_all_or_none(rt: HostRuntime) -> Result<(), Fail> {
+    let params = Value::from_str(rt.alloc(), GOOD_CHANGES)?;
+    let range = first_range(rt.alloc(), &params, 2);
+    assert!(rt; range == Some(Some(((1, 2), (3, 4)))));
+    for text in BAD_CHANGES {
+        let params = Value::from_str(rt.alloc(), text)?;
+        match read_did_change(rt.alloc(), &params) {
+            Ok(form) => assert!(rt;
+                form.changes.is_none() && form.uri.as_str() == "a",
+                "{text}"
+            ),
+            Err(_) => assert!(rt; false, "{text}"),
+        }
+    }
+    Ok(())
+}
+
+/// URIs of files, and their paths.
+const PATHS: [(&str, &str); 6] = [
+    ("file:///a%20b/C.class", "/a b/C.class"),
+    ("file://localhost/a", "/a"),
+    ("FILE:/A", "/A"),
+    ("file:///a?x#y", "/a"),
+    ("file:///a/../b", "/b"),
+    ("file:///%C3%A9", "/\u{E9}"),
+];
+
+/// Whether the parameters put one file, of this path.
+fn puts_one(alloc: Global, params: &Value, path: &str) -> bool {
+    match read_command(alloc, params) {
+        Ok(Command::Publish { puts, .. }) => match puts.as_slice() {
+            [put] => put.as_str() == path,
+            _ => false,
+        },
+        _ => false,
+    }
+}
+
+#[test]
+fn uris_are_decoded(rt: HostRuntime) -> Result<(), Fail> {
+    for (uri, path) in PATHS {
+        let text = format!(in rt.alloc();
+            "{{\"command\":\"insynth.publish\",\"arguments\":[{{\"put\":[\"{uri}\"]}}]}}"
+        )?;
+        let params = Value::from_str(rt.alloc(), text.as_str())?;
+        assert!(rt; puts_one(rt.alloc(), &params, path), "{uri}");
+    }
+    Ok(())
+}
+
+const PUBLICATION: &str =
+    "{\"command\":\"insynth.publish\",\"arguments\":[{\"remove\":[\"a/B\"],\"counts\":[[\"A.f:[I\",4294967295]]}]}";
+
+#[test]
+fn a_publication_is_read(rt: HostRuntime) -> Result<(), Fail> {
+    let params = Value::from_str(rt.alloc(), PUBLICATION)?;
+    match read_command(rt.alloc(), &params) {
+        Ok(
+            Command::Publish {
+                puts,
+                removes,
+                counts,
+            },
+        ) => {
+            assert!(rt; puts.is_empty());
+            assert!(rt; matches!(removes.as_slice(), [name] if name.as_str() == "a/B"));
+            match counts.as_slice() {
+                [(key, count)] => assert!(rt; key.as_str() == "A.f:[I" && *count == u32::MAX),
+                _ => assert!(rt; false, "not one count"),
+            }
+        }
+        _ => assert!(rt; false, "refused"),
+    }
+    Ok(())
+}
+
+const CAPABILITIES: &str =
+    "{\"capabilities\":{\"completionProvider\":{},\"executeCommandProvider\":{\"commands\":[\"insynth.close\",\"insynth.page\",\"insynth.publish\",\"insynth.withdraw\"]},\"positionEncoding\":\"utf-16\",\"textDocumentSync\":{\"change\":2,\"openClose\":true}},\"serverInfo\":{\"name\":\"insynthd\"}}";
+
+const EMPTY_PAGE: &str =
+    "{\"insynth\":{\"cursor\":1,\"from\":3,\"grown\":0,\"last\":true,\"version\":2},\"isIncomplete\":false,\"items\":[]}";
+
+const ONE_ITEM: &str =
+    "{\"insynth\":{\"cursor\":1,\"from\":20,\"grown\":5,\"last\":false,\"version\":0},\"isIncomplete\":true,\"items\":[{\"detail\":\"15\",\"label\":\"f(x)\",\"sortText\":\"0000000020\",\"textEdit\":{\"newText\":\"f(x)\",\"range\":{\"end\":{\"character\":4,\"line\":1},\"start\":{\"character\":3,\"line\":1}}}}]}";
+
+#[test]
+fn results_are_made(rt: HostRuntime) -> Result<(), Fail> {
+    let text = make_capabilities(rt.alloc())?.to_string(rt.alloc())?;
+    assert!(rt; text.as_str() == CAPABILITIES);
+    let text = make_version(rt.alloc(), 2)?.to_string(rt.alloc())?;
+    assert!(rt; text.as_str() == "{\"version\":2}");
+    let page = make_list(rt.alloc(), 1, 3, 0, true, 2, &[], (0, 0), (0, 0))?;
+    assert!(rt; page.to_string(rt.alloc())?.as_str() == EMPTY_PAGE);
+    Ok(())
+}
+
+#[test]
+fn a_list_is_made(rt: HostRuntime) -> Result<(), Fail> {
+    let items = [ItemForm {
+        weight: 15,
+        text: Text::from_str(rt.alloc(), "f(x)")?,
+    }];
+    let page = make_list(rt.alloc(), 1, 20, 5, false, 0, &items, (1, 3), (1, 4))?;
+    assert!(rt; page.to_string(rt.alloc())?.as_str() == ONE_ITEM);
+    Ok(())
+}
