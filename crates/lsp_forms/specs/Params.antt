@@ -28,12 +28,13 @@ whole (unsigned n) low high = if nat_le low n && nat_le n high then Some n else 
 whole (negative z) low high = None
 whole (float x) low high = None
 
--- What f says of every item of a list, or none where it says nothing of one of them.
+-- One thing more, where there is nothing that is none.
 unfoldable pub both : {X : Type 0} → Option X → Option (List X) → Option (List X)
 both None xs = None
 both (Some x) None = None
 both (Some x) (Some xs) = Some (x ∷ xs)
 
+-- What f says of every item of a list, or none where it says nothing of one of them.
 unfoldable pub each : {X : Type 0} → (Data → Option X) → Items → Option (List X)
 each f no_items = Some []
 each f (item d ds) = both (f d) (each f ds)
@@ -51,12 +52,13 @@ fault cause = record { cause = cause; index = 0 }
 abbrev pub item_fault : ℕ → ℕ → ParamFault
 item_fault cause n = record { cause = cause; index = min n (2 ^ 32 - 1) }
 
--- What f says of every item of a list whose first has the number n, or the fault of the first item of which it says nothing.
+-- One thing more, or the fault that comes first.
 unfoldable pub first_or : {X : Type 0} → Option X → ParamFault → Result (List X) ParamFault → Result (List X) ParamFault
 first_or None fault xs = Err fault
 first_or (Some x) fault (Err e) = Err e
 first_or (Some x) fault (Ok xs) = Ok (x ∷ xs)
 
+-- What f says of every item of a list whose first has the number n, or the fault of the first item of which it says nothing.
 unfoldable pub numbered : {X : Type 0} → ℕ → (Data → Option X) → ℕ → Items → Result (List X) ParamFault
 numbered cause f n no_items = Ok []
 numbered cause f n (item d ds) = first_or (f d) (item_fault cause n) (numbered cause f (n + 1) ds)
@@ -66,7 +68,7 @@ abbrev pub RefusedAs : {X : Type 0} → Result X ParamFault → Refused ParamFau
 RefusedAs wanted (Fault f) = wanted ≡ Err f
 RefusedAs wanted OutOfMemory = Unit {0}
 
--- The same where no memory is taken.
+-- The same of a call that takes no memory.
 abbrev pub FaultedAs : {X : Type 0} → Result X ParamFault → Refused ParamFault → Type 0
 FaultedAs wanted (Fault f) = wanted ≡ Err f
 FaultedAs wanted OutOfMemory = ⊥

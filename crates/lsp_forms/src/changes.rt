@@ -1,7 +1,7 @@
-ghost use Rattle.std.specs.Prelude.{◌≡◌, ◌≤◌, Ok, Err, IfOk, IfErr, MatchResult, IfSome, codes, Option, Some, None, option_map};
+ghost use Rattle.std.specs.Prelude.{◌≡◌, Ok, Err, IfOk, IfErr, codes, Option, Some, None, option_map};
 ghost use Rattle.serde_json.specs.Find.{get};
 ghost use Rattle.serde_json.specs.View.{view, items_view, number_view};
-ghost use Rattle.lsp_forms.specs.Params.{RefusedAs, each, member_of};
+ghost use Rattle.lsp_forms.specs.Params.{RefusedAs, each};
 ghost use Rattle.lsp_forms.specs.Forms.{change_of, changes_in, did_change_of, place_number, place_of, range_from, range_of};
 
 use crate::documents::{kept, uri_in};

@@ -1,4 +1,4 @@
-ghost use Rattle.std.specs.Prelude.{◌≡◌, Ok, Err, IfOk, IfErr, MatchResult, codes, Option, Some, None, option_map};
+ghost use Rattle.std.specs.Prelude.{◌≡◌, Ok, Err, IfOk, IfErr, MatchResult, Option, Some, option_map};
 ghost use Rattle.serde_json.specs.View.{view, number_view};
 ghost use Rattle.lsp_forms.specs.Params.{RefusedAs, whole};
 ghost use Rattle.lsp_forms.specs.Forms.{completion_at, completion_of, did_close_of, did_open_of, uri_in};

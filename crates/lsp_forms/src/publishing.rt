@@ -1,8 +1,8 @@
-ghost use Rattle.std.specs.Prelude.{◌≡◌, ◌≤◌, ℕ, Ok, Err, IfOk, IfErr, IfSome, codes, is_some, Option, Some, None, option_map};
+ghost use Rattle.std.specs.Prelude.{◌≡◌, Ok, Err, IfOk, IfErr, is_some, Option, Some, None, option_map};
 ghost use Rattle.serde_json.specs.Find.{as_str, get};
 ghost use Rattle.serde_json.specs.View.{view, items_view, number_view};
 ghost use Rattle.lsp_forms.specs.Params.{RefusedAs, every, item_fault, numbered};
-ghost use Rattle.lsp_forms.specs.Commands.{counts, is_pair, is_text, list_of, name_from_text, pair_of, path_from_text, publish_at, publish_of, published, use_at, use_from_pair, word};
+ghost use Rattle.lsp_forms.specs.Commands.{counts, is_pair, is_text, list_of, name_from_text, pair_of, path_from_text, publish_at, publish_of, published, use_at, use_from_pair};
 
 use crate::documents::kept;
 use crate::forms::{Command, ParamFault};

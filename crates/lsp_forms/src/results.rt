@@ -1,4 +1,4 @@
-ghost use Rattle.std.specs.Prelude.{◌≡◌, ◌+◌, ◌≤◌, ◌∷◌, decimal, map, replicate, string_bytes, codes, IfOk, OnOk};
+ghost use Rattle.std.specs.Prelude.{◌≡◌, ◌+◌, decimal, replicate, string_bytes, codes, IfOk};
 ghost use Rattle.serde_json.specs.Data.{array, boolean, member, no_members, object, string};
 ghost use Rattle.serde_json.specs.View.{items_of, view};
 ghost use Rattle.lsp_forms.specs.Results.{capabilities, item_answer, item_answers, list_answer, position, range, ten_digits, version_answer, whole_number};

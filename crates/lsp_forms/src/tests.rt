@@ -19,14 +19,6 @@ enum Method {
     Execute,
 }
 
-/// Parameters of a method, and the cause and the index with which they are refused, or 0.
-struct Row {
-    method: Method,
-    params: &'static str,
-    cause: u32,
-    index: u32,
-}
-
 /// What a reader answered: the cause and the index, 0 for a form and 99 for want of memory.
 fn told<T: Drop>(answer: Result<T, Refused<ParamFault>>) -> (u32, u32) {
     match answer {
@@ -47,305 +39,235 @@ fn outcome(alloc: Global, method: Method, params: &Value) -> (u32, u32) {
     }
 }
 
-const ROWS: [Row; 48] = [
-    Row {
-        method: Method::Initialize,
-        params: "{}",
-        cause: 0,
-        index: 0,
-    },
-    Row {
-        method: Method::Initialize,
-        params: "null",
-        cause: 0,
-        index: 0,
-    },
-    Row {
-        method: Method::Initialize,
-        params: "[1]",
-        cause: 0,
-        index: 0,
-    },
-    Row {
-        method: Method::Initialize,
-        params: "{\"initializationOptions\":null}",
-        cause: 0,
-        index: 0,
-    },
-    Row {
-        method: Method::Initialize,
-        params: "{\"initializationOptions\":{\"limit\":10000,\"depth\":0,\"count\":1000,\"other\":[]}}",
-        cause: 0,
-        index: 0,
-    },
-    Row {
-        method: Method::Initialize,
-        params: "{\"initializationOptions\":{\"limit\":null}}",
-        cause: 0,
-        index: 0,
-    },
-    Row {
-        method: Method::Initialize,
-        params: "{\"initializationOptions\":[]}",
-        cause: 1,
-        index: 0,
-    },
-    Row {
-        method: Method::Initialize,
-        params: "{\"initializationOptions\":{\"limit\":0,\"depth\":\"1\"}}",
-        cause: 1,
-        index: 0,
-    },
-    Row {
-        method: Method::Initialize,
-        params: "{\"initializationOptions\":{\"limit\":0}}",
-        cause: 2,
-        index: 0,
-    },
-    Row {
-        method: Method::Initialize,
-        params: "{\"initializationOptions\":{\"limit\":10001}}",
-        cause: 2,
-        index: 0,
-    },
-    Row {
-        method: Method::Initialize,
-        params: "{\"initializationOptions\":{\"depth\":2}}",
-        cause: 2,
-        index: 0,
-    },
-    Row {
-        method: Method::Initialize,
-        params: "{\"initializationOptions\":{\"count\":1001}}",
-        cause: 2,
-        index: 0,
-    },
-    Row {
-        method: Method::Initialize,
-        params: "{\"initializationOptions\":{\"count\":1.0}}",
-        cause: 2,
-        index: 0,
-    },
-    Row {
-        method: Method::Open,
-        params: "{\"textDocument\":{\"uri\":\"\",\"text\":\"\"}}",
-        cause: 0,
-        index: 0,
-    },
-    Row {
-        method: Method::Open,
-        params: "{\"textDocument\":{\"uri\":\"a\"}}",
-        cause: 1,
-        index: 0,
-    },
-    Row {
-        method: Method::Open,
-        params: "{\"textDocument\":{\"uri\":null,\"text\":\"b\"}}",
-        cause: 1,
-        index: 0,
-    },
-    Row {
-        method: Method::Change,
-        params: "{\"textDocument\":{\"uri\":\"a\"}}",
-        cause: 0,
-        index: 0,
-    },
-    Row {
-        method: Method::Change,
-        params: "{\"contentChanges\":[]}",
-        cause: 1,
-        index: 0,
-    },
-    Row {
-        method: Method::Close,
-        params: "{\"textDocument\":{\"uri\":\"a\"}}",
-        cause: 0,
-        index: 0,
-    },
-    Row {
-        method: Method::Close,
-        params: "{\"textDocument\":\"a\"}",
-        cause: 1,
-        index: 0,
-    },
-    Row {
-        method: Method::Complete,
-        params: "{}",
-        cause: 1,
-        index: 0,
-    },
-    Row {
-        method: Method::Complete,
-        params: "{\"textDocument\":{\"uri\":\"a\"},\"position\":{\"line\":0,\"character\":2147483647}}",
-        cause: 0,
-        index: 0,
-    },
-    Row {
-        method: Method::Complete,
-        params: "{\"textDocument\":{\"uri\":\"a\"},\"position\":{\"line\":-1,\"character\":\"b\"}}",
-        cause: 1,
-        index: 0,
-    },
-    Row {
-        method: Method::Complete,
-        params: "{\"textDocument\":{\"uri\":\"a\"},\"position\":{\"line\":2147483648,\"character\":0}}",
-        cause: 2,
-        index: 0,
-    },
-    Row {
-        method: Method::Complete,
-        params: "{\"textDocument\":{\"uri\":\"a\"},\"position\":{\"line\":0,\"character\":-0}}",
-        cause: 2,
-        index: 0,
-    },
-    Row {
-        method: Method::Complete,
-        params: "{\"textDocument\":{\"uri\":\"a\"},\"position\":{\"line\":1e2,\"character\":0}}",
-        cause: 2,
-        index: 0,
-    },
-    Row {
-        method: Method::Execute,
-        params: "{\"arguments\":[{}]}",
-        cause: 1,
-        index: 0,
-    },
-    Row {
-        method: Method::Execute,
-        params: "{\"command\":\"insynth.list\"}",
-        cause: 7,
-        index: 0,
-    },
-    Row {
-        method: Method::Execute,
-        params: "{\"command\":\"insynth.page\"}",
-        cause: 1,
-        index: 0,
-    },
-    Row {
-        method: Method::Execute,
-        params: "{\"command\":\"insynth.page\",\"arguments\":[{\"cursor\":1,\"count\":1},{}]}",
-        cause: 1,
-        index: 0,
-    },
-    Row {
-        method: Method::Execute,
-        params: "{\"command\":\"insynth.page\",\"arguments\":{\"cursor\":1,\"count\":1}}",
-        cause: 1,
-        index: 0,
-    },
-    Row {
-        method: Method::Execute,
-        params: "{\"command\":\"insynth.page\",\"arguments\":[{\"cursor\":4294967296}]}",
-        cause: 1,
-        index: 0,
-    },
-    Row {
-        method: Method::Execute,
-        params: "{\"command\":\"insynth.page\",\"arguments\":[{\"cursor\":4294967296,\"count\":1}]}",
-        cause: 2,
-        index: 0,
-    },
-    Row {
-        method: Method::Execute,
-        params: "{\"command\":\"insynth.page\",\"arguments\":[{\"cursor\":1,\"count\":0}]}",
-        cause: 2,
-        index: 0,
-    },
-    Row {
-        method: Method::Execute,
-        params: "{\"command\":\"insynth.page\",\"arguments\":[{\"cursor\":1,\"count\":1000}]}",
-        cause: 0,
-        index: 0,
-    },
-    Row {
-        method: Method::Execute,
-        params: "{\"command\":\"insynth.close\",\"arguments\":[{\"cursor\":4294967295}]}",
-        cause: 0,
-        index: 0,
-    },
-    Row {
-        method: Method::Execute,
-        params: "{\"command\":\"insynth.withdraw\",\"arguments\":[{\"through\":\"1\"}]}",
-        cause: 1,
-        index: 0,
-    },
-    Row {
-        method: Method::Execute,
-        params: "{\"command\":\"insynth.publish\",\"arguments\":[{\"put\":[7]}]}",
-        cause: 1,
-        index: 0,
-    },
-    Row {
-        method: Method::Execute,
-        params: "{\"command\":\"insynth.publish\",\"arguments\":[{\"counts\":[[\"A.f:I\",-1]],\"put\":[\"x\"]}]}",
-        cause: 2,
-        index: 0,
-    },
-    Row {
-        method: Method::Execute,
-        params: "{\"command\":\"insynth.publish\",\"arguments\":[{\"counts\":[[\"A.f:I\",1,2]]}]}",
-        cause: 1,
-        index: 0,
-    },
-    Row {
-        method: Method::Execute,
-        params: "{\"command\":\"insynth.publish\",\"arguments\":[{\"put\":[\"file:///a\",\"file://host/a\"],\"remove\":[\"a.b\"]}]}",
-        cause: 8,
-        index: 1,
-    },
-    Row {
-        method: Method::Execute,
-        params: "{\"command\":\"insynth.publish\",\"arguments\":[{\"put\":[\"file:///%ff\"]}]}",
-        cause: 8,
-        index: 0,
-    },
-    Row {
-        method: Method::Execute,
-        params: "{\"command\":\"insynth.publish\",\"arguments\":[{\"put\":[\"http:///a\"]}]}",
-        cause: 8,
-        index: 0,
-    },
-    Row {
-        method: Method::Execute,
-        params: "{\"command\":\"insynth.publish\",\"arguments\":[{\"remove\":[\"a/b\",\"A\",\"a.b\"],\"counts\":[[\"\",1]]}]}",
-        cause: 12,
-        index: 2,
-    },
-    Row {
-        method: Method::Execute,
-        params: "{\"command\":\"insynth.publish\",\"arguments\":[{\"counts\":[[\"a/A.f:I\",1],[\"A.m:(I)V\",0],[\"A.f\",1]]}]}",
-        cause: 13,
-        index: 2,
-    },
-    Row {
-        method: Method::Execute,
-        params: "{\"command\":\"insynth.publish\",\"arguments\":[{\"counts\":[[\"A.:I\",1]]}]}",
-        cause: 13,
-        index: 0,
-    },
-    Row {
-        method: Method::Execute,
-        params: "{\"command\":\"insynth.publish\",\"arguments\":[{\"counts\":[[\"a.A.f:I\",1]]}]}",
-        cause: 13,
-        index: 0,
-    },
-    Row {
-        method: Method::Execute,
-        params: "{\"command\":\"insynth.publish\",\"arguments\":[{\"counts\":[[\"A.f:J:I\",1]]}]}",
-        cause: 13,
-        index: 0,
-    },
+/// Parameters of a method, and the cause and the index with which they are refused, or 0.
+const ROWS: [(Method, &str, u32, u32); 48] = [
+    (Method::Initialize, "{}", 0, 0),
+    (Method::Initialize, "null", 0, 0),
+    (Method::Initialize, "[1]", 0, 0),
+    (Method::Initialize, "{\"initializationOptions\":null}", 0, 0),
+    (
+        Method::Initialize,
+        "{\"initializationOptions\":{\"limit\":10000,\"depth\":0,\"count\":1000,\"other\":[]}}",
+        0,
+        0,
+    ),
+    (
+        Method::Initialize,
+        "{\"initializationOptions\":{\"limit\":null}}",
+        0,
+        0,
+    ),
+    (Method::Initialize, "{\"initializationOptions\":[]}", 1, 0),
+    (
+        Method::Initialize,
+        "{\"initializationOptions\":{\"limit\":0,\"depth\":\"1\"}}",
+        1,
+        0,
+    ),
+    (
+        Method::Initialize,
+        "{\"initializationOptions\":{\"limit\":0}}",
+        2,
+        0,
+    ),
+    (
+        Method::Initialize,
+        "{\"initializationOptions\":{\"limit\":10001}}",
+        2,
+        0,
+    ),
+    (
+        Method::Initialize,
+        "{\"initializationOptions\":{\"depth\":2}}",
+        2,
+        0,
+    ),
+    (
+        Method::Initialize,
+        "{\"initializationOptions\":{\"count\":1001}}",
+        2,
+        0,
+    ),
+    (
+        Method::Initialize,
+        "{\"initializationOptions\":{\"count\":1.0}}",
+        2,
+        0,
+    ),
+    (
+        Method::Open,
+        "{\"textDocument\":{\"uri\":\"\",\"text\":\"\"}}",
+        0,
+        0,
+    ),
+    (Method::Open, "{\"textDocument\":{\"uri\":\"a\"}}", 1, 0),
+    (
+        Method::Open,
+        "{\"textDocument\":{\"uri\":null,\"text\":\"b\"}}",
+        1,
+        0,
+    ),
+    (Method::Change, "{\"textDocument\":{\"uri\":\"a\"}}", 0, 0),
+    (Method::Change, "{\"contentChanges\":[]}", 1, 0),
+    (Method::Close, "{\"textDocument\":{\"uri\":\"a\"}}", 0, 0),
+    (Method::Close, "{\"textDocument\":\"a\"}", 1, 0),
+    (Method::Complete, "{}", 1, 0),
+    (
+        Method::Complete,
+        "{\"textDocument\":{\"uri\":\"a\"},\"position\":{\"line\":0,\"character\":2147483647}}",
+        0,
+        0,
+    ),
+    (
+        Method::Complete,
+        "{\"textDocument\":{\"uri\":\"a\"},\"position\":{\"line\":-1,\"character\":\"b\"}}",
+        1,
+        0,
+    ),
+    (
+        Method::Complete,
+        "{\"textDocument\":{\"uri\":\"a\"},\"position\":{\"line\":2147483648,\"character\":0}}",
+        2,
+        0,
+    ),
+    (
+        Method::Complete,
+        "{\"textDocument\":{\"uri\":\"a\"},\"position\":{\"line\":0,\"character\":-0}}",
+        2,
+        0,
+    ),
+    (
+        Method::Complete,
+        "{\"textDocument\":{\"uri\":\"a\"},\"position\":{\"line\":1e2,\"character\":0}}",
+        2,
+        0,
+    ),
+    (Method::Execute, "{\"arguments\":[{}]}", 1, 0),
+    (Method::Execute, "{\"command\":\"insynth.list\"}", 7, 0),
+    (Method::Execute, "{\"command\":\"insynth.page\"}", 1, 0),
+    (
+        Method::Execute,
+        "{\"command\":\"insynth.page\",\"arguments\":[{\"cursor\":1,\"count\":1},{}]}",
+        1,
+        0,
+    ),
+    (
+        Method::Execute,
+        "{\"command\":\"insynth.page\",\"arguments\":{\"cursor\":1,\"count\":1}}",
+        1,
+        0,
+    ),
+    (
+        Method::Execute,
+        "{\"command\":\"insynth.page\",\"arguments\":[{\"cursor\":4294967296}]}",
+        1,
+        0,
+    ),
+    (
+        Method::Execute,
+        "{\"command\":\"insynth.page\",\"arguments\":[{\"cursor\":4294967296,\"count\":1}]}",
+        2,
+        0,
+    ),
+    (
+        Method::Execute,
+        "{\"command\":\"insynth.page\",\"arguments\":[{\"cursor\":1,\"count\":0}]}",
+        2,
+        0,
+    ),
+    (
+        Method::Execute,
+        "{\"command\":\"insynth.page\",\"arguments\":[{\"cursor\":1,\"count\":1000}]}",
+        0,
+        0,
+    ),
+    (
+        Method::Execute,
+        "{\"command\":\"insynth.close\",\"arguments\":[{\"cursor\":4294967295}]}",
+        0,
+        0,
+    ),
+    (
+        Method::Execute,
+        "{\"command\":\"insynth.withdraw\",\"arguments\":[{\"through\":\"1\"}]}",
+        1,
+        0,
+    ),
+    (
+        Method::Execute,
+        "{\"command\":\"insynth.publish\",\"arguments\":[{\"put\":[7]}]}",
+        1,
+        0,
+    ),
+    (
+        Method::Execute,
+        "{\"command\":\"insynth.publish\",\"arguments\":[{\"counts\":[[\"A.f:I\",-1]],\"put\":[\"x\"]}]}",
+        2,
+        0,
+    ),
+    (
+        Method::Execute,
+        "{\"command\":\"insynth.publish\",\"arguments\":[{\"counts\":[[\"A.f:I\",1,2]]}]}",
+        1,
+        0,
+    ),
+    (
+        Method::Execute,
+        "{\"command\":\"insynth.publish\",\"arguments\":[{\"put\":[\"file:///a\",\"file://host/a\"],\"remove\":[\"a.b\"]}]}",
+        8,
+        1,
+    ),
+    (
+        Method::Execute,
+        "{\"command\":\"insynth.publish\",\"arguments\":[{\"put\":[\"file:///%ff\"]}]}",
+        8,
+        0,
+    ),
+    (
+        Method::Execute,
+        "{\"command\":\"insynth.publish\",\"arguments\":[{\"put\":[\"http:///a\"]}]}",
+        8,
+        0,
+    ),
+    (
+        Method::Execute,
+        "{\"command\":\"insynth.publish\",\"arguments\":[{\"remove\":[\"a/b\",\"A\",\"a.b\"],\"counts\":[[\"\",1]]}]}",
+        12,
+        2,
+    ),
+    (
+        Method::Execute,
+        "{\"command\":\"insynth.publish\",\"arguments\":[{\"counts\":[[\"a/A.f:I\",1],[\"A.m:(I)V\",0],[\"A.f\",1]]}]}",
+        13,
+        2,
+    ),
+    (
+        Method::Execute,
+        "{\"command\":\"insynth.publish\",\"arguments\":[{\"counts\":[[\"A.:I\",1]]}]}",
+        13,
+        0,
+    ),
+    (
+        Method::Execute,
+        "{\"command\":\"insynth.publish\",\"arguments\":[{\"counts\":[[\"a.A.f:I\",1]]}]}",
+        13,
+        0,
+    ),
+    (
+        Method::Execute,
+        "{\"command\":\"insynth.publish\",\"arguments\":[{\"counts\":[[\"A.f:J:I\",1]]}]}",
+        13,
+        0,
+    ),
 ];
 
 #[test]
 fn parameters_are_refused_by_cause(rt: HostRuntime) -> Result<(), Fail> {
-    for row in &ROWS {
-        let params = Value::from_str(rt.alloc(), row.params)?;
+    for (method, text, cause, index) in ROWS {
+        let params = Value::from_str(rt.alloc(), text)?;
         assert!(rt;
-            outcome(rt.alloc(), row.method, &params) == (row.cause, row.index),
-            "{}",
-            row.params
+            outcome(rt.alloc(), method, &params) == (cause, index),
+            "{text}"
         );
     }
     Ok(())
