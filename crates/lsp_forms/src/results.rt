@@ -1,7 +1,8 @@
-ghost use Rattle.std.specs.Prelude.{◌≡◌, ◌+◌, decimal, replicate, string_bytes, codes, IfOk};
-ghost use Rattle.serde_json.specs.Data.{array, boolean, member, no_members, object, string};
+ghost use Rattle.std.specs.Prelude.{◌≡◌, ℕ, ◌+◌, Some, slice_get, decimal, replicate, string_bytes, codes, IfOk};
+ghost use Rattle.serde_json.specs.Data.{array, member, no_members, object, string};
 ghost use Rattle.serde_json.specs.View.{items_of, view};
-ghost use Rattle.lsp_forms.specs.Results.{capabilities, item_answer, item_answers, list_answer, position, range, ten_digits, version_answer, whole_number};
+ghost use Rattle.lsp_forms.specs.declared.forms.ItemForm.{ItemForm};
+ghost use Rattle.lsp_forms.specs.Results.{capabilities, item_answer, item_answers, item_at, list_answer, page_answer, position, range, state_answer, ten_digits, version_answer};
 
 use crate::forms::ItemForm;
 use itoa::Buffer;
@@ -150,10 +151,20 @@ fn make_state(
     last: bool,
     version: u32,
 ) -> Result<Value, AllocError>
-    ensures { IfOk result (λ v. view v ≡ object (member (codes "cursor") (whole_number cursor) (member (codes "from") (whole_number from)
-        (member (codes "grown") (whole_number grown) (member (codes "last") (boolean last) (member (codes "version") (whole_number version) no_members)))))) }
+    ensures { IfOk result (λ v. view v ≡ state_answer cursor from grown last version) }
 {
     json!(in alloc; {"cursor": cursor, "from": from, "grown": grown, "last": last, "version": version})
+}
+
+/// A page of a list, by its parts.
+fn make_page(alloc: Global, state: Value, last: bool, items: Value) -> Result<Value, AllocError>
+    ensures { IfOk result (λ v. view v ≡ page_answer (view state) last (view items)) }
+{
+    let mut members = Map::new(alloc);
+    serde_json::put(&mut members, alloc, "insynth", state)?;
+    serde_json::put(&mut members, alloc, "isIncomplete", Value::Bool(!last))?;
+    serde_json::put(&mut members, alloc, "items", items)?;
+    Ok(Value::Object(members))
 }
 
 /// A page of a list, whose first item has the number `from`, counted from 0 over all pages. The items
@@ -170,12 +181,9 @@ pub fn make_list(
     end: (u32, u32),
 ) -> Result<Value, AllocError>
     ensures value { IfOk result (λ v. view v ≡ list_answer cursor from grown last version items.now start end) }
+    ensures numbers { IfOk result (λ v. (i : ℕ) (form : ItemForm) → slice_get items.now i ≡ Some form → item_at i (view v) ≡ Some (item_answer (from + i) (range start end) form)) }
 {
     let state = make_state(alloc, cursor, from, grown, last, version)?;
     let items = make_items(alloc, from, items, start, end)?;
-    let mut members = Map::new(alloc);
-    serde_json::put(&mut members, alloc, "insynth", state)?;
-    serde_json::put(&mut members, alloc, "isIncomplete", Value::Bool(!last))?;
-    serde_json::put(&mut members, alloc, "items", items)?;
-    Ok(Value::Object(members))
+    make_page(alloc, state, last, items)
 }
