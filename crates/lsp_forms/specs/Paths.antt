@@ -1,4 +1,4 @@
--- The file that a URI names (URL Standard; RFC 8089).
+-- The file that a URI names (URL Standard).
 use Rattle.std.specs.Prelude.{ℕ, List, codes, bytes_eq, Option, Some, None, Ok, Err, Bool, ◌&&◌, not, if◌then◌else◌}
 use Rattle.std.specs.Str.{is_utf8}
 use Rattle.percent_encoding.specs.Percent.{percent_decode}

@@ -5,7 +5,7 @@ use Rattle.serde_json.specs.Find.{get, at}
 use Rattle.serde_json.specs.View.{items_of}
 use Rattle.lsp_forms.specs.declared.forms.ItemForm.{ItemForm}
 
--- A number of the code.
+-- A whole number as a JSON value.
 abbrev pub whole_number : ℕ → Data
 whole_number n = number (unsigned n)
 

@@ -2,7 +2,8 @@ use lists::{Items, Text};
 
 /// Why parameters are refused: the cause, and the number in its list that it speaks of, 0 where no list
 /// is meant. The causes are 1 (missing or of the wrong kind), 2 (no whole number, or out of its range),
-/// 7 (an unknown command), 8 (no file URI), 12 (no internal name) and 13 (no key of a member).
+/// 7 (an unknown command), 8 (no URI of a file of this host with a path in UTF-8), 12 (no internal name) and
+/// 13 (no key of a member).
 #[derive(Clone, Copy, Debug, PartialEq, Eq)]
 pub struct ParamFault {
     pub cause: u32,
@@ -75,7 +76,7 @@ pub enum Command {
         removes: Items<Text>,
         counts: Items<(Text, u32)>,
     },
-    /// `insynth.withdraw`: the changes up to this version are withdrawn.
+    /// `insynth.withdraw`: the versions up to this one are withdrawn; lists of them get no further page.
     Withdraw {
         through: u32,
     },

@@ -1,7 +1,8 @@
 // The parameters and results of the language server's methods, between JSON values and Rust's types. The
 // main definitions are one function for each method, as `completion_of` and `command_of`, from the JSON
 // value of the parameters to the form or to the fault, in the order of causes; `list_answer` says what a
-// page of a list is as JSON. It stands on `json_rpc`, `type_names`, `serde_json` and `url`.
+// page of a list is as JSON. It stands on `json_rpc`, `type_names`, `lists` and the kit's `serde_json`, `url`,
+// `percent_encoding` and `itoa`.
 #![tactic(auto)]
 
 mod changes;

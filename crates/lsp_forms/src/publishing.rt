@@ -15,7 +15,7 @@ use serde_json::{Number, Value};
 use std::alloc::Global;
 use type_names::is_internal_name;
 
-/// An item of `put` is no URI of a file.
+/// An item of `put` is no URI of a file of this host, or its path isn't UTF-8.
 const NO_FILE: u32 = 8;
 
 /// An item of `remove` is no internal name.

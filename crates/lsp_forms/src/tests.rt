@@ -40,7 +40,7 @@ fn outcome(alloc: Global, method: Method, params: &Value) -> (u32, u32) {
 }
 
 /// Parameters of a method, and the cause and the index with which they are refused, or 0.
-const ROWS: [(Method, &str, u32, u32); 48] = [
+const ROWS: [(Method, &str, u32, u32); 67] = [
     (Method::Initialize, "{}", 0, 0),
     (Method::Initialize, "null", 0, 0),
     (Method::Initialize, "[1]", 0, 0),
@@ -259,6 +259,120 @@ const ROWS: [(Method, &str, u32, u32); 48] = [
         13,
         0,
     ),
+    (
+        Method::Execute,
+        "{\"command\":\"insynth.withdraw\",\"arguments\":[{\"through\":4294967295}]}",
+        0,
+        0,
+    ),
+    (
+        Method::Execute,
+        "{\"command\":\"insynth.withdraw\",\"arguments\":[{\"through\":4294967296}]}",
+        2,
+        0,
+    ),
+    (
+        Method::Execute,
+        "{\"command\":\"insynth.close\",\"arguments\":[{}]}",
+        1,
+        0,
+    ),
+    (
+        Method::Execute,
+        "{\"command\":\"insynth.close\",\"arguments\":[{\"cursor\":1.0}]}",
+        2,
+        0,
+    ),
+    (
+        Method::Execute,
+        "{\"command\":\"insynth.page\",\"arguments\":[]}",
+        1,
+        0,
+    ),
+    (
+        Method::Execute,
+        "{\"command\":\"insynth.page\",\"arguments\":[7]}",
+        1,
+        0,
+    ),
+    (
+        Method::Execute,
+        "{\"command\":\"insynth.list\",\"arguments\":7}",
+        7,
+        0,
+    ),
+    (
+        Method::Execute,
+        "{\"command\":\"insynth.publish\",\"arguments\":[{\"put\":7}]}",
+        1,
+        0,
+    ),
+    (
+        Method::Execute,
+        "{\"command\":\"insynth.publish\",\"arguments\":[{\"put\":null,\"remove\":null,\"counts\":null}]}",
+        0,
+        0,
+    ),
+    (
+        Method::Execute,
+        "{\"command\":\"insynth.publish\",\"arguments\":[{\"put\":[\"x\"]}]}",
+        8,
+        0,
+    ),
+    (
+        Method::Execute,
+        "{\"command\":\"insynth.publish\",\"arguments\":[{\"put\":[\"file:///a\",7]}]}",
+        1,
+        0,
+    ),
+    (
+        Method::Execute,
+        "{\"command\":\"insynth.publish\",\"arguments\":[{\"counts\":[[\"A.f:I\",1],[\"A.f:I\",-1]]}]}",
+        2,
+        0,
+    ),
+    (
+        Method::Execute,
+        "{\"command\":\"insynth.publish\",\"arguments\":[{\"counts\":[[\"A.f:I\"]]}]}",
+        1,
+        0,
+    ),
+    (
+        Method::Execute,
+        "{\"command\":\"insynth.publish\",\"arguments\":[{\"counts\":[[\"A.f:I\",\"1\"]]}]}",
+        1,
+        0,
+    ),
+    (
+        Method::Execute,
+        "{\"command\":\"insynth.publish\",\"arguments\":[{\"counts\":[{}]}]}",
+        1,
+        0,
+    ),
+    (
+        Method::Execute,
+        "{\"command\":\"insynth.publish\",\"arguments\":[{\"counts\":[[\"java/io/FileReader.<init>:(Ljava/lang/String;)V\",3]]}]}",
+        0,
+        0,
+    ),
+    (
+        Method::Initialize,
+        "{\"initializationOptions\":{\"limit\":1,\"count\":1}}",
+        0,
+        0,
+    ),
+    (
+        Method::Initialize,
+        "{\"initializationOptions\":{\"count\":0}}",
+        2,
+        0,
+    ),
+    (
+        Method::Initialize,
+        "{\"initializationOptions\":{\"limit\":18446744073709551616}}",
+        2,
+        0,
+    ),
 ];
 
 #[test]
@@ -334,12 +448,15 @@ fn first_range(
 const GOOD_CHANGES: &str =
     "{\"textDocument\":{\"uri\":\"a\"},\"contentChanges\":[{\"range\":{\"start\":{\"line\":1,\"character\":2},\"end\":{\"line\":3,\"character\":4}},\"text\":\"x\"},{\"text\":\"\",\"range\":null}]}";
 
-const BAD_CHANGES: [&str; 5] = [
+const BAD_CHANGES: [&str; 8] = [
     "{\"textDocument\":{\"uri\":\"a\"}}",
     "{\"textDocument\":{\"uri\":\"a\"},\"contentChanges\":{}}",
     "{\"textDocument\":{\"uri\":\"a\"},\"contentChanges\":[{\"text\":\"x\"},{}]}",
     "{\"textDocument\":{\"uri\":\"a\"},\"contentChanges\":[{\"text\":\"x\",\"range\":{}}]}",
     "{\"textDocument\":{\"uri\":\"a\"},\"contentChanges\":[{\"text\":\"x\",\"range\":{\"start\":{\"line\":1.0,\"character\":2},\"end\":{\"line\":3,\"character\":4}}}]}",
+    "{\"textDocument\":{\"uri\":\"a\"},\"contentChanges\":[{\"text\":\"x\",\"range\":{\"start\":{\"line\":2147483648,\"character\":2},\"end\":{\"line\":3,\"character\":4}}}]}",
+    "{\"textDocument\":{\"uri\":\"a\"},\"contentChanges\":[{\"text\":\"x\",\"range\":{\"start\":{\"line\":1,\"character\":-1},\"end\":{\"line\":3,\"character\":4}}}]}",
+    "{\"textDocument\":{\"uri\":\"a\"},\"contentChanges\":[{\"text\":\"x\",\"range\":{\"start\":{\"line\":1,\"character\":2}}}]}",
 ];
 
 #[test]
@@ -361,7 +478,8 @@ fn changes_are_read_all_or_none(rt: HostRuntime) -> Result<(), Fail> {
 }
 
 /// URIs of files, and their paths.
-const PATHS: [(&str, &str); 6] = [
+const PATHS: [(&str, &str); 7] = [
+    ("file:x", "/x"),
     ("file:///a%20b/C.class", "/a b/C.class"),
     ("file://localhost/a", "/a"),
     ("FILE:/A", "/A"),
@@ -447,5 +565,35 @@ fn a_list_is_made(rt: HostRuntime) -> Result<(), Fail> {
     }];
     let page = make_list(rt.alloc(), 1, 20, 5, false, 0, &items, (1, 3), (1, 4))?;
     assert!(rt; page.to_string(rt.alloc())?.as_str() == ONE_ITEM);
+    Ok(())
+}
+
+const TWO_ITEMS: &str =
+    "{\"insynth\":{\"cursor\":1,\"from\":9999999999,\"grown\":5,\"last\":true,\"version\":0},\"isIncomplete\":false,\"items\":[{\"detail\":\"5\",\"label\":\"a\",\"sortText\":\"9999999999\",\"textEdit\":{\"newText\":\"a\",\"range\":{\"end\":{\"character\":3,\"line\":1},\"start\":{\"character\":3,\"line\":1}}}},{\"detail\":\"5\",\"label\":\"b\",\"sortText\":\"10000000000\",\"textEdit\":{\"newText\":\"b\",\"range\":{\"end\":{\"character\":3,\"line\":1},\"start\":{\"character\":3,\"line\":1}}}}]}";
+
+#[test]
+fn items_are_numbered_on(rt: HostRuntime) -> Result<(), Fail> {
+    let items = [
+        ItemForm {
+            weight: 5,
+            text: Text::from_str(rt.alloc(), "a")?,
+        },
+        ItemForm {
+            weight: 5,
+            text: Text::from_str(rt.alloc(), "b")?,
+        },
+    ];
+    let page = make_list(
+        rt.alloc(),
+        1,
+        9_999_999_999,
+        5,
+        true,
+        0,
+        &items,
+        (1, 3),
+        (1, 3),
+    )?;
+    assert!(rt; page.to_string(rt.alloc())?.as_str() == TWO_ITEMS);
     Ok(())
 }
