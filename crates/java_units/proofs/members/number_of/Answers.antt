@@ -1,0 +1,10 @@
+use Rattle.std.proofs.Common.{sym, ◌∙◌}
+use Rattle.java_units.proofs.Walks.{length-some}
+use Rattle.java_units.proofs.Lists.{number_none, number_some}
+use Rattle.java_units.proofs.members.number_of.Goals as goal
+
+pub returns-then-is_empty : goal.returns-then-is_empty
+returns-then-is_empty c = number_none c.args.lexemes.now (sym c.is_empty.ensures ∙ c.if-is_empty.true)
+
+pub returns : goal.returns
+returns c = number_some c.args.lexemes.now _ (length-some c.args.lexemes.now (sym c.is_empty.ensures ∙ c.if-is_empty.false))

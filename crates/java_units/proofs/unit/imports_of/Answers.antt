@@ -1,0 +1,10 @@
+use Rattle.std.proofs.Common.{rules, ap, ◌∙◌, ◌++◌}
+use Rattle.java_units.specs.Units.{import_in}
+use Rattle.java_units.proofs.Lists.{flat_on, flat_end}
+use Rattle.java_units.proofs.unit.imports_of.Goals as goal
+
+pub loop-i-preserved : goal.loop-i-preserved
+loop-i-preserved c = flat_on import_in c.args.places.now c.loop-i.i _ c.loop-i.all c.append.new.self (search rules) (c.in_ok-append.ensures ∙ ap (λ p. c.loop-i.all ++ p) c.in_ok-imports.ensures) c.loop-i.invariant
+
+pub returns : goal.returns
+returns c = flat_end import_in c.args.places.now c.loop-i.i c.loop-i.all (search rules) c.loop-i.invariant

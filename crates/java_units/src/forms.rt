@@ -1,0 +1,255 @@
+ghost use Rattle.std.specs.Prelude.{◌≡◌, ◌≤◌, length};
+ghost use Rattle.java_units.specs.Signs.{seen};
+ghost use Rattle.java_units.specs.Forms.{annotation_len, modifier_len, non_sealed_len, lead_len, bound_len, bounds_len, var_len, final_len, dots_len, ahead_len, wide_len, called_len, param_len, span};
+
+use crate::lexemes::{Lexeme, begins, begins_any, begins_name, tail};
+use crate::names::{dims_len, name_len, rounds, type_len};
+
+/// The modifiers of one word; those that aren't reserved words are identifiers too.
+const MODIFIERS: [&str; 13] = [
+    "public",
+    "protected",
+    "private",
+    "static",
+    "final",
+    "abstract",
+    "native",
+    "synchronized",
+    "transient",
+    "volatile",
+    "strictfp",
+    "default",
+    "sealed",
+];
+
+/// `@`, a name and what `(` and its matching `)` enclose after it.
+#[tactic(auto, using(crate::proofs::Walks::walks), unfolding(crate::specs::Forms::annotation_len))]
+fn annotation_len(lexemes: &[Lexeme<'_>]) -> usize
+    ensures value { result ≡ annotation_len (seen lexemes.now) }
+    ensures within { result ≤ length (seen lexemes.now) }
+{
+    if !begins("@", lexemes) {
+        return 0;
+    }
+    let name = name_len(tail(lexemes, 1));
+    if name == 0 {
+        return 0;
+    }
+    let n = 1 + name;
+    n + rounds(tail(lexemes, n))
+}
+
+/// Annotations, one after the other.
+#[tactic(auto, using(crate::proofs::Walks::walks))]
+fn annotations_len(lexemes: &[Lexeme<'_>]) -> usize
+    ensures value { result ≡ span annotation_len (seen lexemes.now) }
+    ensures within { result ≤ length (seen lexemes.now) }
+{
+    let mut n = 0;
+    loop {
+        let len = annotation_len(tail(lexemes, n));
+        if len == 0 {
+            return n;
+        }
+        n += len;
+    }
+}
+
+/// `non - sealed`
+#[tactic(auto, using(crate::proofs::Walks::walks), unfolding(crate::specs::Forms::non_sealed_len))]
+fn non_sealed_len(lexemes: &[Lexeme<'_>]) -> usize
+    ensures value { result ≡ non_sealed_len (seen lexemes.now) }
+    ensures within { result ≤ length (seen lexemes.now) }
+{
+    if !begins("non", lexemes) || !begins("-", tail(lexemes, 1)) {
+        return 0;
+    }
+    if !begins("sealed", tail(lexemes, 2)) {
+        return 0;
+    }
+    3
+}
+
+/// A modifier.
+#[tactic(auto, using(crate::proofs::Walks::walks), unfolding(crate::specs::Forms::modifier_len))]
+fn modifier_len(lexemes: &[Lexeme<'_>]) -> usize
+    ensures value { result ≡ modifier_len (seen lexemes.now) }
+    ensures within { result ≤ length (seen lexemes.now) }
+{
+    if begins_any(&MODIFIERS, lexemes) {
+        return 1;
+    }
+    non_sealed_len(lexemes)
+}
+
+/// An annotation or a modifier.
+#[tactic(auto, using(crate::proofs::Walks::walks), unfolding(crate::specs::Forms::lead_len))]
+pub fn lead_len(lexemes: &[Lexeme<'_>]) -> usize
+    ensures value { result ≡ lead_len (seen lexemes.now) }
+    ensures within { result ≤ length (seen lexemes.now) }
+{
+    let n = annotation_len(lexemes);
+    if n == 0 {
+        return modifier_len(lexemes);
+    }
+    n
+}
+
+/// Annotations and modifiers, one after the other.
+#[tactic(auto, using(crate::proofs::Walks::walks))]
+pub fn leads_len(lexemes: &[Lexeme<'_>]) -> usize
+    ensures value { result ≡ span lead_len (seen lexemes.now) }
+    ensures within { result ≤ length (seen lexemes.now) }
+{
+    let mut n = 0;
+    loop {
+        let len = lead_len(tail(lexemes, n));
+        if len == 0 {
+            return n;
+        }
+        n += len;
+    }
+}
+
+/// `& TYPE`
+#[tactic(auto, using(crate::proofs::Walks::walks), unfolding(crate::specs::Forms::bound_len))]
+fn bound_len(lexemes: &[Lexeme<'_>]) -> usize
+    ensures value { result ≡ bound_len (seen lexemes.now) }
+    ensures within { result ≤ length (seen lexemes.now) }
+{
+    if !begins("&", lexemes) {
+        return 0;
+    }
+    let n = type_len(tail(lexemes, 1));
+    if n == 0 {
+        return 0;
+    }
+    1 + n
+}
+
+/// Such bounds, one after the other.
+#[tactic(auto, using(crate::proofs::Walks::walks))]
+fn bounds_after(lexemes: &[Lexeme<'_>]) -> usize
+    ensures value { result ≡ span bound_len (seen lexemes.now) }
+    ensures within { result ≤ length (seen lexemes.now) }
+{
+    let mut n = 0;
+    loop {
+        let len = bound_len(tail(lexemes, n));
+        if len == 0 {
+            return n;
+        }
+        n += len;
+    }
+}
+
+/// `extends` and the bounds of a type variable.
+#[tactic(auto, using(crate::proofs::Walks::walks), unfolding(crate::specs::Forms::bounds_len))]
+pub fn bounds_len(lexemes: &[Lexeme<'_>]) -> usize
+    ensures value { result ≡ bounds_len (seen lexemes.now) }
+    ensures within { result ≤ length (seen lexemes.now) }
+{
+    if !begins("extends", lexemes) {
+        return 0;
+    }
+    let first = type_len(tail(lexemes, 1));
+    if first == 0 {
+        return 0;
+    }
+    let n = 1 + first;
+    n + bounds_after(tail(lexemes, n))
+}
+
+/// A type variable with its bounds.
+#[tactic(auto, using(crate::proofs::Walks::walks), unfolding(crate::specs::Forms::var_len))]
+pub fn var_len(lexemes: &[Lexeme<'_>]) -> usize
+    ensures value { result ≡ var_len (seen lexemes.now) }
+    ensures within { result ≤ length (seen lexemes.now) }
+{
+    if !begins_name(lexemes) {
+        return 0;
+    }
+    1 + bounds_len(tail(lexemes, 1))
+}
+
+/// `final`
+#[tactic(auto, using(crate::proofs::Walks::walks), unfolding(crate::specs::Forms::final_len))]
+fn final_len(lexemes: &[Lexeme<'_>]) -> usize
+    ensures value { result ≡ final_len (seen lexemes.now) }
+    ensures within { result ≤ length (seen lexemes.now) }
+{
+    if begins("final", lexemes) {
+        return 1;
+    }
+    0
+}
+
+/// `. . .`
+#[tactic(auto, using(crate::proofs::Walks::walks), unfolding(crate::specs::Forms::dots_len))]
+pub fn dots_len(lexemes: &[Lexeme<'_>]) -> usize
+    ensures value { result ≡ dots_len (seen lexemes.now) }
+    ensures within { result ≤ length (seen lexemes.now) }
+    ensures few { result ≤ 3 }
+{
+    if !begins(".", lexemes) || !begins(".", tail(lexemes, 1)) {
+        return 0;
+    }
+    if !begins(".", tail(lexemes, 2)) {
+        return 0;
+    }
+    3
+}
+
+/// What comes before the type of a parameter.
+#[tactic(auto, using(crate::proofs::Walks::walks), unfolding(crate::specs::Forms::ahead_len))]
+pub fn ahead_len(lexemes: &[Lexeme<'_>]) -> usize
+    ensures value { result ≡ ahead_len (seen lexemes.now) }
+    ensures within { result ≤ length (seen lexemes.now) }
+{
+    let n = annotations_len(lexemes);
+    n + final_len(tail(lexemes, n))
+}
+
+/// The type of a parameter, with the dots after it.
+#[tactic(auto, using(crate::proofs::Walks::walks), unfolding(crate::specs::Forms::wide_len))]
+pub fn wide_len(lexemes: &[Lexeme<'_>]) -> usize
+    ensures value { result ≡ wide_len (seen lexemes.now) }
+    ensures within { result ≤ length (seen lexemes.now) }
+{
+    let n = type_len(lexemes);
+    if n == 0 {
+        return 0;
+    }
+    n + dots_len(tail(lexemes, n))
+}
+
+/// The name of a parameter with its dimensions.
+#[tactic(auto, using(crate::proofs::Walks::walks), unfolding(crate::specs::Forms::called_len))]
+fn called_len(lexemes: &[Lexeme<'_>]) -> usize
+    ensures value { result ≡ called_len (seen lexemes.now) }
+    ensures within { result ≤ length (seen lexemes.now) }
+{
+    if begins_name(lexemes) || begins("this", lexemes) {
+        return 1 + dims_len(tail(lexemes, 1));
+    }
+    0
+}
+
+/// A parameter.
+#[tactic(auto, using(crate::proofs::Walks::walks), unfolding(crate::specs::Forms::param_len))]
+pub fn param_len(lexemes: &[Lexeme<'_>]) -> usize
+    ensures value { result ≡ param_len (seen lexemes.now) }
+    ensures within { result ≤ length (seen lexemes.now) }
+{
+    let ahead = ahead_len(lexemes);
+    let rest = tail(lexemes, ahead);
+    let n = wide_len(rest);
+    if n == 0 {
+        return 0;
+    }
+    let called = called_len(tail(rest, n));
+    if called == 0 {
+        return 0;
+    }
+    ahead + n + called
+}

@@ -1,0 +1,28 @@
+// The structure of a Java source text: its package, imports and classes with their fields and methods.
+// `read_unit` reads it from the tokens and refuses nothing: what isn't recognised gives nothing. The main
+// definition is `IsUnit`: the text is cut into pieces, a table of forms says what each piece gives, and
+// the block of a class is cut again. It stands on `java_tokens` and `lists`.
+#![tactic(auto)]
+
+mod access;
+mod class;
+mod entries;
+mod forms;
+mod lexemes;
+mod members;
+mod names;
+mod pieces;
+mod reading;
+mod starts;
+mod table;
+mod types;
+mod unit;
+mod values;
+
+pub use types::{
+    ClassKind, Import, Param, SourceClass, SourceField, SourceMethod, TypeText, TypeVar, Unit,
+};
+pub use unit::read_unit;
+
+#[cfg(test)]
+mod tests;

@@ -1,0 +1,186 @@
+ghost use Rattle.std.specs.Prelude.{◌≡◌, ◌≤◌, ◌<◌, ◌&&◌, not, length, IfOk, OnOk, IsTrue};
+ghost use Rattle.java_tokens.specs.Tokens.{AreTokensOf};
+ghost use Rattle.java_units.specs.Signs.{Sign, sign, seen, has, reserved, is_blank, is_word, text_of, signs_of};
+ghost use Rattle.java_units.specs.Blocks.{from_last, block_len, closers_after, seen_back, IsWithin, AreWithin};
+
+use crate::lexemes::{Lexeme, has, same};
+use java_tokens::{Token, TokenKind};
+use std::alloc::{AllocError, Global};
+
+/// The words that are no identifiers (JLS 3.9, 3.10.3, 3.10.8).
+const RESERVED: [&str; 54] = [
+    "abstract",
+    "assert",
+    "boolean",
+    "break",
+    "byte",
+    "case",
+    "catch",
+    "char",
+    "class",
+    "const",
+    "continue",
+    "default",
+    "do",
+    "double",
+    "else",
+    "enum",
+    "extends",
+    "final",
+    "finally",
+    "float",
+    "for",
+    "goto",
+    "if",
+    "implements",
+    "import",
+    "instanceof",
+    "int",
+    "interface",
+    "long",
+    "native",
+    "new",
+    "package",
+    "private",
+    "protected",
+    "public",
+    "return",
+    "short",
+    "static",
+    "strictfp",
+    "super",
+    "switch",
+    "synchronized",
+    "this",
+    "throw",
+    "throws",
+    "transient",
+    "try",
+    "void",
+    "volatile",
+    "while",
+    "_",
+    "true",
+    "false",
+    "null",
+];
+
+/// Whether a word is reserved.
+fn is_reserved(word: &str) -> bool
+    ensures { result ≡ has reserved word.now }
+{
+    has(&RESERVED, word)
+}
+
+/// Whether a token is white space or a comment.
+fn is_blank(kind: TokenKind) -> bool
+    ensures { result ≡ is_blank kind }
+{
+    match kind {
+        TokenKind::White => true,
+        TokenKind::Comment => true,
+        TokenKind::Text => false,
+        TokenKind::CharText => false,
+        TokenKind::Number => false,
+        TokenKind::Word => false,
+        TokenKind::Symbol => false,
+    }
+}
+
+/// Whether a token is a word.
+fn is_word(kind: TokenKind) -> bool
+    ensures { result ≡ is_word kind }
+{
+    match kind {
+        TokenKind::White => false,
+        TokenKind::Comment => false,
+        TokenKind::Text => false,
+        TokenKind::CharText => false,
+        TokenKind::Number => false,
+        TokenKind::Word => true,
+        TokenKind::Symbol => false,
+    }
+}
+
+/// Whether a token is an identifier.
+fn is_name(kind: TokenKind, word: &str) -> bool
+    ensures { result ≡ (is_word kind && not (has reserved word.now)) }
+{
+    is_word(kind) && !is_reserved(word)
+}
+
+/// The text of a token.
+fn word<'a>(text: &'a str, token: &Token) -> &'a str
+    requires { IsWithin text.now token.now }
+    ensures { result.now ≡ text_of text.now token.now }
+{
+    &text[token.start as usize..token.end as usize]
+}
+
+/// How many lexemes stand in the block of this one, where so many follow it; `closers` are kept for those
+/// before it.
+fn block(closers: &mut Vec<usize>, count: usize, word: &str) -> Result<usize, AllocError>
+    requires { count < 18446744073709551615 }
+    ensures len { IfOk result (λ n. n ≡ block_len word.now count (from_last closers.old.items)) }
+    ensures kept { OnOk result (from_last closers.new.items ≡ closers_after word.now count (from_last closers.old.items)) }
+{
+    if same("}", word) {
+        closers.push(count + 1)?;
+        return Ok(0);
+    }
+    if !same("{", word) {
+        return Ok(0);
+    }
+    match closers.pop() {
+        Some(after) => Ok(count.saturating_sub(after)),
+        None => Ok(count),
+    }
+}
+
+/// The lexemes of a text, the last one first.
+fn lexemes_back<'a>(
+    alloc: Global,
+    text: &'a str,
+    tokens: &[Token],
+) -> Result<Vec<Lexeme<'a>>, AllocError>
+    requires { AreWithin text.now tokens.now }
+    ensures { IfOk result (λ back. seen_back back.items ≡ signs_of text.now tokens.now) }
+{
+    let mut back = Vec::new(alloc);
+    let mut closers = Vec::new(alloc);
+    let mut number = tokens.len();
+    while number > 0 {
+        number -= 1;
+        let token = tokens[number];
+        if is_blank(token.kind) {
+            continue;
+        }
+        let word = word(text, &token);
+        let holds = block(&mut closers, back.len(), word)?;
+        let is_name = is_name(token.kind, word);
+        back.push(Lexeme {
+            word,
+            is_name,
+            number,
+            holds,
+        })?;
+    }
+    Ok(back)
+}
+
+/// The tokens of a text other than white space and comments, in order.
+pub fn lexemes<'a>(
+    alloc: Global,
+    text: &'a str,
+    tokens: &[Token],
+) -> Result<Vec<Lexeme<'a>>, AllocError>
+    requires { AreTokensOf text.now tokens.now }
+    ensures { IfOk result (λ all. seen all.items ≡ signs_of text.now tokens.now) }
+{
+    let mut back = lexemes_back(alloc, text, tokens)?;
+    let mut all = Vec::new(alloc);
+    while let Some(lexeme) = back.pop() {
+        all.push(lexeme)?;
+    }
+    Ok(all)
+}
