@@ -32,7 +32,7 @@ modifiers_of ss = modifiers_at (starts lead_len 0 (head ss))
 unfoldable pub bit : Bool → ℕ → ℕ
 bit b flag = if b then flag else 0
 
--- The flags of JVMS 4.1, 4.5, 4.6: PUBLIC, PRIVATE, PROTECTED, STATIC, ABSTRACT.
+-- The flags of JVMS 4.1, 4.5, 4.6, 4.7.6: PUBLIC, PRIVATE, PROTECTED, STATIC, ABSTRACT.
 unfoldable pub flags_of : Modifiers → ℕ
 flags_of m = (((bit m.is_public 0x0001 + bit m.is_private 0x0002) + bit m.is_protected 0x0004) + bit m.is_static 0x0008) + bit m.is_abstract 0x0400
 
@@ -69,7 +69,7 @@ field_flags around m = flags_of (record (member around m) { is_static = m.is_sta
 unfoldable pub method_flags : ClassKind → Bool → Modifiers → ℕ
 method_flags around has_block m = flags_of (record (member around m) { is_abstract = m.is_abstract || (is_interface around && not (has_block || m.is_static)) })
 
--- A constructor, which is private in an enum.
+-- A constructor, which is private in an enum, and in an interface public unless it is private.
 unfoldable pub constructor_flags : ClassKind → Modifiers → ℕ
 constructor_flags around m = flags_of (record (member around m) { is_private = m.is_private || is_enum around })
 

@@ -24,7 +24,7 @@ head_len d set (s ∷ ss) = if ends d set s then 0 else suc (head_len (deeper d 
 unfoldable pub head : List Sign → List Sign
 head ss = take (head_len 0 false ss) ss
 
--- What follows the head: a `;`, a block or nothing.
+-- All that follows the head: its `;` or block and the pieces after it, or nothing.
 unfoldable pub end : List Sign → List Sign
 end ss = drop (head_len 0 false ss) ss
 

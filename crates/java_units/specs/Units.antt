@@ -41,7 +41,7 @@ supers_of kind xs =
     else if is_interface kind then flat_map (types_of (codes "extends" ∷ codes "implements" ∷ [])) xs
     else flat_map (types_of (codes "implements" ∷ [])) xs
 
--- Whether the first of these is a superclass.
+-- Whether the first of the supers is a superclass that the class names.
 unfoldable pub names_parent : ClassKind → List (List Sign) → Bool
 names_parent kind xs = is_plain kind && list_any (begins (codes "extends")) xs
 

@@ -5,8 +5,9 @@ use std::alloc::{AllocError, Global};
 use std::test::Fail;
 
 /// Texts, and what each declares: the package, `|`, the imports, and each class as its outer class's
-/// number, `/`, its flags, name, type variables, supers, fields and methods.
-const ROWS: [(&str, &str); 17] = [
+/// number, `/`, its flags, name, type variables, supers, fields and methods. `+` stands before a superclass
+/// that is named, `:` before a variable's bound, and `#` after a method with a block.
+const ROWS: [(&str, &str); 30] = [
     (
         "class A{int f;}",
         "||-/0000 A<>:{int f 0000}{0000 <init><>()}",
@@ -70,6 +71,58 @@ const ROWS: [(&str, &str); 17] = [
     (
         "} class A {} class B {}",
         "||-/0000 B<>:{}{0000 <init><>()}",
+    ),
+    (
+        "@X(y = {1; 2}) @p.Q public class A { @O(\"}\") int f; }",
+        "||-/0001 A<>:{int f 0000}{0001 <init><>()}",
+    ),
+    (
+        "class O { private class A { int f; void m() {} } }",
+        "||-/0000 O<>:{}{0000 <init><>()}0/0002 A<>:{int f 0000}{0000 void m<>()#;0002 <init><>()}",
+    ),
+    (
+        "@interface N { String[] v() default {}; int w() default 1; }",
+        "||-/0600 N<>:{}{0001 String[] v<>()#;0401 int w<>()}",
+    ),
+    (
+        "interface I { private int f; private void p(); }",
+        "||-/0600 I<>:{int f 000a}{0402 void p<>()}",
+    ),
+    (
+        "class A { record R() {} interface I {} @interface N { class C {} } }",
+        "||-/0000 A<>:{}{0000 <init><>()}0/0008 R<>:{}{}0/0608 I<>:{}{}0/0608 N<>:{}{}3/0009 C<>:{}{0001 <init><>()}",
+    ),
+    (
+        "enum E extends X implements I { A } record R() extends X implements I {} interface J implements K {}",
+        "||-/0000 E<>:I{}{}-/0000 R<>:I{}{}-/0600 J<>:K{}{}",
+    ),
+    (
+        "class A implements I extends B implements J {}",
+        "||-/0000 A<>:+B,I,J{}{0000 <init><>()}",
+    ),
+    (
+        "class A<> {} class B {}",
+        "||-/0000 B<>:{}{0000 <init><>()}",
+    ),
+    (
+        "class A { int a, ; int[]... b[]; void m(int[]... a[]) {} }",
+        "||-/0000 A<>:{}{0000 void m<>(int[][][] a)#;0000 <init><>()}",
+    ),
+    (
+        "class A { package p; import q.R; int f; }",
+        "||-/0000 A<>:{int f 0000}{0000 <init><>()}",
+    ),
+    (
+        "class A { int m() { x",
+        "||-/0000 A<>:{}{0000 int m<>()#;0000 <init><>()}",
+    ),
+    (
+        "class A { public static abstract synchronized void m(); protected final int f; }",
+        "||-/0000 A<>:{int f 0004}{0409 void m<>();0000 <init><>()}",
+    ),
+    (
+        "class A { void m(List<String s) { if (1 > s) return; } int f; }",
+        "||-/0000 A<>:{int f 0000}{0000 <init><>()}",
     ),
     ("", "||"),
 ];
@@ -255,6 +308,37 @@ fn texts_declare_what_the_forms_say(rt: HostRuntime) -> Result<(), Fail> {
     for (text, wanted) in ROWS {
         let found = read(rt.alloc(), text)?;
         assert_eq!(rt; found.as_str(), wanted);
+    }
+    Ok(())
+}
+
+/// The range of the first method's block in a short text.
+fn first_body(alloc: Global, text: &str) -> Result<Option<(u32, u32)>, AllocError> {
+    if text.len() > 16777216 {
+        return Err(AllocError);
+    }
+    let all = tokens(alloc, text)?;
+    let unit = read_unit(alloc, text, all.as_slice())?;
+    match unit.classes.as_slice() {
+        [class, ..] => match class.methods.as_slice() {
+            [method, ..] => Ok(method.body),
+            [] => Ok(None),
+        },
+        [] => Ok(None),
+    }
+}
+
+// All tokens count, white space and comments too.
+#[test]
+fn bodies_are_ranges_of_tokens(rt: HostRuntime) -> Result<(), Fail> {
+    let table = [
+        ("class A{void m(){}}", Some((9, 11))),
+        ("class A{void m(){ x", Some((9, 12))),
+        ("class A{void m()/* c */{}}", Some((10, 12))),
+        ("class A{void m();}", None),
+    ];
+    for (text, range) in table {
+        assert!(rt; first_body(rt.alloc(), text)? == range, "{text}");
     }
     Ok(())
 }

@@ -32,7 +32,7 @@ pub struct SourceField {
 
 /// A method, or a constructor under the name `<init>`, with its access flags (JVMS 4.6). `result` is None
 /// for `void` and for a constructor. `body` is the range of its block among all tokens of the text, from
-/// its `{` up to and with its `}`, or to the end of the tokens.
+/// its `{` up to the token after its `}`, or to the end of the tokens; the second number isn't in the range.
 #[derive(Debug, Drop)]
 pub struct SourceMethod {
     pub name: Text,
