@@ -1,0 +1,4 @@
+pub mod Numberings
+pub mod Rising
+pub mod Needs
+pub mod Places

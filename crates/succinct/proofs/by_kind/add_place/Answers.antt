@@ -1,0 +1,6 @@
+use Rattle.std.proofs.Common.{◌≡◌, rules}
+use Rattle.succinct.proofs.Places.{grows_at}
+use Rattle.succinct.proofs.by_kind.add_place.Goals as goal
+
+pub returns : goal.returns
+returns c = record { added = grows_at (λ v. v.items) _ _ _ c.index_mut.result.now _ c.requires.in_range c.index_mut.ensures.value c.in_ok-push.ensures.items }

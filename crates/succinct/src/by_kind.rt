@@ -1,0 +1,47 @@
+// The sources of each kind, from the kind's number of each source.
+
+ghost use Rattle.std.specs.Prelude.{◌≡◌, ◌<◌, ◌++◌, ◌∷◌, [], ℕ, List, map, length, slice_get, slice_index_or, slice_set, Some, IfOk, OnOk};
+ghost use Rattle.succinct.specs.Compression.{places_of};
+
+use std::alloc::{AllocError, Global};
+
+/// As many empty lists.
+fn no_places(alloc: Global, count: usize) -> Result<Vec<Vec<u32>>, AllocError>
+    ensures as_many { IfOk result (λ lists. length lists.items ≡ count) }
+    ensures empty { IfOk result (λ lists. (k : ℕ) → k < count → slice_get (map (λ l. l.items) lists.items) k ≡ Some []) }
+{
+    let mut lists = Vec::new(alloc);
+    for _ in 0..count {
+        lists.push(Vec::new(alloc))?;
+    }
+    Ok(lists)
+}
+
+/// One place more at the end of one list.
+fn add_place(lists: &mut Vec<Vec<u32>>, kind: u32, place: u32) -> Result<(), AllocError>
+    requires in_range { kind < length lists.old.items }
+    ensures added { OnOk result (map (λ l. l.items) lists.new.items ≡ slice_set (map (λ l. l.items) lists.old.items) kind (slice_index_or (map (λ l. l.items) lists.old.items) kind [] ++ place ∷ [])) }
+{
+    lists[kind as usize].push(place)?;
+    Ok(())
+}
+
+/// For each number below `count` the places at which it stands, rising.
+pub fn sources_by_kind(
+    alloc: Global,
+    count: usize,
+    numbers: &[u32],
+) -> Result<Vec<Vec<u32>>, AllocError>
+    requires in_range { (i k : ℕ) → slice_get numbers.now i ≡ Some k → k < count }
+    ensures as_many { IfOk result (λ lists. length lists.items ≡ count) }
+    ensures each { IfOk result (λ lists. (k : ℕ) → k < count → slice_get (map (λ l. l.items) lists.items) k ≡ Some (places_of k numbers.now)) }
+{
+    if numbers.len() > 4294967295 {
+        return Err(AllocError);
+    }
+    let mut lists = no_places(alloc, count)?;
+    for i in 0..numbers.len() {
+        add_place(&mut lists, numbers[i], i as u32)?;
+    }
+    Ok(lists)
+}

@@ -1,0 +1,23 @@
+// The succinct types of an environment: what its declarations and pairs want, with the order and the number
+// of equal wants left out, and which declarations and pairs have each succinct type. Its main definition is
+// `IsCompression`; sets as rising lists stand in `specs/Sets.antt`. It stands on `terms`, `lists` and the
+// kit's `indexmap`.
+#![tactic(auto)]
+
+mod by_kind;
+mod compressed;
+mod compressing;
+mod kind;
+mod need;
+mod numbering;
+mod sets;
+mod tables;
+
+pub use by_kind::sources_by_kind;
+pub use compressed::Compressed;
+pub use kind::Succinct;
+pub use need::Need;
+pub use numbering::number_of;
+
+#[cfg(test)]
+mod tests;
