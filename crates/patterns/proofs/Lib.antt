@@ -1,0 +1,6 @@
+pub mod Mets
+pub mod Tables
+pub mod Contexts
+pub mod Derives
+pub mod Lists
+pub mod Meaning

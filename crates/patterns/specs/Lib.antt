@@ -1,0 +1,4 @@
+pub mod Derivable
+pub mod States
+pub mod Met
+pub mod Patterned

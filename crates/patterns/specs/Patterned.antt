@@ -1,0 +1,63 @@
+-- What the search for patterns finds, and what it means for terms.
+use Rattle.std.specs.Prelude.{◌≡◌, ◌⊎◌, ℕ, ◌+◌, ◌≤◌, true, List, length, slice_get, Option, Some, None}
+use Rattle.succinct.specs.Compression.{Compression, Source, sources, IsKindOf, AreDistinct}
+use Rattle.succinct.specs.Sets.{has, types_bound}
+use Rattle.succinct.specs.declared.kind.Succinct.{Succinct}
+use Rattle.terms.specs.Expr.{Expr}
+use Rattle.terms.specs.Place.{fits_place}
+use Rattle.terms.specs.declared.parts.Parts.{Parts}
+use Rattle.patterns.specs.Derivable.{Derivable, AllDerivable}
+use Rattle.patterns.specs.Met.{AreMet}
+use Rattle.patterns.specs.States.{Space, types_at, left_at, place_sought, kinds_of, IsListed, IsOpenState, AreWanted}
+use Rattle.patterns.specs.declared.state.State.{State}
+
+-- the sets and needs, the states, and the kinds listed at each state
+pub record Patterned : Type 0 where
+  pub space : Space
+  pub states : List State
+  pub lists : List (List ℕ)
+
+-- the number of the state in which a need is sought from a state
+abbrev pub sought_from : Patterned → Option State → ℕ → Option ℕ
+sought_from d None n = None
+sought_from d (Some s) n = place_sought d.space d.states s (slice_get d.space.wanted n)
+
+abbrev pub state_sought : Patterned → ℕ → ℕ → Option ℕ
+state_sought d s n = sought_from d (slice_get d.states s) n
+
+-- the list holds exactly the kinds that end in the goal of the state and whose needs are all met there
+pub record IsListOf (p : Space) (kinds : List Succinct) (s : State) (list : List ℕ) : Type 0 where
+  pub only : (k : ℕ) → has k list ≡ true → (kind : Succinct) × (slice_get kinds k ≡ Some kind) × (kind.result ≡ s.goal) × AreMet p kinds s kind.needs
+  pub all : (k : ℕ) (kind : Succinct) → slice_get kinds k ≡ Some kind → kind.result ≡ s.goal → AreMet p kinds s kind.needs → has k list ≡ true
+
+-- the states from the first one on, each once, and their lists
+pub record AreFound (p : Space) (kinds : List Succinct) (goal : ℕ) (states : List State) (lists : List (List ℕ)) : Type 0 where
+  pub distinct_states : AreDistinct states
+  pub first : slice_get states 0 ≡ Some (record { set = 0; goal = goal })
+  -- the states of all needs of the kinds that end in a state's goal are listed
+  pub closed : (s : State) → IsListed states s → IsOpenState p kinds states s (kinds_of kinds s.goal)
+  pub as_many : length lists ≡ length states
+  pub each : (i : ℕ) (s : State) (list : List ℕ) → slice_get states i ≡ Some s → slice_get lists i ≡ Some list → IsListOf p kinds s list
+
+-- the patterns of a compressed environment at a goal and a depth
+pub record ArePatterns (c : Compression) (goal depth : ℕ) (d : Patterned) : Type 0 where
+  pub depth_is : d.space.depth ≡ depth
+  pub distinct_sets : AreDistinct d.space.bound
+  pub wanted : AreWanted depth d.space.bound c.needs d.space.wanted
+  pub found : AreFound d.space c.kinds goal d.states d.lists
+
+-- what a state and its list say of an environment: which types are derivable, and where terms fit
+pub record AgreesAt (g : Parts) (c : Compression) (p : Space) (s : State) (list : List ℕ) : Type 0 where
+  -- a kind is listed exactly where it ends in the goal and the wants of its sources are derivable
+  pub listed : (k n : ℕ) (source : Source) → slice_get (sources g) n ≡ Some source → slice_get c.kind_numbers n ≡ Some k → source.result ≡ s.goal → AllDerivable g (types_at p s.set) (left_at p s.set) source.args → has k list ≡ true
+  pub only_those : (k : ℕ) → has k list ≡ true → (kind : Succinct) × (slice_get c.kinds k ≡ Some kind) × (kind.result ≡ s.goal) × ((source : Source) → IsKindOf c.needs source kind → AllDerivable g (types_at p s.set) (left_at p s.set) source.args)
+  -- the goal is derivable exactly where it is in the set or a kind is listed
+  pub derivable : (has s.goal (types_at p s.set) ≡ true) ⊎ ((k : ℕ) × (has k list ≡ true)) → Derivable g (types_at p s.set) (left_at p s.set) s.goal
+  pub derived : Derivable g (types_at p s.set) (left_at p s.set) s.goal → (has s.goal (types_at p s.set) ≡ true) ⊎ ((k : ℕ) × (has k list ≡ true))
+  -- which is exactly where a term fits, in each context with these types
+  pub term : (ctx : List (List ℕ)) → types_bound ctx ≡ types_at p s.set → length ctx + left_at p s.set ≤ 3 → Derivable g (types_at p s.set) (left_at p s.set) s.goal → (e : Expr) × (fits_place g (record { ctx = ctx; left = left_at p s.set; wanted = s.goal }) e ≡ true)
+  pub derives : (ctx : List (List ℕ)) → types_bound ctx ≡ types_at p s.set → (e : Expr) → fits_place g (record { ctx = ctx; left = left_at p s.set; wanted = s.goal }) e ≡ true → Derivable g (types_at p s.set) (left_at p s.set) s.goal
+
+-- so at each state
+abbrev pub Agrees : Parts → Compression → Patterned → Type 0
+Agrees g c d = (i : ℕ) (s : State) (list : List ℕ) → slice_get d.states i ≡ Some s → slice_get d.lists i ≡ Some list → AgreesAt g c d.space s list

@@ -1,0 +1,72 @@
+// The kinds by the types in which they end.
+
+ghost use Rattle.std.specs.Prelude.{◌≡◌, [], map, slice_get, slice_index_or, Some, IfOk};
+ghost use Rattle.patterns.specs.States.{EndTable, AreEnds, ending};
+
+use indexmap::IndexSet;
+use std::alloc::{AllocError, Global};
+use std::marker::Model;
+use succinct::{Succinct, number_of, sources_by_kind};
+
+/// For each type the kinds that end in it, rising.
+#[derive(Drop)]
+pub struct Ends {
+    goals: IndexSet<u32>,
+    lists: Vec<Vec<u32>>,
+}
+
+impl Model for Ends {
+    ghost use Rattle.std.specs.Prelude.{map};
+    ghost use Rattle.patterns.specs.States.{EndTable};
+
+    ghost Value = { EndTable };
+
+    ghost view = { λ e. record { goals = e.goals.keys; lists = map (λ l. l.items) e.lists.items } };
+}
+
+impl Ends {
+    /// The kinds of a list by the types in which they end.
+    pub fn of(alloc: Global, kinds: &[Succinct]) -> Result<Ends, AllocError>
+        ensures ends { IfOk result (λ ends. AreEnds kinds.now ends) }
+    {
+        let mut goals = IndexSet::new(alloc);
+        let numbers = goal_numbers(alloc, &mut goals, kinds)?;
+        let lists = sources_by_kind(alloc, goals.len(), numbers.as_slice())?;
+        Ok(Ends { goals, lists })
+    }
+
+    /// The kinds that end in a type.
+    pub fn at(&self, goal: u32) -> &[u32]
+        ensures value { result.now ≡ ending self.now goal }
+    {
+        match self.goals.get_index_of(&goal) {
+            Some(place) => list_at(&self.lists, place),
+            None => &[],
+        }
+    }
+}
+
+/// The list at a place, or the empty one.
+fn list_at(lists: &Vec<Vec<u32>>, place: usize) -> &[u32]
+    ensures value { result.now ≡ slice_index_or (map (λ l. l.items) lists.now.items) place [] }
+{
+    match lists.get(place) {
+        Some(list) => list.as_slice(),
+        None => &[],
+    }
+}
+
+/// The numbers of the types in which the kinds end.
+pub fn goal_numbers(
+    alloc: Global,
+    goals: &mut IndexSet<u32>,
+    kinds: &[Succinct],
+) -> Result<Vec<u32>, AllocError>
+    ensures numbered { IfOk result (λ numbers. map (λ i. slice_get goals.new.keys i) numbers.items ≡ map (λ k. Some k.result) kinds.now) }
+{
+    let mut numbers = Vec::new(alloc);
+    for kind in kinds {
+        numbers.push(number_of(goals, kind.result)?)?;
+    }
+    Ok(numbers)
+}

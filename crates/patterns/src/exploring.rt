@@ -1,0 +1,36 @@
+// All states that the first one leads to.
+
+ghost use Rattle.std.specs.Prelude.{◌≡◌, OnOk};
+ghost use Rattle.patterns.specs.States.{AreEnds, IsListed, IsOpenState, kinds_of};
+ghost use Rattle.patterns.specs.declared.state.State.{State};
+ghost use Rattle.succinct.specs.Numbering.{IsGrown};
+
+use crate::ends::Ends;
+use crate::opening::open_state;
+use crate::sets::Sets;
+use crate::state::State;
+use indexmap::IndexSet;
+use std::alloc::AllocError;
+use succinct::Succinct;
+
+/// Lists the states that the listed ones lead to, until all of them are listed. Want of memory is also
+/// answered where they would be 2^32 or more.
+pub fn explore(
+    sets: &Sets,
+    kinds: &[Succinct],
+    ends: &Ends,
+    states: &mut IndexSet<State>,
+) -> Result<(), AllocError>
+    requires ends { AreEnds kinds.now ends.now }
+    ensures open { OnOk result ((s : State) → IsListed states.new.keys s → IsOpenState sets.now kinds.now states.new.keys s (kinds_of kinds.now s.goal)) }
+    ensures grown { IsGrown states.old.keys states.new.keys }
+{
+    for i in 0..4294967296usize {
+        if i >= states.len() {
+            return Ok(());
+        }
+        let from = states.as_slice()[i];
+        open_state(sets, states, from, kinds, ends.at(from.goal))?;
+    }
+    Err(AllocError)
+}

@@ -1,0 +1,75 @@
+// The states and their lists.
+
+ghost use Rattle.std.specs.Prelude.{◌≡◌, ◌≤◌, ℕ, List, length, map, slice_get, Some, IfOk};
+ghost use Rattle.patterns.specs.Patterned.{AreFound, IsListOf};
+ghost use Rattle.patterns.specs.States.{AreEnds, IsListed, IsOpenState, kinds_of};
+ghost use Rattle.patterns.specs.declared.state.State.{State};
+
+use crate::ends::Ends;
+use crate::exploring::explore;
+use crate::listing::{all_met, no_marks};
+use crate::sets::Sets;
+use crate::settling::settle;
+use crate::state::State;
+use indexmap::IndexSet;
+use std::alloc::{AllocError, Global};
+use succinct::Succinct;
+
+/// The states, and for each the kinds that are met there.
+#[derive(Drop)]
+pub struct Found {
+    pub states: IndexSet<State>,
+    pub lists: Vec<Vec<u32>>,
+}
+
+/// The lists of all states.
+fn lists_of(
+    alloc: Global,
+    sets: &Sets,
+    kinds: &[Succinct],
+    ends: &Ends,
+    states: &IndexSet<State>,
+) -> Result<Vec<Vec<u32>>, AllocError>
+    requires ends { AreEnds kinds.now ends.now }
+    requires closed { (s : State) → IsListed states.now.keys s → IsOpenState sets.now kinds.now states.now.keys s (kinds_of kinds.now s.goal) }
+    ensures as_many { IfOk result (λ lists. length lists.items ≡ length states.now.keys) }
+    ensures each { IfOk result (λ lists. (i : ℕ) (s : State) (list : List ℕ) → slice_get states.now.keys i ≡ Some s → slice_get (map (λ l. l.items) lists.items) i ≡ Some list → IsListOf sets.now kinds.now s list) }
+{
+    let mut marks = no_marks(alloc, states.len())?;
+    settle(sets, kinds, ends, states, &mut marks)?;
+    let lists = all_met(alloc, sets, kinds, ends, states, marks.as_slice())?;
+    Ok(lists)
+}
+
+/// The first state alone.
+fn first_state(alloc: Global, goal: u32) -> Result<IndexSet<State>, AllocError>
+    ensures first { IfOk result (λ states. slice_get states.keys 0 ≡ Some (record { set = 0; goal = goal })) }
+{
+    let mut states = IndexSet::new(alloc);
+    let first = State { set: 0, goal };
+    match states.insert(first) {
+        Ok(_) => Ok(states),
+        Err(_) => Err(AllocError),
+    }
+}
+
+/// All states that the goal leads to, with their lists.
+pub fn find(
+    alloc: Global,
+    sets: &Sets,
+    kinds: &[Succinct],
+    ends: &Ends,
+    goal: u32,
+) -> Result<Found, AllocError>
+    requires ends { AreEnds kinds.now ends.now }
+    ensures found { IfOk result (λ f. AreFound sets.now kinds.now goal f.states.keys (map (λ l. l.items) f.lists.items)) }
+    ensures small { IfOk result (λ f. length f.states.keys ≤ 4294967296) }
+{
+    let mut states = first_state(alloc, goal)?;
+    explore(sets, kinds, ends, &mut states)?;
+    if states.len() > 4294967296 {
+        return Err(AllocError);
+    }
+    let lists = lists_of(alloc, sets, kinds, ends, &states)?;
+    Ok(Found { states, lists })
+}

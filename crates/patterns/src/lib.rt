@@ -1,0 +1,22 @@
+// The types that are inhabited at a hole, by succinct types: the states that the goal leads to, each a set of
+// bound types with a count of lambdas left and a type that is sought, and the kinds that are inhabited there.
+// The main definition is `Derivable`; `Agrees` says that a state's list isn't
+// empty, or its goal is bound, exactly where a term fits. It stands on `succinct` and `terms`.
+#![tactic(auto)]
+
+mod ends;
+mod exploring;
+mod finding;
+mod listing;
+mod marking;
+mod opening;
+mod patterns;
+mod sets;
+mod settling;
+mod state;
+mod type_set;
+mod wanted;
+mod wanting;
+
+pub use patterns::Patterns;
+pub use state::State;

@@ -1,0 +1,153 @@
+// The patterns of a compressed environment.
+
+ghost use Rattle.std.specs.Prelude.{◌≡◌, ◌<◌, ◌≤◌, [], length, slice_get, slice_index_or, IfOk};
+ghost use Rattle.patterns.specs.Patterned.{Patterned, ArePatterns, Agrees, state_sought};
+ghost use Rattle.patterns.specs.States.{types_at, left_at, set_sought, place_of};
+ghost use Rattle.succinct.specs.Compression.{IsCompression};
+ghost use Rattle.terms.specs.Faults.{IsValid};
+ghost use Rattle.terms.specs.declared.parts.Parts.{Parts};
+
+use crate::ends::Ends;
+use crate::finding::{Found, find};
+use crate::sets::Sets;
+use crate::state::State;
+use crate::wanted::Wanted;
+use crate::wanting::all_wanted;
+use indexmap::IndexSet;
+use std::alloc::{AllocError, Global};
+use std::marker::Model;
+use succinct::Compressed;
+
+/// Which states a goal leads to, and which kinds are inhabited at each. It owns its tables.
+#[derive(Drop)]
+pub struct Patterns {
+    sets: Sets,
+    states: IndexSet<State>,
+    lists: Vec<Vec<u32>>,
+}
+
+impl Model for Patterns {
+    ghost use Rattle.std.specs.Prelude.{map, length, ◌≤◌};
+    ghost use Rattle.patterns.specs.Patterned.{Patterned};
+
+    ghost Value = { Patterned };
+
+    ghost view = { λ p. record { space = p.sets; states = p.states.keys; lists = map (λ l. l.items) p.lists.items } };
+
+    ghost invariant = { λ p. length p.states.keys ≤ 4294967296 };
+}
+
+impl Patterns {
+    /// The patterns at a goal, with so many lambdas that may nest. Only states that the goal leads to are
+    /// looked at. Want of memory is also answered where there would be 2^32 sets or states.
+    pub fn derive(
+        alloc: Global,
+        compressed: &Compressed,
+        goal: u32,
+        depth: u32,
+    ) -> Result<Patterns, AllocError>
+        requires in_range { depth ≤ 1 }
+        ensures patterns { IfOk result (λ d. ArePatterns compressed.now goal depth d) }
+        ensures agrees { IfOk result (λ d. (g : Parts) → IsValid g → IsCompression g compressed.now → Agrees g compressed.now d) }
+    {
+        let mut bound = IndexSet::new(alloc);
+        let wanted = all_wanted(alloc, &mut bound, compressed.needs(), depth)?;
+        let _ = bound.len();
+        let sets = Sets {
+            depth,
+            bound,
+            wanted,
+        };
+        let ends = Ends::of(alloc, compressed.kinds())?;
+        let Found { states, lists } = find(alloc, &sets, compressed.kinds(), &ends, goal)?;
+        Ok(Patterns {
+            sets,
+            states,
+            lists,
+        })
+    }
+
+    /// The states, each once; state 0 is the goal's.
+    pub fn states(&self) -> &[State]
+        ensures value { result.now ≡ self.now.states }
+    {
+        self.states.as_slice()
+    }
+
+    /// The state of a number.
+    fn state_at(&self, state: u32) -> Option<State>
+        ensures value { result ≡ slice_get self.now.states state }
+    {
+        self.states.as_slice().get(state as usize).copied()
+    }
+
+    /// The kinds that end in the goal of a state and whose needs are all inhabited there.
+    pub fn patterns_of(&self, state: u32) -> &[u32]
+        requires in_range { state < length self.now.states }
+        ensures value { result.now ≡ slice_index_or self.now.lists state [] }
+    {
+        match self.lists.get(state as usize) {
+            Some(list) => list.as_slice(),
+            None => &[],
+        }
+    }
+
+    /// The types of a set, rising.
+    pub fn types_of(&self, set: u32) -> &[u32]
+        ensures value { result.now ≡ types_at self.now.space set }
+    {
+        self.sets.types(set)
+    }
+
+    /// How many more lambdas may nest in a set.
+    pub fn left_of(&self, set: u32) -> u32
+        ensures value { result ≡ left_at self.now.space set }
+    {
+        self.sets.left(set)
+    }
+
+    /// The state in which a need is sought from a state. None comes exactly where a lambda is wanted and none
+    /// is left, and where that state isn't listed.
+    pub fn need_state(&self, state: u32, need: u32) -> Option<u32>
+        ensures value { result ≡ state_sought self.now state need }
+    {
+        let from = match self.state_at(state) {
+            Some(from) => from,
+            None => return None,
+        };
+        let wanted = match self.wanted_at(need) {
+            Some(wanted) => wanted,
+            None => return None,
+        };
+        let set = match self.set_from(from.set, wanted) {
+            Some(set) => set,
+            None => return None,
+        };
+        let goal = wanted.goal;
+        self.place_of(State { set, goal })
+    }
+
+    /// Where a need is sought.
+    fn wanted_at(&self, need: u32) -> Option<Wanted>
+        ensures value { result ≡ slice_get self.now.space.wanted need }
+    {
+        self.sets.wanted(need)
+    }
+
+    /// The set in which a want is sought from a set.
+    fn set_from(&self, set: u32, wanted: Wanted) -> Option<u32>
+        ensures value { result ≡ set_sought self.now.space set wanted }
+    {
+        self.sets.set_sought(set, wanted)
+    }
+
+    /// The number of a state.
+    fn place_of(&self, state: State) -> Option<u32>
+        ensures value { result ≡ place_of self.now.states state }
+    {
+        match self.states.get_index_of(&state) {
+            Some(place) => Some(place as u32),
+            None => None,
+        }
+    }
+}
