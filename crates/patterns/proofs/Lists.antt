@@ -1,11 +1,12 @@
 -- The lists of the states, once nothing more can be marked.
 use Rattle.std.proofs.Common.{◌≡◌, ◌⊎◌, inl, inr, ℕ, zero, suc, ◌+◌, ◌<◌, ◌≤◌, Bool, true, false, ◌&&◌, ◌||◌, ◌==◌, nat_eq, cond, List, [], ◌∷◌, length, map, filter, get_or, slice_get, Option, Some, None, refl, sym, ap, subst, ◌∙◌, arith}
 use Rattle.std.specs.List.{list_all, list_any}
+use Rattle.std.specs.List.{AllByRecursion}
 use Rattle.std.specs.Cmp.Lexicographic.{pointwise}
 use Rattle.std.proofs.lemmas.Bool.{false≢true, or_cases, or_left, or_right, eqb-true, eq-eqb}
 use Rattle.std.proofs.lemmas.Cmp.{nat_list_eq_equiv}
-use Rattle.succinct.specs.Compression.{AreDistinct}
-use Rattle.succinct.specs.Sets.{has}
+use Rattle.succinct.specs.Compression.{AreDistinct, places_from}
+use Rattle.succinct.specs.Sets.{has, IsRising}
 use Rattle.succinct.specs.declared.kind.Succinct.{Succinct}
 use Rattle.succinct.specs.declared.need.Need.{Need}
 use Rattle.patterns.specs.declared.state.State.{State}
@@ -38,10 +39,38 @@ in-filter test (j ∷ ks) k h t = go (test j) refl (or_cases (k == j) (has k ks)
     go false e (inl here) again = absurd (false≢true (sym e ∙ ap test (sym (eqb-true k j here)) ∙ t))
     go false e (inr there) again = again there
 
+-- a number before the rest, where it passes a test
+with_above : (x i : ℕ) (c : Bool) (rest : List ℕ) → x < i → AllByRecursion (λ y. x < y) rest → AllByRecursion (λ y. x < y) (cond c (i ∷ rest) rest)
+with_above x i true rest low r = (low, r)
+with_above x i false rest low r = r
+
+with_rising : (i : ℕ) (c : Bool) (rest : List ℕ) → AllByRecursion (λ y. i < y) rest → IsRising rest → IsRising (cond c (i ∷ rest) rest)
+with_rising i true rest above r = (above, r)
+with_rising i false rest above r = r
+
+-- places from i on are above what is below i, also where some are left out
+above_places : (test : ℕ → Bool) (x i k : ℕ) (ns : List ℕ) → x < i → AllByRecursion (λ y. x < y) (filter test (places_from i k ns))
+above_places test x i k [] low = tt
+above_places test x i k (n ∷ ns) low = go (n == k) (above_places test x (i + 1) k ns (omega (arith, low)))
+  where
+    go : (b : Bool) → AllByRecursion (λ y. x < y) (filter test (places_from (i + 1) k ns)) → AllByRecursion (λ y. x < y) (filter test (cond b (i ∷ places_from (i + 1) k ns) (places_from (i + 1) k ns)))
+    go true rest = with_above x i (test i) (filter test (places_from (i + 1) k ns)) low rest
+    go false rest = rest
+
+-- places that pass a test come in rising order
+rising_places : (test : ℕ → Bool) (i k : ℕ) (ns : List ℕ) → IsRising (filter test (places_from i k ns))
+rising_places test i k [] = tt
+rising_places test i k (n ∷ ns) = go (n == k) (rising_places test (i + 1) k ns)
+  where
+    go : (b : Bool) → IsRising (filter test (places_from (i + 1) k ns)) → IsRising (filter test (cond b (i ∷ places_from (i + 1) k ns) (places_from (i + 1) k ns)))
+    go true rest = with_rising i (test i) (filter test (places_from (i + 1) k ns)) (above_places test i (i + 1) k ns (omega arith)) rest
+    go false rest = rest
+
 -- the list by the marks is the list of the state
 list-is : (p : Space) (kinds : List Succinct) (states : List State) (marks : List Bool) → AreDistinct states → ((s : State) → IsListed states s → IsOpenState p kinds states s (kinds_of kinds s.goal)) → IsSettled p kinds states marks → AreSound p kinds states marks
     → (s : State) → IsListed states s → IsListOf p kinds s (list_of p kinds states marks s)
 list-is p kinds states marks distinct opens settled sound s listed = record {
+  rising = rising_places (λ k. kind_marked p kinds states marks s k) 0 s.goal (map (λ k. k.result) kinds);
   only = λ k h. (
       let f = has-filter (λ j. kind_marked p kinds states marks s j) (kinds_of kinds s.goal) k h in
       let e = ends_in kinds s.goal k 0 f.0 in

@@ -1,7 +1,7 @@
 -- What the search for patterns finds, and what it means for terms.
 use Rattle.std.specs.Prelude.{◌≡◌, ◌⊎◌, ℕ, ◌+◌, ◌≤◌, true, List, length, slice_get, Option, Some, None}
 use Rattle.succinct.specs.Compression.{Compression, Source, sources, IsKindOf, AreDistinct}
-use Rattle.succinct.specs.Sets.{has, types_bound}
+use Rattle.succinct.specs.Sets.{has, IsRising, types_bound}
 use Rattle.succinct.specs.declared.kind.Succinct.{Succinct}
 use Rattle.terms.specs.Expr.{Expr}
 use Rattle.terms.specs.Place.{fits_place}
@@ -25,8 +25,9 @@ sought_from d (Some s) n = place_sought d.space d.states s (slice_get d.space.wa
 abbrev pub state_sought : Patterned → ℕ → ℕ → Option ℕ
 state_sought d s n = sought_from d (slice_get d.states s) n
 
--- the list holds exactly the kinds that end in the goal of the state and whose needs are all met there
+-- the list holds, each once and rising, exactly the kinds that end in the goal of the state and whose needs are all met there
 pub record IsListOf (p : Space) (kinds : List Succinct) (s : State) (list : List ℕ) : Type 0 where
+  pub rising : IsRising list
   pub only : (k : ℕ) → has k list ≡ true → (kind : Succinct) × (slice_get kinds k ≡ Some kind) × (kind.result ≡ s.goal) × AreMet p kinds s kind.needs
   pub all : (k : ℕ) (kind : Succinct) → slice_get kinds k ≡ Some kind → kind.result ≡ s.goal → AreMet p kinds s kind.needs → has k list ≡ true
 

@@ -20,3 +20,6 @@ mod wanting;
 
 pub use patterns::Patterns;
 pub use state::State;
+
+#[cfg(test)]
+mod tests;

@@ -3,10 +3,10 @@ use lists::{Items, Text};
 use std::alloc::{AllocError, Global};
 use terms::{Arg, Decl, Env, EnvFault, Form, Parts};
 
-fn decl(alloc: Global, wanted: Option<Arg>, weight: u32) -> Result<Decl, AllocError> {
+fn decl(alloc: Global, wanted: &[u32], weight: u32) -> Result<Decl, AllocError> {
     let mut args = Items::new(alloc);
-    if let Some(arg) = wanted {
-        args.push(arg)?;
+    for one in wanted {
+        args.push(Arg::Plain(*one))?;
     }
     Ok(Decl {
         args,
@@ -17,41 +17,73 @@ fn decl(alloc: Global, wanted: Option<Arg>, weight: u32) -> Result<Decl, AllocEr
     })
 }
 
-/// `x` of int, `f` from long to int, and the pair of int below long: the sources 0, 1 and 2.
-fn parts(alloc: Global) -> Result<Parts, AllocError> {
+/// Declarations of int, each with the types that it wants, where int is below long or stands alone.
+fn parts(alloc: Global, wanted: &[&[u32]], pairs: &[(u32, u32)]) -> Result<Parts, AllocError> {
     let mut types = Items::new(alloc);
     types.push(Text::from_str(alloc, "int")?)?;
     types.push(Text::from_str(alloc, "long")?)?;
     let mut decls = Items::new(alloc);
-    decls.push(decl(alloc, None, 5)?)?;
-    decls.push(decl(alloc, Some(Arg::Plain(1)), 20)?)?;
+    for one in wanted {
+        decls.push(decl(alloc, one, 20)?)?;
+    }
     Ok(Parts {
         types,
-        pairs: Items::from_slice(alloc, &[(0, 1)])?,
+        pairs: Items::from_slice(alloc, pairs)?,
         decls,
-        goal: 1,
+        goal: 0,
         limit: 75,
         depth: 0,
         binder: Text::from_str(alloc, "p")?,
     })
 }
 
-fn checked(alloc: Global, parts: Parts) -> Result<Env, EnvFault> {
+fn compressed(
+    alloc: Global,
+    wanted: &[&[u32]],
+    pairs: &[(u32, u32)],
+) -> Result<Compressed, EnvFault> {
+    let parts = parts(alloc, wanted, pairs)?;
     if !parts.has_lengths() {
         return Err(EnvFault::OutOfMemory);
     }
-    Env::checked(alloc, parts)
+    let env = Env::checked(alloc, parts)?;
+    Ok(Compressed::new(alloc, &env)?)
+}
+
+/// What a kind selects, nothing where there is no such kind.
+fn selected(compressed: &Compressed, kind: u32) -> &[u32] {
+    if (kind as usize) < compressed.kinds().len() {
+        compressed.select(kind)
+    } else {
+        &[]
+    }
+}
+
+/// Whether a kind has so many needs and ends in a type.
+fn is_kind(compressed: &Compressed, kind: usize, needs: usize, gives: u32) -> bool {
+    match compressed.kinds().get(kind) {
+        Some(found) => found.needs.len() == needs && found.result == gives,
+        None => false,
+    }
+}
+
+// No need to int; long to int; int to long.
+#[test]
+fn a_name_a_call_and_a_pair_have_three_kinds(rt: HostRuntime) -> Result<(), EnvFault> {
+    let found = compressed(rt.alloc(), &[&[], &[1]], &[(0, 1)])?;
+    assert_eq!(rt; found.needs().len(), 2);
+    assert_eq!(rt; found.kinds().len(), 3);
+    assert!(rt; is_kind(&found, 0, 0, 0) && is_kind(&found, 1, 1, 0) && is_kind(&found, 2, 1, 1));
+    assert_eq!(rt; selected(&found, 1), &[1u32][..]);
+    Ok(())
 }
 
 #[test]
-fn a_name_a_call_and_a_pair_have_three_kinds(rt: HostRuntime) -> Result<(), EnvFault> {
-    let env = checked(rt.alloc(), parts(rt.alloc())?)?;
-    let compressed = Compressed::new(rt.alloc(), &env)?;
-    assert_eq!(rt; compressed.needs().len(), 2);
-    let count = compressed.kinds().len();
-    assert_eq!(rt; count, 3);
-    if count == 3 {
-        assert_eq!(rt; compressed.select(1), &[1u32][..]);
-    }
+fn equal_wants_are_one_need(rt: HostRuntime) -> Result<(), EnvFault> {
+    let found = compressed(rt.alloc(), &[&[], &[0], &[0, 0]], &[])?;
+    assert_eq!(rt; found.needs().len(), 1);
+    assert_eq!(rt; found.kinds().len(), 2);
+    assert!(rt; is_kind(&found, 0, 0, 0) && is_kind(&found, 1, 1, 0));
+    assert_eq!(rt; selected(&found, 1), &[1u32, 2][..]);
     Ok(())
 }
