@@ -5,6 +5,7 @@ use Rattle.std.specs.List.{AllByRecursion}
 use Rattle.std.specs.Cmp.Lexicographic.{pointwise}
 use Rattle.std.proofs.lemmas.Bool.{false≢true, or_cases, or_left, or_right, eqb-true, eq-eqb}
 use Rattle.std.proofs.lemmas.Cmp.{nat_list_eq_equiv}
+use Rattle.std.proofs.lemmas.Option.{slice_get_within}
 use Rattle.succinct.specs.Compression.{AreDistinct, places_from}
 use Rattle.succinct.specs.Sets.{has, IsRising}
 use Rattle.succinct.specs.declared.kind.Succinct.{Succinct}
@@ -14,7 +15,7 @@ use Rattle.patterns.specs.declared.type_set.TypeSet.{TypeSet}
 use Rattle.patterns.specs.declared.wanted.Wanted.{Wanted}
 use Rattle.patterns.specs.Met.{AreMet, IsMet, AreSound}
 use Rattle.patterns.specs.Patterned.{IsListOf, AreFound, Patterned, sought_from, state_sought}
-use Rattle.patterns.specs.States.{Space, kinds_of, kind_marked, needs_marked, need_marked, IsSettled, IsListed, IsOpenState, list_of, AreLists, place_of, place_in, place_sought, set_sought, AreWanted}
+use Rattle.patterns.specs.States.{Space, kinds_of, kind_marked, needs_marked, need_marked, IsSettled, IsListed, IsOpenState, list_of, AreLists, place_of, place_in, place_sought, set_sought, AreWanted, AreBound}
 use Rattle.patterns.proofs.Mets.{ends_in, in_ends, sound-needs, complete-needs}
 use Rattle.patterns.proofs.Tables.{remap, unmap}
 
@@ -122,3 +123,14 @@ none-sought d s n from w to at is sought none = none ∙ sym (ap (λ o. place_in
 
 pub wanted-same : (depth : ℕ) (bound : List (List ℕ)) (needs needs' : List Need) (wanted : List Wanted) → needs ≡ needs' → AreWanted depth bound needs wanted → AreWanted depth bound needs' wanted
 wanted-same depth bound needs needs' wanted same are = subst (λ n. AreWanted depth bound n wanted) same are
+
+-- from no set on, each set is what a lambda binds
+pub bound-none : (depth : ℕ) (needs needs' : List Need) (old new : List TypeSet) → needs ≡ needs' → old ≡ [] → (AreBound depth needs (map (λ t. t.types) old) → AreBound depth needs (map (λ t. t.types) new)) → AreBound depth needs' (map (λ t. t.types) new)
+bound-none depth needs needs' old new same empty grows = subst (λ n. AreBound depth n (map (λ t. t.types) new)) same (grows (λ k types at. absurd (none old empty k types at)))
+  where
+    none : (l : List TypeSet) → l ≡ [] → (k : ℕ) (types : List ℕ) → slice_get (map (λ t. t.types) l) k ≡ Some types → ⊥
+    none [] e k types at = absurd (omega (arith, slice_get_within [] k types at))
+    none (x ∷ l) e k types at = absurd (no_cons (ap length e))
+      where
+        no_cons : suc (length l) ≡ 0 → ⊥
+        no_cons h = omega (arith, h)

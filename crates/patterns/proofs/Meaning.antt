@@ -14,16 +14,16 @@ use Rattle.terms.specs.declared.parts.Decl.{Decl}
 use Rattle.terms.specs.declared.parts.Parts.{Parts}
 use Rattle.terms.proofs.Valid.{below-transitive, below-itself}
 use Rattle.succinct.specs.Compression.{Compression, IsCompression, IsNumbered, IsKindOf, Source, sources, of_decl, of_pair, need_of}
-use Rattle.succinct.specs.Sets.{has, joined_with, set_of, types_bound}
+use Rattle.succinct.specs.Sets.{has, IsRising, joined_with, set_of, types_bound}
 use Rattle.succinct.specs.declared.kind.Succinct.{Succinct}
 use Rattle.succinct.specs.declared.need.Need.{Need}
-use Rattle.succinct.proofs.Rising.{has-joined_with}
+use Rattle.succinct.proofs.Rising.{has-joined_with, rising-joined_with}
 use Rattle.patterns.specs.declared.state.State.{State}
 use Rattle.patterns.specs.declared.wanted.Wanted.{Wanted}
 use Rattle.patterns.specs.Derivable.{Derivable, in_set, by_pair, by_decl, AllDerivable, none, value, lambda}
 use Rattle.patterns.specs.Met.{IsMet, by_set, by_kind, AreMet, met_none, met_more}
 use Rattle.patterns.specs.Patterned.{Patterned, IsListOf, AreFound, ArePatterns, AgreesAt, Agrees}
-use Rattle.patterns.specs.States.{Space, types_at, left_at, set_sought, AreWanted, IsWantedAs}
+use Rattle.patterns.specs.States.{Space, types_at, left_at, set_sought, AreWanted, IsWantedAs, AreBound, IsBoundBy}
 use Rattle.patterns.proofs.Contexts.{get-has}
 use Rattle.patterns.proofs.Tables.{unmap, remap}
 use Rattle.patterns.proofs.Derives.{term-derives, derives-term, SomeTerm}
@@ -36,7 +36,7 @@ pub record IsSought (g : Parts) (p : Space) (s : State) (n : ℕ) : Type 0 where
   pub sought : set_sought p s.set wanted ≡ Some to
   pub derivable : Derivable g (types_at p to) (left_at p to) wanted.goal
 
-some_eq : {X : Type 0} (x y : X) → Some x ≡ Some y → x ≡ y
+pub some_eq : {X : Type 0} (x y : X) → Some x ≡ Some y → x ≡ y
 some_eq x y h = cc
 
 -- a lambda can be sought from set 0 alone, where the depth is 1
@@ -45,7 +45,7 @@ pub record FromFirst (p : Space) (set : ℕ) (w : Wanted) (to : ℕ) : Type 0 wh
   pub one : p.depth ≡ 1
   pub to_is : w.set ≡ to
 
-from-first : (p : Space) (set : ℕ) (w : Wanted) (to : ℕ) → w.lambda ≡ true → set_sought p set w ≡ Some to → FromFirst p set w to
+pub from-first : (p : Space) (set : ℕ) (w : Wanted) (to : ℕ) → w.lambda ≡ true → set_sought p set w ≡ Some to → FromFirst p set w to
 from-first p set w to l h = go ((set == 0) && (p.depth == 1)) refl (ap (λ b. cond b (cond ((set == 0) && (p.depth == 1)) (Some w.set) None) (Some set)) (sym l) ∙ h)
   where
     go : (b : Bool) → ((set == 0) && (p.depth == 1)) ≡ b → cond b (Some w.set) None ≡ Some to → FromFirst p set w to
@@ -61,16 +61,16 @@ from-first p set w to l h = go ((set == 0) && (p.depth == 1)) refl (ap (λ b. co
         none_some : None ≡ Some to → ⊥
         none_some q = false≢true (ap is_there q)
 
-plain-same : (p : Space) (set : ℕ) (w : Wanted) (to : ℕ) → w.lambda ≡ false → set_sought p set w ≡ Some to → set ≡ to
+pub plain-same : (p : Space) (set : ℕ) (w : Wanted) (to : ℕ) → w.lambda ≡ false → set_sought p set w ≡ Some to → set ≡ to
 plain-same p set w to l h = some_eq set to (ap (λ b. cond b (cond ((set == 0) && (p.depth == 1)) (Some w.set) None) (Some set)) (sym l) ∙ h)
 
 -- the types and lambdas left of a set that a lambda binds
-bound-types : (p : Space) (set : ℕ) (types : List ℕ) → 0 < set → slice_get p.bound (set - 1) ≡ Some types → types_at p set ≡ types
+pub bound-types : (p : Space) (set : ℕ) (types : List ℕ) → 0 < set → slice_get p.bound (set - 1) ≡ Some types → types_at p set ≡ types
 bound-types p set types low is =
     let b : (set == 0) ≡ false = ne_eqb set 0 (λ e. absurd (omega (arith, low, e))) in
     ap (λ c. cond c [] (get_or p.bound (set - 1) [])) b ∙ get_or_from_slice_get p.bound (set - 1) types [] is
 
-bound-left : (p : Space) (set : ℕ) → 0 < set → left_at p set ≡ 0
+pub bound-left : (p : Space) (set : ℕ) → 0 < set → left_at p set ≡ 0
 bound-left p set low = ap (λ c. cond c p.depth 0) (ne_eqb set 0 (λ e. absurd (omega (arith, low, e))))
 
 append-get : {X : Type 0} (xs ys : List X) (n : ℕ) (z : X) → slice_get (xs ++ ys) n ≡ Some z → (slice_get xs n ≡ Some z) ⊎ ((j : ℕ) × (slice_get ys j ≡ Some z))
@@ -121,12 +121,12 @@ first-want : (g : Parts) (set : List ℕ) (left b : ℕ) (more : List Arg) → A
 first-want g set left b more (value set' left' b' more' d rest) = d
 
 -- lambdas are left in set 0 alone, where the depth is 1
-record FirstSet (p : Space) (set left : ℕ) : Type 0 where
-  zero : set ≡ 0
-  one : p.depth ≡ 1
-  none_left : left ≡ 0
+pub record FirstSet (p : Space) (set left : ℕ) : Type 0 where
+  pub zero : set ≡ 0
+  pub one : p.depth ≡ 1
+  pub none_left : left ≡ 0
 
-first-set : (p : Space) (set left : ℕ) → p.depth ≤ 1 → left_at p set ≡ suc left → FirstSet p set left
+pub first-set : (p : Space) (set left : ℕ) → p.depth ≤ 1 → left_at p set ≡ suc left → FirstSet p set left
 first-set p set left shallow h = go (set == 0) refl h
   where
     go : (b : Bool) → (set == 0) ≡ b → cond b p.depth 0 ≡ suc left → FirstSet p set left
@@ -191,7 +191,7 @@ module _ (g : Parts) (c : Compression) (p : Space) (comp : IsCompression g c) (t
   ]
 
   -- a source of a kind
-  source-of : (k : ℕ) (kind : Succinct) → slice_get c.kinds k ≡ Some kind → (n : ℕ) × (source : Source) × (slice_get (sources g) n ≡ Some source) × IsKindOf c.needs source kind
+  pub source-of : (k : ℕ) (kind : Succinct) → slice_get c.kinds k ≡ Some kind → (n : ℕ) × (source : Source) × (slice_get (sources g) n ≡ Some source) × IsKindOf c.needs source kind
   source-of k kind found =
       let low = slice_get_within c.kinds k kind found in
       let at = get-has c.kind_numbers k (comp.of_sources.no_other_kind k low) in
@@ -209,6 +209,48 @@ module _ (g : Parts) (c : Compression) (p : Space) (comp : IsCompression g c) (t
           let r = comp.of_sources.kind_of_each n k source e at in
           let same : r.0 ≡ kind = some_eq r.0 kind (sym r.1 ∙ found) in
           (n, source, e, subst (λ x. IsKindOf c.needs source x) same r.2)
+
+  -- the argument that a number stands for
+  arg-at : (numbers : List ℕ) (args : List Arg) → map (λ i. slice_get c.needs i) numbers ≡ map (λ a. Some (need_of a)) args → (n : ℕ) → has n numbers ≡ true → (a : Arg) × (slice_get c.needs n ≡ Some (need_of a))
+  arg-at [] args named n h = absurd (false≢true h)
+  arg-at (m ∷ ms) [] named n h = cc
+  arg-at (m ∷ ms) (a ∷ args) named n h =
+      let first : slice_get c.needs m ≡ Some (need_of a) = cc in
+      let later : map (λ i. slice_get c.needs i) ms ≡ map (λ x. Some (need_of x)) args = cc in
+      elim (or_cases (n == m) (has n ms) h) [
+        | inl here ↦ (a, ap (slice_get c.needs) (eqb-true n m here) ∙ first)
+        | inr there ↦ arg-at ms args later n there
+      ]
+
+  -- each need is that of an argument
+  pub need-is : (n : ℕ) (need : Need) → slice_get c.needs n ≡ Some need → (a : Arg) × (need ≡ need_of a)
+  need-is n need at =
+      let k = comp.of_sources.no_other_need n (slice_get_within c.needs n need at) in
+      let f = source-of k.0 k.1 k.2 in
+      let in_numbers : has n f.3.numbers ≡ true = sym (ap (has n) f.3.wants ∙ has-joined_with n [] f.3.numbers) ∙ k.3 in
+      let a = arg-at f.3.numbers f.1.args f.3.named n in_numbers in
+      (a.0, some_eq need (need_of a.0) (sym at ∙ a.1))
+
+  -- the types of a set come rising
+  types-rising : AreBound p.depth c.needs p.bound → (set : ℕ) → set ≤ length p.bound → IsRising (types_at p set)
+  types-rising bound set low = go (set == 0) refl
+    where
+      params-rising : (a : Arg) → IsRising (need_of a).params
+      params-rising (Plain b) = tt
+      params-rising (Fun ps r) = rising-joined_with [] ps tt
+
+      go : (b : Bool) → (set == 0) ≡ b → IsRising (cond b [] (get_or p.bound (set - 1) []))
+      go true e = tt
+      go false e =
+          let apart = eqb-false set 0 e in
+          let at : slice_get p.bound (set - 1) ≡ Some (get_or p.bound (set - 1) []) = slice_get-get_or p.bound (set - 1) [] (above set apart low) in
+          let b : IsBoundBy p.depth c.needs (get_or p.bound (set - 1) []) = bound (set - 1) (get_or p.bound (set - 1) []) at in
+          let a = need-is b.number b.need b.numbered in
+          subst IsRising b.params (subst (λ (n : Need). IsRising n.params) (sym a.1) (params-rising a.0))
+        where
+          above : (m : ℕ) → (m ≡ 0 → ⊥) → m ≤ length p.bound → m - 1 < length p.bound
+          above zero apart' low' = absurd (apart' refl)
+          above (suc m) apart' low' = omega (arith, low')
 
   mutual
     -- what is met is derivable
@@ -311,6 +353,7 @@ some-fits g ctx left b t = and_from (some_below g (type_in g ctx t.term) b) (sha
 -- the patterns agree with the environment
 pub agrees : (g : Parts) (c : Compression) (goal depth : ℕ) (d : Patterned) → depth ≤ 1 → IsValid g → IsCompression g c → ArePatterns c goal depth d → Agrees g c d
 agrees g c goal depth d shallow valid comp made i s list at is = record {
+  rising = types-rising g c d.space comp table bound s.set (made.in_range s (i, at));
   listed = λ k n source from number gives all. (
       let r = comp.of_sources.kind_of_each n k source from number in
       lo.all k r.0 r.1 (r.2.gives ∙ gives) (needs-met g c d.space comp table s.set s.goal source r.0 r.2 (args-met g c d.space comp table flat (types_at d.space s.set) (left_at d.space s.set) source.args all s.set refl refl) r.0.needs (λ m h. h)));
@@ -332,6 +375,9 @@ agrees g c goal depth d shallow valid comp made i s list at is = record {
 
     table : AreWanted d.space.depth d.space.bound c.needs d.space.wanted
     table = subst (λ n. AreWanted n d.space.bound c.needs d.space.wanted) (sym made.depth_is) made.wanted
+
+    bound : AreBound d.space.depth c.needs d.space.bound
+    bound = subst (λ n. AreBound n c.needs d.space.bound) (sym made.depth_is) made.only_sets
 
     seen-of : (t : State) → IsMet d.space c.kinds t → IsListOf d.space c.kinds t list → (has t.goal (types_at d.space t.set) ≡ true) ⊎ ((k : ℕ) × (has k list ≡ true))
     seen-of t (by_set t' h) l = inl h

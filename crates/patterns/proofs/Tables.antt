@@ -2,7 +2,7 @@
 use Rattle.std.proofs.Common.{◌≡◌, ◌⊎◌, inl, inr, ℕ, zero, suc, ◌+◌, ◌-◌, ◌<◌, ◌≤◌, Bool, true, false, ◌==◌, cond, nat_lt, nat_eq, List, [], ◌∷◌, ◌++◌, length, map, take, get_or, slice_get, Option, Some, None, refl, sym, ap, subst, ◌∙◌, arith, length-append}
 use Rattle.std.specs.List.{position, position_or_len}
 use Rattle.std.specs.Cmp.Lexicographic.{pointwise, same_text}
-use Rattle.std.proofs.lemmas.Bool.{false≢true, eqb-true, eq-eqb, ne_eqb, cases_eq, lt-ltb}
+use Rattle.std.proofs.lemmas.Bool.{false≢true, eqb-true, eq-eqb, ne_eqb, cases_eq, cases_lt, lt-ltb}
 use Rattle.std.proofs.lemmas.List.{take_more, length-take-le}
 use Rattle.std.proofs.lemmas.List.Quantifiers.{position-Some}
 use Rattle.std.proofs.lemmas.List.Sums.{position_or_len_is}
@@ -42,6 +42,30 @@ get_push (z ∷ xs) x y (suc n) h = elim (get_push xs x y n h) [
   | inl before ↦ inl before
   | inr last ↦ inr (ap (λ k. suc k) last.0, last.1)
 ]
+
+-- what stands in a grown list stood there before, or is the one value more
+only-one : {X : Type 0} (old new : List X) (i : ℕ) (x : X) → IsGrown old new → slice_get new i ≡ Some x → ((j : ℕ) → length old ≤ j → j < length new → j ≡ i) → (j : ℕ) (y : X) → slice_get new j ≡ Some y → (slice_get old j ≡ Some y) ⊎ (y ≡ x)
+only-one old new i x grown at one j y is = elim (cases_lt j (length old)) [
+  | inl low ↦ (
+      let was : slice_get old j ≡ Some (get_or old j x) = slice_get-get_or old j x low in
+      let e : Some (get_or old j x) ≡ Some y = sym (grown j (get_or old j x) was) ∙ is in
+      let e' : get_or old j x ≡ y = cc in
+      inl (was ∙ ap (λ z. Some z) e'))
+  | inr past ↦ (
+      let e : Some x ≡ Some y = sym at ∙ sym (ap (slice_get new) (one j past (slice_get_within new j y is))) ∙ is in
+      let e' : y ≡ x = cc in
+      inr e')
+]
+
+-- one set more at most
+pub only-set : (old new : List TypeSet) (n : ℕ) (types : List ℕ) → IsGrown old new → (k : TypeSet) × (slice_get new n ≡ Some k) × (pointwise nat_eq types k.types ≡ true) → ((j : ℕ) → length old ≤ j → j < length new → j ≡ n)
+    → (j : ℕ) (set : List ℕ) → slice_get (map (λ t. t.types) new) j ≡ Some set → (slice_get (map (λ t. t.types) old) j ≡ Some set) ⊎ (set ≡ types)
+only-set old new n types grown h one j set is =
+    let u = unmap (λ (t : TypeSet). t.types) new j set is in
+    elim (only-one old new n h.0 grown h.1 one j u.0 u.1) [
+      | inl was ↦ inl (remap (λ (t : TypeSet). t.types) old j u.0 was ∙ ap (λ z. Some z) u.2)
+      | inr same ↦ inr (sym u.2 ∙ ap (λ (t : TypeSet). t.types) same ∙ sym (same_text types h.0.types (sym h.2)))
+    ]
 
 get_left : {X : Type 0} (xs ys : List X) (i : ℕ) (x : X) → slice_get xs i ≡ Some x → slice_get (xs ++ ys) i ≡ Some x
 get_left [] ys i x h = cc

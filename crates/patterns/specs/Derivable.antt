@@ -1,5 +1,5 @@
 -- Which types are derivable from a set of types, with so many lambdas left (the succinct calculus of PLDI
--- 2013, section 4, with a count of lambdas). Wants are read off the declarations' arguments: a set of wants
+-- 2013, section 3, with a count of lambdas). Wants are read off the declarations' arguments: a set of wants
 -- is met where each of its members is.
 use Rattle.std.specs.Prelude.{◌≡◌, ℕ, suc, true, List, [], ◌∷◌, slice_get, Some}
 use Rattle.succinct.specs.Sets.{has, joined_with}

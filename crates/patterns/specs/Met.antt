@@ -1,4 +1,4 @@
--- The states that are inhabited, by kinds and states alone.
+-- The states that are inhabited, by kinds and sets alone: a state that is met needs not be listed.
 use Rattle.std.specs.Prelude.{◌≡◌, ℕ, Bool, true, false, List, [], ◌∷◌, slice_get, slice_index_or, Some}
 use Rattle.succinct.specs.Sets.{has}
 use Rattle.succinct.specs.declared.kind.Succinct.{Succinct}

@@ -1,5 +1,5 @@
 -- States: a set of bound types with a count of lambdas left, and the type that is sought.
-use Rattle.std.specs.Prelude.{◌≡◌, ℕ, ◌-◌, ◌<◌, Bool, true, false, ◌&&◌, ◌||◌, ◌==◌, cond, List, [], length, map, slice_get, slice_index_or, position, Option, Some, None, filter}
+use Rattle.std.specs.Prelude.{◌≡◌, ℕ, ◌-◌, ◌<◌, ◌≤◌, Bool, true, false, ◌&&◌, ◌||◌, ◌==◌, cond, List, [], length, map, slice_get, slice_index_or, position, Option, Some, None, filter}
 use Rattle.std.specs.List.{list_all, list_any}
 use Rattle.succinct.specs.Compression.{places_of}
 use Rattle.succinct.specs.Sets.{has}
@@ -9,7 +9,7 @@ use Rattle.patterns.specs.declared.state.State.{State}
 use Rattle.patterns.specs.declared.wanted.Wanted.{Wanted}
 
 -- the depth, the sets that lambdas bind (set k + 1 is the k-th of them, with no lambda left), and where each
--- need is sought
+-- need is sought; a set's number stands for the set together with its count of lambdas left
 pub record Space : Type 0 where
   pub depth : ℕ
   pub bound : List (List ℕ)
@@ -64,6 +64,14 @@ kinds_of kinds goal = places_of goal (map (λ k. k.result) kinds)
 abbrev pub IsListed : List State → State → Type 0
 IsListed states s = (t : ℕ) × (slice_get states t ≡ Some s)
 
+-- the set of each state is there
+abbrev pub AreInRange : Space → List State → Type 0
+AreInRange p states = (s : State) → IsListed states s → s.set ≤ length p.bound
+
+-- a set in which a want is sought is there, where the set that it is sought from is
+abbrev pub AreSetsInRange : Space → Type 0
+AreSetsInRange p = (n set to : ℕ) (w : Wanted) → slice_get p.wanted n ≡ Some w → set_sought p set w ≡ Some to → set ≤ length p.bound → to ≤ length p.bound
+
 -- the state in which a need is sought is listed
 abbrev pub IsOpenNeed : Space → List State → State → ℕ → Type 0
 IsOpenNeed p states from n = (w : Wanted) (set : ℕ) → slice_get p.wanted n ≡ Some w → set_sought p from.set w ≡ Some set → IsListed states (record { set = set; goal = w.goal })
@@ -111,6 +119,19 @@ pub record IsWantedAs (depth : ℕ) (bound : List (List ℕ)) (need : Need) (w :
 -- each need is sought as the table says
 abbrev pub AreWanted : ℕ → List (List ℕ) → List Need → List Wanted → Type 0
 AreWanted depth bound needs wanted = (n : ℕ) (need : Need) → slice_get needs n ≡ Some need → (w : Wanted) × (slice_get wanted n ≡ Some w) × IsWantedAs depth bound need w
+
+-- the types are what the lambda of a need binds, where the depth allows lambdas
+pub record IsBoundBy (depth : ℕ) (needs : List Need) (types : List ℕ) : Type 0 where
+  pub one : depth ≡ 1
+  pub number : ℕ
+  pub need : Need
+  pub numbered : slice_get needs number ≡ Some need
+  pub lambda : need.lambda ≡ true
+  pub params : need.params ≡ types
+
+-- each set is what a lambda binds, so that there is none where the depth is 0
+abbrev pub AreBound : ℕ → List Need → List (List ℕ) → Type 0
+AreBound depth needs bound = (k : ℕ) (types : List ℕ) → slice_get bound k ≡ Some types → IsBoundBy depth needs types
 
 -- the kinds that end in the goal of a state and are met there, by the marks
 abbrev pub list_of : Space → List Succinct → List State → List Bool → State → List ℕ

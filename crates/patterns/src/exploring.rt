@@ -1,7 +1,7 @@
 // All states that the first one leads to.
 
-ghost use Rattle.std.specs.Prelude.{◌≡◌, OnOk};
-ghost use Rattle.patterns.specs.States.{AreEnds, IsListed, IsOpenState, kinds_of};
+ghost use Rattle.std.specs.Prelude.{◌≡◌, ◌<◌, OnOk, length};
+ghost use Rattle.patterns.specs.States.{AreEnds, AreInRange, AreSetsInRange, IsListed, IsOpenState, kinds_of};
 ghost use Rattle.patterns.specs.declared.state.State.{State};
 ghost use Rattle.succinct.specs.Numbering.{IsGrown};
 
@@ -24,6 +24,8 @@ pub fn explore(
     requires ends { AreEnds kinds.now ends.now }
     ensures open { OnOk result ((s : State) → IsListed states.new.keys s → IsOpenState sets.now kinds.now states.new.keys s (kinds_of kinds.now s.goal)) }
     ensures grown { IsGrown states.old.keys states.new.keys }
+    ensures in_range { OnOk result (AreSetsInRange sets.now → AreInRange sets.now states.old.keys → AreInRange sets.now states.new.keys) }
+    ensures small { OnOk result (length states.new.keys < 4294967296) }
 {
     for i in 0..4294967296usize {
         if i >= states.len() {

@@ -1,9 +1,10 @@
 // The states and their lists.
 
-ghost use Rattle.std.specs.Prelude.{◌≡◌, ◌≤◌, ℕ, List, length, map, slice_get, Some, IfOk};
+ghost use Rattle.std.specs.Prelude.{◌≡◌, ◌<◌, ℕ, List, length, map, slice_get, Some, IfOk, OnOk};
 ghost use Rattle.patterns.specs.Patterned.{AreFound, IsListOf};
-ghost use Rattle.patterns.specs.States.{AreEnds, IsListed, IsOpenState, kinds_of};
+ghost use Rattle.patterns.specs.States.{AreEnds, AreInRange, AreSetsInRange, IsListed, IsOpenState, kinds_of};
 ghost use Rattle.patterns.specs.declared.state.State.{State};
+ghost use Rattle.succinct.specs.Compression.{AreDistinct};
 
 use crate::ends::Ends;
 use crate::exploring::explore;
@@ -32,6 +33,7 @@ fn lists_of(
 ) -> Result<Vec<Vec<u32>>, AllocError>
     requires ends { AreEnds kinds.now ends.now }
     requires closed { (s : State) → IsListed states.now.keys s → IsOpenState sets.now kinds.now states.now.keys s (kinds_of kinds.now s.goal) }
+    ensures distinct { OnOk result (AreDistinct states.now.keys) }
     ensures as_many { IfOk result (λ lists. length lists.items ≡ length states.now.keys) }
     ensures each { IfOk result (λ lists. (i : ℕ) (s : State) (list : List ℕ) → slice_get states.now.keys i ≡ Some s → slice_get (map (λ l. l.items) lists.items) i ≡ Some list → IsListOf sets.now kinds.now s list) }
 {
@@ -44,6 +46,7 @@ fn lists_of(
 /// The first state alone.
 fn first_state(alloc: Global, goal: u32) -> Result<IndexSet<State>, AllocError>
     ensures first { IfOk result (λ states. slice_get states.keys 0 ≡ Some (record { set = 0; goal = goal })) }
+    ensures only { IfOk result (λ states. (s : State) → IsListed states.keys s → s ≡ record { set = 0; goal = goal }) }
 {
     let mut states = IndexSet::new(alloc);
     let first = State { set: 0, goal };
@@ -53,7 +56,8 @@ fn first_state(alloc: Global, goal: u32) -> Result<IndexSet<State>, AllocError>
     }
 }
 
-/// All states that the goal leads to, with their lists.
+/// All states that the goal leads to, with their lists. Want of memory is also answered where the states
+/// would be 2^32 or more.
 pub fn find(
     alloc: Global,
     sets: &Sets,
@@ -63,13 +67,11 @@ pub fn find(
 ) -> Result<Found, AllocError>
     requires ends { AreEnds kinds.now ends.now }
     ensures found { IfOk result (λ f. AreFound sets.now kinds.now goal f.states.keys (map (λ l. l.items) f.lists.items)) }
-    ensures small { IfOk result (λ f. length f.states.keys ≤ 4294967296) }
+    ensures in_range { IfOk result (λ f. AreSetsInRange sets.now → AreInRange sets.now f.states.keys) }
+    ensures small { IfOk result (λ f. length f.states.keys < 4294967296) }
 {
     let mut states = first_state(alloc, goal)?;
     explore(sets, kinds, ends, &mut states)?;
-    if states.len() > 4294967296 {
-        return Err(AllocError);
-    }
     let lists = lists_of(alloc, sets, kinds, ends, &states)?;
     Ok(Found { states, lists })
 }

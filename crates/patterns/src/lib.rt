@@ -1,7 +1,8 @@
 // The types that are inhabited at a hole, by succinct types: the states that the goal leads to, each a set of
 // bound types with a count of lambdas left and a type that is sought, and the kinds that are inhabited there.
-// The main definition is `Derivable`; `Agrees` says that a state's list isn't
-// empty, or its goal is bound, exactly where a term fits. It stands on `succinct` and `terms`.
+// The main definition is `ArePatterns`; `Agrees` says that a state's list isn't empty, or its goal is bound,
+// exactly where the goal is `Derivable` and where a term fits. It stands on `succinct`, `terms`, `lists` and
+// the kit's `indexmap`.
 #![tactic(auto)]
 
 mod ends;

@@ -1,9 +1,10 @@
 // The states that a state leads to.
 
-ghost use Rattle.std.specs.Prelude.{◌≡◌, OnOk, slice_get, Some};
+ghost use Rattle.std.specs.Prelude.{◌≡◌, ◌⊎◌, ◌≤◌, OnOk, length, slice_get, Some};
 ghost use Rattle.succinct.specs.Numbering.{IsGrown};
 ghost use Rattle.succinct.specs.declared.kind.Succinct.{Succinct};
-ghost use Rattle.patterns.specs.States.{IsListed, IsOpenNeed, IsOpenKind, IsOpenState};
+ghost use Rattle.patterns.specs.States.{AreInRange, AreSetsInRange, IsListed, IsOpenNeed, IsOpenKind, IsOpenState};
+ghost use Rattle.patterns.specs.declared.state.State.{State};
 
 use crate::sets::Sets;
 use crate::state::State;
@@ -15,6 +16,7 @@ use succinct::{Succinct, number_of};
 pub fn list_state(states: &mut IndexSet<State>, state: State) -> Result<(), AllocError>
     ensures listed { OnOk result (IsListed states.new.keys state) }
     ensures grown { IsGrown states.old.keys states.new.keys }
+    ensures only { OnOk result ((s : State) → IsListed states.new.keys s → IsListed states.old.keys s ⊎ (s ≡ state)) }
 {
     let _ = number_of(states, state)?;
     Ok(())
@@ -29,6 +31,7 @@ pub fn open_need(
 ) -> Result<(), AllocError>
     ensures open { OnOk result (IsOpenNeed sets.now states.new.keys from need) }
     ensures grown { IsGrown states.old.keys states.new.keys }
+    ensures in_range { OnOk result (AreSetsInRange sets.now → from.set ≤ length sets.now.bound → AreInRange sets.now states.old.keys → AreInRange sets.now states.new.keys) }
 {
     let wanted = match sets.wanted(need) {
         Some(wanted) => wanted,
@@ -55,6 +58,7 @@ pub fn open_kind(
 ) -> Result<(), AllocError>
     ensures open { OnOk result (IsOpenKind sets.now states.new.keys from needs.now) }
     ensures grown { IsGrown states.old.keys states.new.keys }
+    ensures in_range { OnOk result (AreSetsInRange sets.now → from.set ≤ length sets.now.bound → AreInRange sets.now states.old.keys → AreInRange sets.now states.new.keys) }
 {
     for need in needs {
         open_need(sets, states, from, *need)?;
@@ -72,6 +76,7 @@ fn open_numbered(
 ) -> Result<(), AllocError>
     ensures open { OnOk result ((found : Succinct) → slice_get kinds.now kind ≡ Some found → IsOpenKind sets.now states.new.keys from found.needs) }
     ensures grown { IsGrown states.old.keys states.new.keys }
+    ensures in_range { OnOk result (AreSetsInRange sets.now → from.set ≤ length sets.now.bound → AreInRange sets.now states.old.keys → AreInRange sets.now states.new.keys) }
 {
     match kinds.get(kind as usize) {
         Some(found) => open_kind(sets, states, from, found.needs.as_slice()),
@@ -89,6 +94,7 @@ pub fn open_state(
 ) -> Result<(), AllocError>
     ensures open { OnOk result (IsOpenState sets.now kinds.now states.new.keys from ending.now) }
     ensures grown { IsGrown states.old.keys states.new.keys }
+    ensures in_range { OnOk result (AreSetsInRange sets.now → from.set ≤ length sets.now.bound → AreInRange sets.now states.old.keys → AreInRange sets.now states.new.keys) }
 {
     for kind in ending {
         open_numbered(sets, states, from, kinds, *kind)?;

@@ -1,7 +1,7 @@
 // The patterns of a compressed environment.
 
-ghost use Rattle.std.specs.Prelude.{◌≡◌, ◌<◌, ◌≤◌, [], length, slice_get, slice_index_or, IfOk};
-ghost use Rattle.patterns.specs.Patterned.{Patterned, ArePatterns, Agrees, state_sought};
+ghost use Rattle.std.specs.Prelude.{◌≡◌, ◌<◌, ◌≤◌, suc, [], length, slice_get, slice_index_or, IfOk};
+ghost use Rattle.patterns.specs.Patterned.{Patterned, ArePatterns, Agrees, AreSought, state_sought};
 ghost use Rattle.patterns.specs.States.{types_at, left_at, set_sought, place_of};
 ghost use Rattle.succinct.specs.Compression.{IsCompression};
 ghost use Rattle.terms.specs.Faults.{IsValid};
@@ -27,19 +27,19 @@ pub struct Patterns {
 }
 
 impl Model for Patterns {
-    ghost use Rattle.std.specs.Prelude.{map, length, ◌≤◌};
+    ghost use Rattle.std.specs.Prelude.{map, length, ◌<◌};
     ghost use Rattle.patterns.specs.Patterned.{Patterned};
 
     ghost Value = { Patterned };
 
     ghost view = { λ p. record { space = p.sets; states = p.states.keys; lists = map (λ l. l.items) p.lists.items } };
 
-    ghost invariant = { λ p. length p.states.keys ≤ 4294967296 };
+    ghost invariant = { λ p. length p.states.keys < 4294967296 };
 }
 
 impl Patterns {
-    /// The patterns at a goal, with so many lambdas that may nest. Only states that the goal leads to are
-    /// looked at. Want of memory is also answered where there would be 2^32 sets or states.
+    /// The patterns at a goal, with so many lambdas that may nest. Want of memory is also answered where there
+    /// would be 2^32 sets or states, the empty set counted.
     pub fn derive(
         alloc: Global,
         compressed: &Compressed,
@@ -49,10 +49,14 @@ impl Patterns {
         requires in_range { depth ≤ 1 }
         ensures patterns { IfOk result (λ d. ArePatterns compressed.now goal depth d) }
         ensures agrees { IfOk result (λ d. (g : Parts) → IsValid g → IsCompression g compressed.now → Agrees g compressed.now d) }
+        ensures sought { IfOk result (λ d. (g : Parts) → IsCompression g compressed.now → AreSought compressed.now d) }
+        ensures small { IfOk result (λ d. (suc (length d.space.bound) < 4294967296) × (length d.states < 4294967296)) }
     {
         let mut bound = IndexSet::new(alloc);
         let wanted = all_wanted(alloc, &mut bound, compressed.needs(), depth)?;
-        let _ = bound.len();
+        if bound.len() > 4294967294 {
+            return Err(AllocError);
+        }
         let sets = Sets {
             depth,
             bound,
@@ -92,7 +96,7 @@ impl Patterns {
         }
     }
 
-    /// The types of a set, rising.
+    /// The types of a set: rising at the set of each state, and none where there is no such set.
     pub fn types_of(&self, set: u32) -> &[u32]
         ensures value { result.now ≡ types_at self.now.space set }
     {
@@ -107,7 +111,7 @@ impl Patterns {
     }
 
     /// The state in which a need is sought from a state. None comes exactly where a lambda is wanted and none
-    /// is left, and where that state isn't listed.
+    /// is left, where that state isn't listed, and where there is no such state or need.
     pub fn need_state(&self, state: u32, need: u32) -> Option<u32>
         ensures value { result ≡ state_sought self.now state need }
     {

@@ -50,7 +50,7 @@ impl Sets {
         self.wanted.as_slice().get(need as usize).copied()
     }
 
-    /// The types of a set, rising.
+    /// The types of a set.
     pub fn types(&self, set: u32) -> &[u32]
         ensures value { result.now ≡ types_at self.now set }
     {

@@ -6,7 +6,13 @@ use std::alloc::{AllocError, Global};
 use succinct::Compressed;
 use terms::{Arg, Decl, Env, EnvFault, Form, Parts};
 
-fn decl(alloc: Global, form: Form, wanted: Option<Arg>, gives: u32) -> Result<Decl, AllocError> {
+fn decl(
+    alloc: Global,
+    form: Form,
+    weight: u32,
+    wanted: Option<Arg>,
+    gives: u32,
+) -> Result<Decl, AllocError> {
     let mut args = Items::new(alloc);
     if let Some(arg) = wanted {
         args.push(arg)?;
@@ -14,13 +20,13 @@ fn decl(alloc: Global, form: Form, wanted: Option<Arg>, gives: u32) -> Result<De
     Ok(Decl {
         args,
         result: gives,
-        weight: 10,
+        weight,
         crowded: false,
         form,
     })
 }
 
-/// `x` of int, and `I` made from a lambda from int to int.
+/// `x` of int with weight 5, and `I` made from a lambda from int to int with weight 10.
 fn parts(alloc: Global, depth: u32) -> Result<Parts, AllocError> {
     let mut types = Items::new(alloc);
     types.push(Text::from_str(alloc, "int")?)?;
@@ -29,8 +35,8 @@ fn parts(alloc: Global, depth: u32) -> Result<Parts, AllocError> {
     let lambda = Form::Lambda(Text::from_str(alloc, "I")?);
     let wanted = Arg::Fun(Items::from_slice(alloc, &[0])?, 0);
     let mut decls = Items::new(alloc);
-    decls.push(decl(alloc, x, None, 0)?)?;
-    decls.push(decl(alloc, lambda, Some(wanted), 1)?)?;
+    decls.push(decl(alloc, x, 5, None, 0)?)?;
+    decls.push(decl(alloc, lambda, 10, Some(wanted), 1)?)?;
     Ok(Parts {
         types,
         pairs: Items::new(alloc),
@@ -52,36 +58,37 @@ fn checked(alloc: Global, parts: Parts) -> Result<Env, EnvFault> {
 /// `x` of int alone.
 fn name_alone(alloc: Global) -> Result<Parts, AllocError> {
     let mut decls = Items::new(alloc);
-    decls.push(decl(alloc, Form::Name(Text::from_str(alloc, "x")?), None, 0)?)?;
+    let x = Form::Name(Text::from_str(alloc, "x")?);
+    decls.push(decl(alloc, x, 5, None, 0)?)?;
     Ok(Parts {
         decls,
         ..parts(alloc, 0)?
     })
 }
 
-/// How many kinds the goal's state has, where so many lambdas may nest.
-fn kinds_of_goal(alloc: Global, parts: Parts, depth: u32) -> Result<usize, EnvFault>
+/// Whether these are the kinds of the goal's state, where so many lambdas may nest.
+fn goal_has(alloc: Global, parts: Parts, depth: u32, kinds: &[u32]) -> Result<bool, EnvFault>
     requires { depth ≤ 1 }
 {
     let env = checked(alloc, parts)?;
     let compressed = Compressed::new(alloc, &env)?;
     let patterns = Patterns::derive(alloc, &compressed, 1, depth)?;
     if patterns.states().is_empty() {
-        return Ok(9);
+        return Ok(false);
     }
-    Ok(patterns.patterns_of(0).len())
+    Ok(patterns.patterns_of(0) == kinds)
 }
 
 #[test]
 fn a_lambda_is_met_where_the_depth_allows_it(rt: HostRuntime) -> Result<(), EnvFault> {
-    assert_eq!(rt; kinds_of_goal(rt.alloc(), parts(rt.alloc(), 0)?, 0)?, 0);
-    assert_eq!(rt; kinds_of_goal(rt.alloc(), parts(rt.alloc(), 1)?, 1)?, 1);
+    assert!(rt; goal_has(rt.alloc(), parts(rt.alloc(), 0)?, 0, &[])?);
+    assert!(rt; goal_has(rt.alloc(), parts(rt.alloc(), 1)?, 1, &[1])?);
     Ok(())
 }
 
 #[test]
 fn a_type_that_nothing_gives_has_no_kind(rt: HostRuntime) -> Result<(), EnvFault> {
-    assert_eq!(rt; kinds_of_goal(rt.alloc(), name_alone(rt.alloc())?, 0)?, 0);
+    assert!(rt; goal_has(rt.alloc(), name_alone(rt.alloc())?, 0, &[])?);
     Ok(())
 }
 

@@ -10,7 +10,7 @@ ghost use Rattle.std.specs.Prelude.{nat_eq};
 use lists::Items;
 use std::hash::{Hash, Hasher};
 
-/// The types that a lambda binds, strictly rising.
+/// The types that a lambda binds, in the order of its need.
 #[derive(Drop)]
 pub struct TypeSet {
     pub types: Items<u32>,

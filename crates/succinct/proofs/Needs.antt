@@ -1,11 +1,10 @@
 -- The numbers of needs and kinds while the tables grow.
 use Rattle.std.proofs.Common.{◌≡◌, ◌⊎◌, inl, inr, ℕ, zero, suc, ◌+◌, ◌<◌, ◌≤◌, Bool, true, false, ◌||◌, ◌==◌, List, [], ◌∷◌, ◌++◌, length, map, take, get_or, slice_get, Option, Some, None, refl, sym, ap, subst, ◌∙◌, arith, length-append, append_assoc, append-nil}
-use Rattle.std.specs.List.{list_any, AllByRecursion, IsDistinct}
-use Rattle.std.proofs.lemmas.Bool.{false≢true, or_left, or_right, or_cases, eq-eqb, cases_lt}
+use Rattle.std.specs.List.{AllByRecursion, IsDistinct}
+use Rattle.std.proofs.lemmas.Bool.{false≢true, or_left, or_right, eq-eqb, cases_lt}
 use Rattle.std.proofs.lemmas.List.{take_more, take_all, map-append}
 use Rattle.std.proofs.lemmas.List.Folds.{list_any-append}
 use Rattle.std.proofs.lemmas.Option.{slice_get_within}
-use Rattle.terms.specs.declared.parts.Arg.{Arg}
 use Rattle.terms.specs.declared.parts.Decl.{Decl}
 use Rattle.terms.specs.declared.parts.Parts.{Parts}
 use Rattle.succinct.specs.declared.need.Need.{Need}
@@ -19,7 +18,6 @@ use mathlib.Core.Bool.{beq}
 use Rattle.succinct.specs.Sets.{has, set_of}
 use Rattle.succinct.specs.Numbering.{IsGrown}
 use Rattle.succinct.specs.Compression.{Source, need_of, IsKindOf, AreDistinct, IsNumbered, Adds, of_decl, of_pair, sources}
-use Rattle.succinct.proofs.Numberings.{get_append}
 use Rattle.succinct.proofs.Rising.{has-joined_with}
 
 -- numbers keep their needs while the table grows

@@ -1,6 +1,6 @@
 -- The succinct types of an environment: what its declarations and pairs want, with the order and the number
--- of equal wants left out (PLDI 2013, section 4).
-use Rattle.std.specs.Prelude.{◌≡◌, ℕ, ◌+◌, ◌<◌, Bool, true, false, ◌==◌, cond, List, [], ◌∷◌, ◌++◌, length, map, slice_get, Some}
+-- of equal wants left out (PLDI 2013, section 3).
+use Rattle.std.specs.Prelude.{◌≡◌, ℕ, ◌+◌, ◌<◌, true, false, ◌==◌, cond, List, [], ◌∷◌, ◌++◌, length, map, slice_get, Some}
 use Rattle.succinct.specs.Sets.{has, set_of}
 use Rattle.succinct.specs.declared.need.Need.{Need}
 use Rattle.succinct.specs.declared.kind.Succinct.{Succinct}

@@ -26,7 +26,8 @@ fn add_place(lists: &mut Vec<Vec<u32>>, kind: u32, place: u32) -> Result<(), All
     Ok(())
 }
 
-/// For each number below `count` the places at which it stands, rising.
+/// For each number below `count` the places at which it stands, rising. Want of memory is also answered
+/// where there are 2^32 numbers or more.
 pub fn sources_by_kind(
     alloc: Global,
     count: usize,

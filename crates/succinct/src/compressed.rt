@@ -33,17 +33,25 @@ impl Model for Compressed {
 
 impl Compressed {
     /// Compresses an environment, in time about linear in its declarations, their arguments and its pairs.
-    /// Want of memory is also answered where there would be 2^32 needs or kinds.
+    /// Want of memory is also answered where there would be 2^32 needs or kinds, or where the declarations
+    /// and pairs are 2^32 or more.
     pub fn new(alloc: Global, env: &Env) -> Result<Compressed, AllocError>
         ensures compressed { IfOk result (λ c. IsCompression env.now c) }
+        ensures small { IfOk result (λ c. (length c.needs < 4294967296) × (length c.kinds < 4294967296)) }
     {
         let Tables {
             needs,
             kinds,
             kind_numbers,
         } = tables_of(alloc, env.parts())?;
-        let _ = needs.len();
-        let selected = sources_by_kind(alloc, kinds.len(), kind_numbers.as_slice())?;
+        if needs.len() > 4294967295 {
+            return Err(AllocError);
+        }
+        let count = kinds.len();
+        if count > 4294967295 {
+            return Err(AllocError);
+        }
+        let selected = sources_by_kind(alloc, count, kind_numbers.as_slice())?;
         Ok(Compressed {
             needs,
             kinds,

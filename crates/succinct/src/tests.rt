@@ -3,46 +3,58 @@ use lists::{Items, Text};
 use std::alloc::{AllocError, Global};
 use terms::{Arg, Decl, Env, EnvFault, Form, Parts};
 
-fn decl(alloc: Global, wanted: &[u32], weight: u32) -> Result<Decl, AllocError> {
+/// A name where nothing is wanted, and else a call.
+fn form(alloc: Global, plain: bool) -> Result<Form, AllocError> {
+    if plain {
+        return Ok(Form::Name(Text::from_str(alloc, "x")?));
+    }
+    Ok(Form::Call(Text::from_str(alloc, "f")?))
+}
+
+/// A name of weight 5, or a call of weight 20, that gives an int.
+fn decl(alloc: Global, wanted: &[u32]) -> Result<Decl, AllocError> {
     let mut args = Items::new(alloc);
     for one in wanted {
         args.push(Arg::Plain(*one))?;
     }
+    let plain = wanted.is_empty();
+    let form = form(alloc, plain)?;
     Ok(Decl {
         args,
         result: 0,
-        weight,
+        weight: if plain { 5 } else { 20 },
         crowded: false,
-        form: Form::Call(Text::from_str(alloc, "f")?),
+        form,
     })
 }
 
-/// Declarations of int, each with the types that it wants, where int is below long or stands alone.
-fn parts(alloc: Global, wanted: &[&[u32]], pairs: &[(u32, u32)]) -> Result<Parts, AllocError> {
+/// Declarations of int, each with the types that it wants; the types are int and long.
+fn parts(
+    alloc: Global,
+    wanted: &[&[u32]],
+    pairs: &[(u32, u32)],
+    goal: u32,
+    limit: u32,
+) -> Result<Parts, AllocError> {
     let mut types = Items::new(alloc);
     types.push(Text::from_str(alloc, "int")?)?;
     types.push(Text::from_str(alloc, "long")?)?;
     let mut decls = Items::new(alloc);
     for one in wanted {
-        decls.push(decl(alloc, one, 20)?)?;
+        decls.push(decl(alloc, one)?)?;
     }
     Ok(Parts {
         types,
         pairs: Items::from_slice(alloc, pairs)?,
         decls,
-        goal: 0,
-        limit: 75,
+        goal,
+        limit,
         depth: 0,
         binder: Text::from_str(alloc, "p")?,
     })
 }
 
-fn compressed(
-    alloc: Global,
-    wanted: &[&[u32]],
-    pairs: &[(u32, u32)],
-) -> Result<Compressed, EnvFault> {
-    let parts = parts(alloc, wanted, pairs)?;
+fn compressed(alloc: Global, parts: Parts) -> Result<Compressed, EnvFault> {
     if !parts.has_lengths() {
         return Err(EnvFault::OutOfMemory);
     }
@@ -70,7 +82,8 @@ fn is_kind(compressed: &Compressed, kind: usize, needs: usize, gives: u32) -> bo
 // No need to int; long to int; int to long.
 #[test]
 fn a_name_a_call_and_a_pair_have_three_kinds(rt: HostRuntime) -> Result<(), EnvFault> {
-    let found = compressed(rt.alloc(), &[&[], &[1]], &[(0, 1)])?;
+    let parts = parts(rt.alloc(), &[&[], &[1]], &[(0, 1)], 1, 75)?;
+    let found = compressed(rt.alloc(), parts)?;
     assert_eq!(rt; found.needs().len(), 2);
     assert_eq!(rt; found.kinds().len(), 3);
     assert!(rt; is_kind(&found, 0, 0, 0) && is_kind(&found, 1, 1, 0) && is_kind(&found, 2, 1, 1));
@@ -80,7 +93,8 @@ fn a_name_a_call_and_a_pair_have_three_kinds(rt: HostRuntime) -> Result<(), EnvF
 
 #[test]
 fn equal_wants_are_one_need(rt: HostRuntime) -> Result<(), EnvFault> {
-    let found = compressed(rt.alloc(), &[&[], &[0], &[0, 0]], &[])?;
+    let parts = parts(rt.alloc(), &[&[], &[0], &[0, 0]], &[], 0, 50)?;
+    let found = compressed(rt.alloc(), parts)?;
     assert_eq!(rt; found.needs().len(), 1);
     assert_eq!(rt; found.kinds().len(), 2);
     assert!(rt; is_kind(&found, 0, 0, 0) && is_kind(&found, 1, 1, 0));

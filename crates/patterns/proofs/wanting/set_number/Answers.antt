@@ -1,4 +1,4 @@
-use Rattle.patterns.proofs.Tables.{grown-map, set_at}
+use Rattle.patterns.proofs.Tables.{grown-map, set_at, only-set}
 use Rattle.patterns.specs.declared.type_set.TypeSet.{TypeSet}
 use Rattle.patterns.proofs.wanting.set_number.Goals as goal
 
@@ -13,3 +13,6 @@ returns-clause-numbered c = set_at _ c.in_ok-number.number c.args.types c.in_ok-
 
 pub returns-clause-grown : goal.returns-clause-grown
 returns-clause-grown c = grown-map (λ (t : TypeSet). t.types) _ _ c.number_of.ensures.grown
+
+pub returns-clause-only : goal.returns-clause-only
+returns-clause-only c = only-set _ _ c.in_ok-number.number c.args.types c.number_of.ensures.grown c.in_ok-number.ensures.stands c.in_ok-number.ensures.one_more

@@ -1,4 +1,3 @@
-use Rattle.std.proofs.Common.{◌≡◌, rules}
 use Rattle.succinct.proofs.Places.{grows_at}
 use Rattle.succinct.proofs.by_kind.add_place.Goals as goal
 

@@ -1,4 +1,3 @@
-use Rattle.std.proofs.Common.{◌≡◌, refl, sym, rules}
 use Rattle.succinct.proofs.Places.{empty-more, length-pushed}
 use Rattle.succinct.proofs.by_kind.no_places.Goals as goal
 

@@ -1,4 +1,4 @@
-use Rattle.std.proofs.Common.{◌≡◌, refl, sym, rules, ap, ◌∙◌, map, arith}
+use Rattle.std.proofs.Common.{refl, sym, rules, ◌∙◌}
 use Rattle.std.proofs.lemmas.Option.{slice_get-get_or}
 use Rattle.succinct.proofs.Places.{places-more, length-grown, length-mapped}
 use Rattle.succinct.proofs.by_kind.sources_by_kind.Goals as goal

@@ -1,4 +1,4 @@
-use Rattle.std.proofs.Common.{◌≡◌, ◌<◌, ◌≤◌, ℕ, length, refl, sym, ap, ◌∙◌, rules, arith}
+use Rattle.std.proofs.Common.{rules}
 use Rattle.succinct.specs.Compression.{need_of}
 use Rattle.succinct.proofs.Needs.{named-more, new_needs, grown-trans}
 use Rattle.succinct.proofs.compressing.need_numbers.Goals as goal

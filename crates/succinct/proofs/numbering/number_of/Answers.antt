@@ -1,4 +1,4 @@
-use Rattle.std.proofs.Common.{◌≡◌, ℕ, ◌<◌, ◌≤◌, length, refl, sym, ap, subst, ◌∙◌, rules}
+use Rattle.std.proofs.Common.{◌<◌, length, subst}
 use Rattle.succinct.proofs.Numberings.{grown-call, one_more}
 use Rattle.succinct.proofs.numbering.number_of.Goals as goal
 

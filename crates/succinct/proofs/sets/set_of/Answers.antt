@@ -1,4 +1,4 @@
-use Rattle.std.proofs.Common.{◌≡◌, sym, ◌∙◌, rules, eqb}
+use Rattle.std.proofs.Common.{◌∙◌, eqb}
 use Rattle.std.proofs.lemmas.List.Filters.{dedup_is}
 use Rattle.succinct.proofs.Rising.{sorted_set}
 use Rattle.succinct.proofs.sets.set_of.Goals as goal

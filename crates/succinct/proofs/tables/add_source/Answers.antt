@@ -1,4 +1,4 @@
-use Rattle.std.proofs.Common.{◌≡◌, ◌++◌, ◌∷◌, [], refl, sym, subst, ◌∙◌, rules}
+use Rattle.std.proofs.Common.{◌++◌, ◌∷◌, [], refl, sym, subst}
 use Rattle.succinct.specs.Compression.{IsNumbered}
 use Rattle.succinct.proofs.Needs.{numbered-more}
 use Rattle.succinct.proofs.tables.add_source.Goals as goal

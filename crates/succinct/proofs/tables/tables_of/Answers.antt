@@ -1,4 +1,3 @@
-use Rattle.std.proofs.Common.{◌≡◌, refl, sym, rules}
 use Rattle.succinct.proofs.Needs.{numbered-none, numbered-both}
 use Rattle.succinct.proofs.tables.tables_of.Goals as goal
 

@@ -1,6 +1,4 @@
-use Rattle.std.proofs.Common.{◌≡◌, ◌<◌, ℕ, length, refl, sym, rules, ap, subst, ◌∙◌, slice_get, Some, Vec, map}
-use Rattle.terms.specs.declared.parts.Parts.{Parts}
-use Rattle.succinct.specs.Compression.{IsNumbered, sources}
+use Rattle.std.proofs.Common.{◌<◌, sym, ap, subst, ◌∙◌, slice_get}
 use Rattle.succinct.proofs.Needs.{distinct_from, numbers-in_range, need-refl, kind-refl, numbered-same}
 use Rattle.succinct.proofs.Places.{length-mapped, each-same}
 use Rattle.succinct.proofs.compressed.Compressed.new.Goals as goal
@@ -8,16 +6,14 @@ use Rattle.succinct.proofs.compressed.Compressed.new.Goals as goal
 pub sources_by_kind-requires : goal.sources_by_kind-requires
 sources_by_kind-requires c = record {
   in_range = λ i k at.
-      subst (λ n. k < n) (sym c.len-2.ensures.len) (numbers-in_range _ _ _ _ c.in_ok-needs.ensures.numbered i k (ap (λ l. slice_get l i) (sym c.as_slice.ensures) ∙ at));
+      subst (λ n. k < n) (sym c.len-count.ensures.len) (numbers-in_range _ _ _ _ c.in_ok-needs.ensures.numbered i k (ap (λ l. slice_get l i) (sym c.as_slice.ensures) ∙ at));
 }
 
-pub returns : goal.returns
-returns c = record {
-  compressed = record {
-    distinct_needs = distinct_from _ need-refl _ c.len.ensures.unique;
-    distinct_kinds = distinct_from _ kind-refl _ c.len-2.ensures.unique;
-    of_sources = numbered-same _ _ _ _ _ c.parts.ensures.value c.in_ok-needs.ensures.numbered;
-    listed = length-mapped (λ v. v.items) _ ∙ c.in_ok-selected.ensures.as_many ∙ c.len-2.ensures.len;
-    list_of_each = each-same _ _ _ _ _ c.len-2.ensures.len c.as_slice.ensures c.in_ok-selected.ensures.each;
-  };
+pub returns-clause-compressed : goal.returns-clause-compressed
+returns-clause-compressed c = record {
+  distinct_needs = distinct_from _ need-refl _ c.len.ensures.unique;
+  distinct_kinds = distinct_from _ kind-refl _ c.len-count.ensures.unique;
+  of_sources = numbered-same _ _ _ _ _ c.parts.ensures.value c.in_ok-needs.ensures.numbered;
+  listed = length-mapped (λ v. v.items) _ ∙ c.in_ok-selected.ensures.as_many ∙ c.len-count.ensures.len;
+  list_of_each = each-same _ _ _ _ _ c.len-count.ensures.len c.as_slice.ensures c.in_ok-selected.ensures.each;
 }
