@@ -1,8 +1,8 @@
 -- The types of a context, as a set and by the numbers of its variables.
-use Rattle.std.proofs.Common.{◌≡◌, ℕ, zero, suc, Bool, true, false, ◌||◌, ◌==◌, ◌⊎◌, inl, inr, List, [], ◌∷◌, ◌++◌, slice_get, Option, Some, None, refl, sym, ap, ◌∙◌, append_assoc, append-nil}
+use Rattle.std.proofs.Common.{◌≡◌, ℕ, zero, suc, true, ◌==◌, inl, inr, List, [], ◌∷◌, ◌++◌, slice_get, Some, refl, sym, ap, ◌∙◌, append_assoc, append-nil}
 use Rattle.std.proofs.lemmas.Bool.{or_cases, or_left, or_right, false≢true, eq-eqb, eqb-true}
 use Rattle.terms.specs.Typing.{joined}
-use Rattle.succinct.specs.Sets.{has, put, joined_with, set_of, types_bound}
+use Rattle.succinct.specs.Sets.{has, put, joined_with, types_bound}
 use Rattle.succinct.proofs.Rising.{has-joined_with}
 
 joined-append : (ctx : List (List ℕ)) (ps : List ℕ) → joined (ctx ++ ps ∷ []) ≡ joined ctx ++ ps

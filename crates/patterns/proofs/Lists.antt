@@ -1,9 +1,9 @@
 -- The lists of the states, once nothing more can be marked.
-use Rattle.std.proofs.Common.{◌≡◌, ◌⊎◌, inl, inr, ℕ, zero, suc, ◌+◌, ◌<◌, ◌≤◌, Bool, true, false, ◌&&◌, ◌||◌, ◌==◌, nat_eq, cond, List, [], ◌∷◌, length, map, filter, get_or, slice_get, Option, Some, None, refl, sym, ap, subst, ◌∙◌, arith}
-use Rattle.std.specs.List.{list_all, list_any}
+use Rattle.std.proofs.Common.{◌≡◌, ◌⊎◌, inl, inr, ℕ, suc, ◌+◌, ◌<◌, Bool, true, false, ◌||◌, ◌==◌, nat_eq, cond, List, [], ◌∷◌, length, map, filter, get_or, slice_get, Some, None, refl, sym, ap, subst, ◌∙◌, arith}
+use Rattle.std.specs.List.{list_all}
 use Rattle.std.specs.List.{AllByRecursion}
 use Rattle.std.specs.Cmp.Lexicographic.{pointwise}
-use Rattle.std.proofs.lemmas.Bool.{false≢true, or_cases, or_left, or_right, eqb-true, eq-eqb}
+use Rattle.std.proofs.lemmas.Bool.{false≢true, or_cases, or_left, or_right, eqb-true}
 use Rattle.std.proofs.lemmas.Cmp.{nat_list_eq_equiv}
 use Rattle.std.proofs.lemmas.Option.{slice_get_within}
 use Rattle.succinct.specs.Compression.{AreDistinct, places_from}
@@ -13,7 +13,7 @@ use Rattle.succinct.specs.declared.need.Need.{Need}
 use Rattle.patterns.specs.declared.state.State.{State}
 use Rattle.patterns.specs.declared.type_set.TypeSet.{TypeSet}
 use Rattle.patterns.specs.declared.wanted.Wanted.{Wanted}
-use Rattle.patterns.specs.Met.{AreMet, IsMet, AreSound}
+use Rattle.patterns.specs.Met.{AreSound}
 use Rattle.patterns.specs.Patterned.{IsListOf, AreFound, Patterned, sought_from, state_sought}
 use Rattle.patterns.specs.States.{Space, kinds_of, kind_marked, needs_marked, need_marked, IsSettled, IsListed, IsOpenState, list_of, AreLists, place_of, place_in, place_sought, set_sought, AreWanted, AreBound}
 use Rattle.patterns.proofs.Mets.{ends_in, in_ends, sound-needs, complete-needs}

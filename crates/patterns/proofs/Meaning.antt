@@ -1,5 +1,5 @@
 -- What is met by kinds and states is derivable by declarations and pairs, and the other way round.
-use Rattle.std.proofs.Common.{◌≡◌, ◌⊎◌, inl, inr, ℕ, zero, suc, ◌+◌, ◌-◌, ◌<◌, ◌≤◌, Bool, true, false, ◌&&◌, ◌||◌, ◌==◌, cond, List, [], ◌∷◌, ◌++◌, length, map, get_or, slice_get, Option, Some, None, refl, sym, ap, subst, ◌∙◌, arith, length-append}
+use Rattle.std.proofs.Common.{◌≡◌, ◌⊎◌, inl, inr, ℕ, zero, suc, ◌+◌, ◌-◌, ◌<◌, ◌≤◌, Bool, true, false, ◌&&◌, ◌==◌, cond, List, [], ◌∷◌, ◌++◌, length, map, get_or, slice_get, Option, Some, None, refl, sym, ap, subst, ◌∙◌, arith}
 use Rattle.std.specs.List.{list_any}
 use Rattle.std.specs.Prelude.{⊤}
 use Rattle.std.proofs.lemmas.Bool.{false≢true, and_parts, and_from, or_cases, or_left, or_right, eqb-true, eq-eqb, eqb-false, ne_eqb}
@@ -10,11 +10,10 @@ use Rattle.terms.specs.Place.{fits_place, shallow}
 use Rattle.terms.specs.Typing.{is_below, is_pair, some_below, type_in}
 use Rattle.terms.specs.declared.parts.Arg.{Arg}
 use Rattle.terms.specs.declared.parts.Arg.TheVariants.{Plain, Fun}
-use Rattle.terms.specs.declared.parts.Decl.{Decl}
 use Rattle.terms.specs.declared.parts.Parts.{Parts}
 use Rattle.terms.proofs.Valid.{below-transitive, below-itself}
-use Rattle.succinct.specs.Compression.{Compression, IsCompression, IsNumbered, IsKindOf, Source, sources, of_decl, of_pair, need_of}
-use Rattle.succinct.specs.Sets.{has, IsRising, joined_with, set_of, types_bound}
+use Rattle.succinct.specs.Compression.{Compression, IsCompression, IsKindOf, Source, sources, of_decl, of_pair, need_of}
+use Rattle.succinct.specs.Sets.{has, IsRising, joined_with, set_of}
 use Rattle.succinct.specs.declared.kind.Succinct.{Succinct}
 use Rattle.succinct.specs.declared.need.Need.{Need}
 use Rattle.succinct.proofs.Rising.{has-joined_with, rising-joined_with}
@@ -22,7 +21,7 @@ use Rattle.patterns.specs.declared.state.State.{State}
 use Rattle.patterns.specs.declared.wanted.Wanted.{Wanted}
 use Rattle.patterns.specs.Derivable.{Derivable, in_set, by_pair, by_decl, AllDerivable, none, value, lambda}
 use Rattle.patterns.specs.Met.{IsMet, by_set, by_kind, AreMet, met_none, met_more}
-use Rattle.patterns.specs.Patterned.{Patterned, IsListOf, AreFound, ArePatterns, AgreesAt, Agrees}
+use Rattle.patterns.specs.Patterned.{Patterned, IsListOf, ArePatterns, Agrees}
 use Rattle.patterns.specs.States.{Space, types_at, left_at, set_sought, AreWanted, IsWantedAs, AreBound, IsBoundBy}
 use Rattle.patterns.proofs.Contexts.{get-has}
 use Rattle.patterns.proofs.Tables.{unmap, remap}

@@ -1,4 +1,4 @@
-use Rattle.std.proofs.Common.{◌≡◌, sym, rules, arith}
+use Rattle.std.proofs.Common.{sym, rules}
 use Rattle.std.proofs.lemmas.Bool.{eqb-true}
 use Rattle.succinct.proofs.Needs.{named-more}
 use Rattle.succinct.specs.declared.kind.Succinct.{Succinct}

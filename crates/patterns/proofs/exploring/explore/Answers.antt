@@ -1,4 +1,4 @@
-use Rattle.std.proofs.Common.{refl, sym, ◌∙◌, rules, arith}
+use Rattle.std.proofs.Common.{refl, ◌∙◌, arith}
 use Rattle.patterns.proofs.Mets.{open-next, grown-trans}
 use Rattle.patterns.proofs.Ranges.{range-next}
 use Rattle.patterns.proofs.exploring.explore.Goals as goal

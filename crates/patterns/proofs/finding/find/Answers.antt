@@ -1,4 +1,4 @@
-use Rattle.std.proofs.Common.{◌≡◌, sym, ◌∙◌, rules}
+use Rattle.std.proofs.Common.{◌∙◌}
 use Rattle.succinct.proofs.Places.{length-mapped}
 use Rattle.patterns.proofs.Ranges.{range-first}
 use Rattle.patterns.proofs.finding.find.Goals as goal

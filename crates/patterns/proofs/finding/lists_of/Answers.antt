@@ -1,4 +1,3 @@
-use Rattle.std.proofs.Common.{◌≡◌, sym, ◌∙◌, rules}
 use Rattle.succinct.proofs.Needs.{distinct_from}
 use Rattle.patterns.proofs.Lists.{lists-are, sound-none}
 use Rattle.patterns.proofs.Mets.{self_state}

@@ -1,4 +1,4 @@
-use Rattle.std.proofs.Common.{◌≡◌, ◌≤◌, length, take}
+use Rattle.std.proofs.Common.{◌≤◌, length, take}
 use Rattle.succinct.specs.Numbering.{IsGrown}
 use Rattle.patterns.specs.States.{AreInRange, AreSetsInRange, IsOpenState}
 use Rattle.patterns.proofs.opening.open_state.Given as goal

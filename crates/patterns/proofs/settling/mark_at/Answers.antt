@@ -1,4 +1,4 @@
-use Rattle.std.proofs.Common.{refl, sym, ◌∙◌, rules}
+use Rattle.std.proofs.Common.{refl}
 use Rattle.patterns.proofs.Mets.{sound-mark}
 use Rattle.patterns.proofs.settling.mark_at.Goals as goal
 

@@ -1,4 +1,4 @@
-use Rattle.std.proofs.Common.{◌≡◌, ◌+◌, ap, sym, Some, length, ◌∙◌, length-append, rules, arith}
+use Rattle.std.proofs.Common.{ap, sym, Some, ◌∙◌, rules}
 use Rattle.std.proofs.lemmas.Option.{slice_get-get_or}
 use Rattle.patterns.proofs.Tables.{wanted-more, length-pushed}
 use Rattle.patterns.proofs.wanting.all_wanted.Goals as goal

@@ -1,7 +1,7 @@
-use Rattle.std.proofs.Common.{◌≡◌, ◌<◌, ap, sym, subst, ◌∙◌, slice_get, length, refl, rules}
+use Rattle.std.proofs.Common.{◌<◌, ap, sym, subst, ◌∙◌, slice_get, refl}
 use Rattle.std.proofs.lemmas.Bool.{eq-eqb}
 use Rattle.succinct.proofs.Needs.{distinct_from}
-use Rattle.patterns.proofs.Tables.{ends-are, in_range, ends-from}
+use Rattle.patterns.proofs.Tables.{in_range, ends-from}
 use Rattle.patterns.proofs.ends.Ends.of.Goals as goal
 
 pub sources_by_kind-requires : goal.sources_by_kind-requires

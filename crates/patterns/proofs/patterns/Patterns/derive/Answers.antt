@@ -1,7 +1,5 @@
-use Rattle.std.proofs.Common.{◌≡◌, refl, sym, ap, length, subst, ◌∙◌, rules, List}
+use Rattle.std.proofs.Common.{refl, ap, length, ◌∙◌}
 use Rattle.succinct.proofs.Needs.{distinct_from}
-use Rattle.succinct.specs.declared.need.Need.{Need}
-use Rattle.patterns.specs.States.{AreWanted}
 use Rattle.patterns.proofs.Lists.{distinct-types, types-refl, found-same, wanted-same, bound-none}
 use Rattle.patterns.proofs.Meaning.{agrees}
 use Rattle.patterns.proofs.Sought.{are-sought, sets-in_range}
