@@ -3,6 +3,8 @@ pub mod Tables
 pub mod Contexts
 pub mod Derives
 pub mod Lists
+pub mod Quiet
+pub mod Used
 pub mod Ranges
 pub mod Sought
 pub mod Meaning

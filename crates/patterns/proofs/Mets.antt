@@ -106,7 +106,7 @@ sound-needs p kinds states marks sound s (n ∷ ns) h =
     let first = sound-need p kinds states marks sound s n both.0 in
     met_more s n ns first.0 first.1 first.2 first.3 first.4 (sound-needs p kinds states marks sound s ns both.1)
 
-some_member : (test : ℕ → Bool) (ks : List ℕ) → list_any test ks ≡ true → (k : ℕ) × (has k ks ≡ true) × (test k ≡ true)
+pub some_member : (test : ℕ → Bool) (ks : List ℕ) → list_any test ks ≡ true → (k : ℕ) × (has k ks ≡ true) × (test k ≡ true)
 some_member test [] h = absurd (false≢true h)
 some_member test (k ∷ ks) h = elim (or_cases (test k) (list_any test ks) h) [
   | inl here ↦ (k, or_left (k == k) (has k ks) (eq-eqb k k refl), here)
@@ -189,17 +189,6 @@ open-more p kinds old new i from low at grown before here j s less is = elim (ca
     | inr above ↦ absurd (apart (omega (arith, above, less)))
   ]
 ]
-
--- one place more is settled, where no mark was made
-pub settled-more : (p : Space) (kinds : List Succinct) (states : List State) (old new : List Bool) (count i place : ℕ) → new ≡ old → place ≡ count - 1 - i → i < count
-    → ((j : ℕ) → count - i ≤ j → IsSettledAt p kinds states old j) → IsSettledAt p kinds states new place → (j : ℕ) → count - (i + 1) ≤ j → IsSettledAt p kinds states new j
-settled-more p kinds states old new count i place same at low before here j above = elim (cases_eq j place) [
-  | inl one ↦ subst (λ k. IsSettledAt p kinds states new k) (sym one) here
-  | inr apart ↦ subst (λ m. IsSettledAt p kinds states m j) (sym same) (before j (omega (arith, at, low, above, apart)))
-]
-
-pub settled-past : (p : Space) (kinds : List Succinct) (states : List State) (marks : List Bool) (count : ℕ) → count ≡ length states → (j : ℕ) → count ≤ j → IsSettledAt p kinds states marks j
-settled-past p kinds states marks count long j past s at seen = (let w = slice_get_within states j s at in absurd (omega (arith, long, past, w)))
 
 -- the mark of a state that is seen to be inhabited keeps marks sound
 pub sound-mark : (p : Space) (kinds : List Succinct) (states keys : List State) (marks shown : List Bool) (place : ℕ) (d from : State) (r : Bool) → keys ≡ states → shown ≡ marks → from ≡ get_or keys place d → place < length states

@@ -1,4 +1,5 @@
 pub mod Derivable
 pub mod States
 pub mod Met
+pub mod Waiting
 pub mod Patterned

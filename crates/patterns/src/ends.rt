@@ -47,7 +47,7 @@ impl Ends {
 }
 
 /// The list at a place, or the empty one.
-fn list_at(lists: &Vec<Vec<u32>>, place: usize) -> &[u32]
+pub fn list_at(lists: &Vec<Vec<u32>>, place: usize) -> &[u32]
     ensures value { result.now ≡ slice_index_or (map (λ l. l.items) lists.now.items) place [] }
 {
     match lists.get(place) {

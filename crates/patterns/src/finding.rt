@@ -33,12 +33,13 @@ fn lists_of(
 ) -> Result<Vec<Vec<u32>>, AllocError>
     requires ends { AreEnds kinds.now ends.now }
     requires closed { (s : State) → IsListed states.now.keys s → IsOpenState sets.now kinds.now states.now.keys s (kinds_of kinds.now s.goal) }
+    requires small { length states.now.keys < 4294967296 }
     ensures distinct { OnOk result (AreDistinct states.now.keys) }
     ensures as_many { IfOk result (λ lists. length lists.items ≡ length states.now.keys) }
     ensures each { IfOk result (λ lists. (i : ℕ) (s : State) (list : List ℕ) → slice_get states.now.keys i ≡ Some s → slice_get (map (λ l. l.items) lists.items) i ≡ Some list → IsListOf sets.now kinds.now s list) }
 {
     let mut marks = no_marks(alloc, states.len())?;
-    settle(sets, kinds, ends, states, &mut marks)?;
+    settle(alloc, sets, kinds, ends, states, &mut marks)?;
     let lists = all_met(alloc, sets, kinds, ends, states, marks.as_slice())?;
     Ok(lists)
 }

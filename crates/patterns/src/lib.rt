@@ -16,6 +16,7 @@ mod sets;
 mod settling;
 mod state;
 mod type_set;
+mod uses;
 mod wanted;
 mod wanting;
 

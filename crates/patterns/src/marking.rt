@@ -1,8 +1,9 @@
 // Which kinds are met at a state, by the states that are marked so far.
 
-ghost use Rattle.std.specs.Prelude.{◌≡◌, filter, IfOk, slice_index_or, slice_get, Some, false};
+ghost use Rattle.std.specs.Prelude.{◌≡◌, ◌<◌, filter, IfOk, IfSome, length, slice_index_or, slice_get, Some, false};
 ghost use Rattle.std.specs.List.{list_all, list_any};
-ghost use Rattle.patterns.specs.States.{marked_at, need_marked, kind_marked};
+ghost use Rattle.patterns.specs.States.{marked_at, need_marked, kind_marked, place_sought};
+ghost use Rattle.patterns.specs.Waiting.{ends_marked};
 
 use crate::sets::Sets;
 use crate::state::State;
@@ -20,6 +21,23 @@ pub fn is_marked(marks: &[bool], place: usize) -> bool
     }
 }
 
+/// The place of the state in which a need is sought.
+pub fn need_place(sets: &Sets, states: &IndexSet<State>, from: State, need: u32) -> Option<usize>
+    ensures value { result ≡ place_sought sets.now states.now.keys from (slice_get sets.now.wanted need) }
+    ensures within { IfSome result (λ place. place < length states.now.keys) }
+{
+    let wanted = match sets.wanted(need) {
+        Some(wanted) => wanted,
+        None => return None,
+    };
+    let set = match sets.set_sought(from.set, wanted) {
+        Some(set) => set,
+        None => return None,
+    };
+    let goal = wanted.goal;
+    states.get_index_of(&State { set, goal })
+}
+
 /// Whether a need is met.
 fn need_is_met(
     sets: &Sets,
@@ -30,16 +48,7 @@ fn need_is_met(
 ) -> bool
     ensures value { result ≡ need_marked sets.now states.now.keys marks.now from need }
 {
-    let wanted = match sets.wanted(need) {
-        Some(wanted) => wanted,
-        None => return false,
-    };
-    let set = match sets.set_sought(from.set, wanted) {
-        Some(set) => set,
-        None => return false,
-    };
-    let goal = wanted.goal;
-    match states.get_index_of(&State { set, goal }) {
+    match need_place(sets, states, from, need) {
         Some(place) => is_marked(marks, place),
         None => false,
     }
@@ -76,6 +85,26 @@ fn kind_is_met(
 {
     match kinds.get(kind as usize) {
         Some(found) => needs_are_met(sets, states, marks, from, found.needs.as_slice()),
+        None => false,
+    }
+}
+
+/// Whether a kind ends in the goal of a state and is met there.
+pub fn kind_ends_met(
+    sets: &Sets,
+    kinds: &[Succinct],
+    states: &IndexSet<State>,
+    marks: &[bool],
+    from: State,
+    kind: u32,
+) -> bool
+    ensures value { result ≡ ends_marked sets.now kinds.now states.now.keys marks.now from kind }
+{
+    match kinds.get(kind as usize) {
+        Some(found) => {
+            found.result == from.goal
+                && needs_are_met(sets, states, marks, from, found.needs.as_slice())
+        }
         None => false,
     }
 }
