@@ -1,0 +1,95 @@
+-- Two lists read in step that are made of the same two lists, and lists of places.
+use Rattle.std.proofs.Common.{◌≡◌, ◌⊎◌, inl, inr, ℕ, zero, suc, ◌+◌, Bool, true, false, ◌&&◌, ◌==◌, cond, List, [], ◌∷◌, ◌++◌, map, slice_get, Some, refl, sym, ap, ◌∙◌, arith}
+use Rattle.std.specs.List.{list_any}
+use Rattle.std.proofs.lemmas.Bool.{false≢true, and_parts, and_from, or_cases, or_left, or_right, eqb-true, eq-eqb}
+use Rattle.terms.specs.Typing.{is_pair}
+use Rattle.succinct.specs.Compression.{places_from}
+use Rattle.succinct.specs.Sets.{has}
+use Rattle.least_weights.proofs.Sought.{some_eq}
+
+-- an element of the first list, or of the second
+pub record InFirst {X A B : Type 0} (f : X → A) (f' : X → B) (xs : List X) (n : ℕ) (a : A) (b : B) : Type 0 where
+  pub item : X
+  pub is : slice_get xs n ≡ Some item
+  pub one : f item ≡ a
+  pub other : f' item ≡ b
+
+pub record InSecond {Y A B : Type 0} (h : Y → A) (h' : Y → B) (ys : List Y) (a : A) (b : B) : Type 0 where
+  pub place : ℕ
+  pub item : Y
+  pub is : slice_get ys place ≡ Some item
+  pub one : h item ≡ a
+  pub other : h' item ≡ b
+
+second-of : {Y A B : Type 0} (h : Y → A) (h' : Y → B) (ys : List Y) (n : ℕ) (a : A) (b : B) → slice_get (map h ys) n ≡ Some a → slice_get (map h' ys) n ≡ Some b → InSecond h h' ys a b
+second-of h h' [] n a b e e' = cc
+second-of h h' (y ∷ ys) zero a b e e' = record { place = 0; item = y; is = refl; one = some_eq (h y) a e; other = some_eq (h' y) b e' }
+second-of h h' (y ∷ ys) (suc n) a b e e' =
+    let r : InSecond h h' ys a b = second-of h h' ys n a b e e' in
+    record { place = suc r.place; item = r.item; is = r.is; one = r.one; other = r.other }
+
+pub split : {X Y A B : Type 0} (f : X → A) (f' : X → B) (h : Y → A) (h' : Y → B) (xs : List X) (ys : List Y) (n : ℕ) (a : A) (b : B) → slice_get (map f xs ++ map h ys) n ≡ Some a → slice_get (map f' xs ++ map h' ys) n ≡ Some b → InFirst f f' xs n a b ⊎ InSecond h h' ys a b
+split f f' h h' [] ys n a b e e' = inr (second-of h h' ys n a b e e')
+split f f' h h' (x ∷ xs) ys zero a b e e' = inl (record { item = x; is = refl; one = some_eq (f x) a e; other = some_eq (f' x) b e' })
+split {X} {Y} {A} {B} f f' h h' (x ∷ xs) ys (suc n) a b e e' = go (split f f' h h' xs ys n a b e e')
+  where
+    go : InFirst f f' xs n a b ⊎ InSecond h h' ys a b → InFirst f f' (x ∷ xs) (suc n) a b ⊎ InSecond h h' ys a b
+    go (inl r) = inl (record { item = r.item; is = r.is; one = r.one; other = r.other })
+    go (inr r) = inr r
+
+pub at-first : {X A : Type 0} (f : X → A) (xs : List X) (ys : List A) (n : ℕ) (x : X) → slice_get xs n ≡ Some x → slice_get (map f xs ++ ys) n ≡ Some (f x)
+at-first f [] ys n x h = cc
+at-first f (y ∷ xs) ys zero x h = ap (λ z. Some (f z)) (some_eq y x h)
+at-first f (y ∷ xs) ys (suc n) x h = at-first f xs ys n x h
+
+at-mapped : {Y A : Type 0} (h : Y → A) (ys : List Y) (j : ℕ) (y : Y) → slice_get ys j ≡ Some y → slice_get (map h ys) j ≡ Some (h y)
+at-mapped h [] j y e = cc
+at-mapped h (z ∷ ys) zero y e = ap (λ x. Some (h x)) (some_eq z y e)
+at-mapped h (z ∷ ys) (suc j) y e = at-mapped h ys j y e
+
+pub at-second : {X Y A B : Type 0} (f : X → A) (f' : X → B) (h : Y → A) (h' : Y → B) (xs : List X) (ys : List Y) (j : ℕ) (y : Y) → slice_get ys j ≡ Some y → (n : ℕ) × (slice_get (map f xs ++ map h ys) n ≡ Some (h y)) × (slice_get (map f' xs ++ map h' ys) n ≡ Some (h' y))
+at-second f f' h h' [] ys j y e = (j, at-mapped h ys j y e, at-mapped h' ys j y e)
+at-second f f' h h' (x ∷ xs) ys j y e = (let r = at-second f f' h h' xs ys j y e in (suc r.0, r.1, r.2))
+
+-- what stands in the list of places of a number, and what doesn't
+pub in-places : (k : ℕ) (ns : List ℕ) (i n : ℕ) → slice_get ns n ≡ Some k → has (i + n) (places_from i k ns) ≡ true
+in-places k [] i n h = cc
+in-places k (m ∷ ns) i zero h =
+    let here : (m == k) ≡ true = eq-eqb m k (some_eq m k h) in
+    let same : ((i + 0) == i) ≡ true = eq-eqb (i + 0) i (omega arith) in
+    ap (λ b. has (i + 0) (cond b (i ∷ places_from (i + 1) k ns) (places_from (i + 1) k ns))) here ∙ or_left ((i + 0) == i) (has (i + 0) (places_from (i + 1) k ns)) same
+in-places k (m ∷ ns) i (suc n) h = (let e : (i + 1) + n ≡ i + suc n = omega arith in go (m == k) (ap (λ x. has x (places_from (i + 1) k ns)) (sym e) ∙ in-places k ns (i + 1) n h))
+  where
+    go : (b : Bool) → has (i + suc n) (places_from (i + 1) k ns) ≡ true → has (i + suc n) (cond b (i ∷ places_from (i + 1) k ns) (places_from (i + 1) k ns)) ≡ true
+    go true later = or_right ((i + suc n) == i) (has (i + suc n) (places_from (i + 1) k ns)) later
+    go false later = later
+
+pub from-places : (k : ℕ) (ns : List ℕ) (i x : ℕ) → has x (places_from i k ns) ≡ true → (n : ℕ) × (x ≡ i + n) × (slice_get ns n ≡ Some k)
+from-places k [] i x h = absurd (false≢true h)
+from-places k (m ∷ ns) i x h = go (λ h'. (let r = from-places k ns (i + 1) x h' in let e = r.1 in (suc r.0, omega (arith, e), r.2))) (m == k) refl h
+  where
+    go : (has x (places_from (i + 1) k ns) ≡ true → (n : ℕ) × (x ≡ i + n) × (slice_get (m ∷ ns) n ≡ Some k)) → (b : Bool) → (m == k) ≡ b → has x (cond b (i ∷ places_from (i + 1) k ns) (places_from (i + 1) k ns)) ≡ true → (n : ℕ) × (x ≡ i + n) × (slice_get (m ∷ ns) n ≡ Some k)
+    go later false e h' = later h'
+    go later true e h' = elim (or_cases (x == i) (has x (places_from (i + 1) k ns)) h') [
+      | inl here ↦ (let q = eqb-true x i here in (0, omega (arith, q), ap (λ y. Some y) (eqb-true m k e)))
+      | inr there ↦ later there
+    ]
+
+pub pair-get : (pairs : List (ℕ × ℕ)) (j : ℕ) (q : ℕ × ℕ) → slice_get pairs j ≡ Some q → is_pair pairs q.0 q.1 ≡ true
+unfolding is_pair
+pair-get [] j q h = cc
+pair-get (x ∷ pairs) zero q h =
+    let e : x ≡ q = some_eq x q h in
+    or_left ((x.0 == q.0) && (x.1 == q.1)) (list_any (λ y. (y.0 == q.0) && (y.1 == q.1)) pairs) (and_from (x.0 == q.0) (x.1 == q.1) (eq-eqb x.0 q.0 (ap (λ y. y.0) e)) (eq-eqb x.1 q.1 (ap (λ y. y.1) e)))
+pair-get (x ∷ pairs) (suc j) q h = or_right ((x.0 == q.0) && (x.1 == q.1)) (list_any (λ y. (y.0 == q.0) && (y.1 == q.1)) pairs) (pair-get pairs j q h)
+
+pub get-pair : (pairs : List (ℕ × ℕ)) (a b : ℕ) → is_pair pairs a b ≡ true → (j : ℕ) × (slice_get pairs j ≡ Some (a, b))
+unfolding is_pair
+get-pair [] a b h = absurd (false≢true h)
+get-pair (x ∷ pairs) a b h = elim (or_cases ((x.0 == a) && (x.1 == b)) (list_any (λ y. (y.0 == a) && (y.1 == b)) pairs) h) [
+  | inl here ↦ (
+      let both = and_parts (x.0 == a) (x.1 == b) here in
+      let e : x ≡ (a, b) = ap (λ y. (y, x.1)) (eqb-true x.0 a both.0) ∙ ap (λ y. (a, y)) (eqb-true x.1 b both.1) in
+      (0, ap (λ y. Some y) e))
+  | inr there ↦ (let r = get-pair pairs a b there in (suc r.0, r.1))
+]

@@ -1,0 +1,11 @@
+pub mod Sought
+pub mod Joins
+pub mod Found
+pub mod Lows
+pub mod Reached
+pub mod Leasts
+pub mod Steps
+pub mod Members
+pub mod Adding
+pub mod Needs
+pub mod Equations
