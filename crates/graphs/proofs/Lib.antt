@@ -1,0 +1,4 @@
+pub mod Marks
+pub mod Ranks
+pub mod Lists
+pub mod Rows

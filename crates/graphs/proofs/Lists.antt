@@ -1,0 +1,107 @@
+-- The nodes that were found, as a list, and the marks taken away again.
+use Rattle.std.proofs.Common.{◌≡◌, ℕ, zero, suc, ◌+◌, ◌<◌, ◌≤◌, Bool, true, false, List, [], ◌∷◌, ◌++◌, length, get_or, drop, refl, sym, ap, subst, ◌∙◌, arith, inl, inr, ◌⊎◌}
+use lib.ListN.{set}
+use Rattle.std.proofs.lemmas.List.{drop_more, drop_all, get_or-set_other}
+use Rattle.std.proofs.lemmas.Bool.{cases_eq}
+use Rattle.graphs.specs.Graph.{IsIn, Reaches, is_marked, AreMarked, AreFree}
+use Rattle.graphs.specs.Marking.{Work, unmark}
+use Rattle.graphs.proofs.Marks.{IsMarked, in-left, in-right, in-either, first_in, none_in, in-one, both}
+
+-- each marked node was found or waits, and each found node is marked
+pub record AreFound (marks : List Bool) (found waiting : List ℕ) : Type 0 where
+  pub all : (k : ℕ) → is_marked marks k ≡ true → IsIn k found ⊎ IsIn k waiting
+  pub marked : (k : ℕ) → IsIn k found → is_marked marks k ≡ true
+
+pub found_first : (w v : Work) (bs : List ℕ) → IsMarked w bs v → ((k : ℕ) → is_marked w.0 k ≡ false) → AreFound v.0 [] v.1
+found_first w v bs m free = record {
+  all = λ k h. elim (m.only k h) [
+    | inl a ↦ both (is_marked w.0 k) a (free k)
+    | inr a ↦ inr a.1
+  ];
+  marked = λ k h. none_in k h;
+}
+
+pub found_more : (ms : List Bool) (found old waiting : List ℕ) (node : ℕ) (bs : List ℕ) (v : Work) → AreFound ms found old → old ≡ waiting ++ node ∷ [] → is_marked ms node ≡ true → IsMarked (ms, waiting) bs v → AreFound v.0 (found ++ node ∷ []) v.1
+found_more ms found old waiting node bs v f e at m = record {
+  all = λ k h. elim (m.only k h) [
+    | inl a ↦ elim (f.all k a) [
+      | inl c ↦ inl (in-left k found (node ∷ []) c)
+      | inr c ↦ elim (in-either k waiting (node ∷ []) (subst (IsIn k) e c)) [
+        | inl d ↦ inr (m.stays k d)
+        | inr d ↦ inl (in-right k found (node ∷ []) d)
+      ]
+    ]
+    | inr a ↦ inr a.1
+  ];
+  marked = λ k h. elim (in-either k found (node ∷ []) h) [
+    | inl a ↦ m.kept k (f.marked k a)
+    | inr a ↦ m.kept k (subst (λ n. is_marked ms n ≡ true) (in-one k node a) at)
+  ];
+}
+
+pub found_all : (g : List (List ℕ)) (from : ℕ) (ms : List Bool) (found waiting : List ℕ) → AreFound ms found waiting → AreMarked g from ms → waiting ≡ [] → (b : ℕ) → (IsIn b found → Reaches g from b) × (Reaches g from b → IsIn b found)
+found_all g from ms found waiting f m e b = (
+  (λ h. (m b).0 (f.marked b h)),
+  (λ r. elim (f.all b ((m b).1 r)) [
+    | inl a ↦ a
+    | inr a ↦ none_in b (subst (IsIn b) e a)
+  ]),
+)
+
+unmark_first : (ms : List Bool) (b : ℕ) (bs : List ℕ) → unmark ms (b ∷ bs) ≡ unmark (set ms b false) bs
+unfolding unmark
+unmark_first ms b bs = refl
+
+pub unmark_step : (bs : List ℕ) (i : ℕ) (ms ns : List Bool) (all : List Bool) → i < length bs → unmark ms (drop i bs) ≡ all → ns ≡ set ms (get_or bs i 0) false → unmark ns (drop (i + 1) bs) ≡ all
+unmark_step bs i ms ns all l h e = rw e (sym (unmark_first ms (get_or bs i 0) (drop (i + 1) bs)) ∙ (sym (ap (unmark ms) (drop_more bs i 0 l)) ∙ h))
+
+pub unmark_end : (bs : List ℕ) (i : ℕ) (ms : List Bool) → length bs ≤ i → unmark ms (drop i bs) ≡ ms
+unfolding unmark
+unmark_end bs i ms l = rw (drop_all i bs l) refl
+
+set_beyond : (ms : List Bool) (b : ℕ) → length ms ≤ b → set ms b false ≡ ms
+set_beyond [] b l = refl
+set_beyond (m ∷ ms) zero l = absurd (omega (arith, l))
+set_beyond (m ∷ ms) (suc b) l = ap (λ xs. m ∷ xs) (set_beyond ms b (omega (arith, l)))
+
+pub unmark_beyond : (bs : List ℕ) (i : ℕ) (ms : List Bool) (all : List Bool) → i < length bs → unmark ms (drop i bs) ≡ all → length ms ≤ get_or bs i 0 → unmark ms (drop (i + 1) bs) ≡ all
+unmark_beyond bs i ms all l h e = unmark_step bs i ms ms all l h (sym (set_beyond ms (get_or bs i 0) e))
+
+set_here : (ms : List Bool) (b : ℕ) → is_marked (set ms b false) b ≡ false
+set_here [] zero = refl
+set_here [] (suc b) = refl
+set_here (m ∷ ms) zero = refl
+set_here (m ∷ ms) (suc b) = set_here ms b
+
+set_free : (ms : List Bool) (b k : ℕ) → is_marked ms k ≡ false → is_marked (set ms b false) k ≡ false
+set_free ms b k e = elim (cases_eq k b) [
+  | inl h ↦ rw h (set_here ms b)
+  | inr h ↦ get_or-set_other ms b k false false h ∙ e
+]
+
+stays_free : (bs : List ℕ) (ms : List Bool) (k : ℕ) → is_marked ms k ≡ false → is_marked (unmark ms bs) k ≡ false
+unfolding unmark
+stays_free [] ms k e = e
+stays_free (b ∷ bs) ms k e = stays_free bs (set ms b false) k (set_free ms b k e)
+
+unmarked : (bs : List ℕ) (ms : List Bool) (k : ℕ) → IsIn k bs → is_marked (unmark ms bs) k ≡ false
+unfolding unmark IsIn
+unmarked [] ms k h = absurd h
+unmarked (b ∷ bs) ms k (inl e) = stays_free bs (set ms b false) k (subst (λ n. is_marked (set ms b false) n ≡ false) e (set_here ms b))
+unmarked (b ∷ bs) ms k (inr h) = unmarked bs (set ms b false) k h
+
+by_mark : (t : Bool) (ms : List Bool) (bs : List ℕ) (k : ℕ) → is_marked ms k ≡ t → (is_marked ms k ≡ true → IsIn k bs) → is_marked (unmark ms bs) k ≡ false
+by_mark true ms bs k e h = unmarked bs ms k (h e)
+by_mark false ms bs k e h = stays_free bs ms k e
+
+pub free_again : (n : ℕ) (ms ns : List Bool) (found waiting : List ℕ) → AreFound ms found waiting → waiting ≡ [] → length ns ≡ n → ns ≡ unmark ms found → AreFree n ns
+free_again n ms ns found waiting f none long e = (
+  long,
+  λ k. rw e (by_mark (is_marked ms k) ms found k refl (λ h. elim (f.all k h) [
+    | inl a ↦ a
+    | inr a ↦ none_in k (subst (IsIn k) none a)
+  ])),
+)
+
+pub last_in : (b : ℕ) (bs : List ℕ) → IsIn b (bs ++ b ∷ [])
+last_in b bs = in-right b bs (b ∷ []) (first_in b [])

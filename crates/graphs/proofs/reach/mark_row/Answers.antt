@@ -1,0 +1,15 @@
+use Rattle.std.proofs.Common.{rules, ◌∙◌, sym}
+use Rattle.graphs.proofs.Marks.{in_at, row_step, row_end}
+use Rattle.graphs.proofs.reach.mark_row.Goals as goal
+
+pub mark-requires : goal.mark-requires
+mark-requires c = rw c.loop-node.invariant.long (c.requires _ (in_at c.args.nodes.now c.loop-node.node-index (search rules)))
+
+pub loop-node-preserved : goal.loop-node-preserved
+loop-node-preserved c = record {
+  work = row_step c.args.nodes.now c.loop-node.node-index _ _ _ (search rules) c.loop-node.invariant.work c.in_ok-mark.ensures.work;
+  long = c.in_ok-mark.ensures.long ∙ c.loop-node.invariant.long;
+}
+
+pub returns-clause-work : goal.returns-clause-work
+returns-clause-work c = sym (row_end c.args.nodes.now c.loop-node.node-index _ (search rules)) ∙ c.loop-node.invariant.work
