@@ -1,0 +1,9 @@
+pub mod Bounds
+pub mod Dots
+pub mod Lists
+pub mod Nested
+pub mod Rows
+pub mod Searches
+pub mod Sources
+pub mod Steps
+pub mod Totals

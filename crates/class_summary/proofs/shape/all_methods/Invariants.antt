@@ -1,0 +1,7 @@
+use Rattle.std.proofs.Common.{◌≡◌, take}
+use Rattle.std.specs.List.{filter_map}
+use Rattle.class_summary.specs.Summaries.{method_kept}
+use Rattle.class_summary.proofs.shape.all_methods.Given as goal
+
+abbrev pub invariant-loop-i : goal.invariant-loop-i
+invariant-loop-i l = l.kept ≡ filter_map method_kept (take l.i l.members)

@@ -1,0 +1,7 @@
+pub mod Flags
+pub mod Summaries
+pub mod Known
+pub mod Sources
+pub mod Variables
+pub mod Outwards
+pub mod Names

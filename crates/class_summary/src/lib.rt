@@ -1,0 +1,23 @@
+// What is kept of a class: its name, flags, nesting, supers and members, and what the names in a source text
+// denote. The main definitions are `summary_of`, the summary of a class file's shape, and `denoted_type`, the
+// erased type that a type of a source text denotes; the trait `Classes` says what classes are known, by name
+// and by canonical name. It stands on `class_shape` and `java_units`.
+#![tactic(auto)]
+
+mod classes;
+mod known;
+mod naming;
+mod paths;
+mod rules;
+mod shape;
+mod summary;
+mod variables;
+
+pub use classes::Classes;
+pub use naming::resolve_name;
+pub use paths::{canonical_name, internal_name};
+pub use shape::from_shape;
+pub use summary::{ClassSummary, FieldSummary, MethodSummary, Nesting};
+
+#[cfg(test)]
+mod tests;

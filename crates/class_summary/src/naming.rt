@@ -1,0 +1,216 @@
+ghost use Rattle.std.specs.Prelude.{◌≡◌, ◌+◌, ◌<◌, ◌^◌, length, IfOk};
+ghost use Rattle.class_summary.specs.Names.{internal_of, simple_class, canonical_of, member_class, dotted_class, in_package_else, class_of_name, primitive, primitive_of, base_of, denoted_type};
+ghost use Rattle.class_summary.specs.Variables.{IsNested, IsMethodOf, dims_of_bounds};
+
+use crate::classes::Classes;
+use crate::known::canonical;
+use crate::paths::{canonical_name, follow, joined};
+use crate::rules::{Denoted, class_with, internal_of, is, joined_with, simple_class, spelled};
+use crate::variables::{End, end_of, scopes_at};
+use java_units::{TypeText, Unit};
+use lists::{Copies, Items, Text};
+use std::alloc::{AllocError, Global};
+use type_names::{Base, Erased};
+
+/// The canonical name of a class.
+fn canonical_of<C: Classes>(
+    alloc: Global,
+    unit: &Unit,
+    known: &C,
+    class: &Denoted,
+) -> Result<Text, AllocError>
+    ensures { IfOk result (λ name. name ≡ canonical_of unit.now (C.listed known.now) class.now) }
+{
+    match class {
+        Denoted::Own(i) => canonical_name(alloc, unit, *i),
+        Denoted::Other(name) => canonical(alloc, known, name),
+    }
+}
+
+/// A name of further parts behind that of a class.
+#[tactic(auto, unfolding(crate::specs::Names::member_class))]
+fn member_class<C: Classes>(
+    alloc: Global,
+    unit: &Unit,
+    known: &C,
+    class: &Denoted,
+    rest: &[Text],
+) -> Result<Denoted, AllocError>
+    ensures { IfOk result (λ found. found ≡ member_class unit.now (C.listed known.now) class.now rest.now) }
+{
+    let mut name = canonical_of(alloc, unit, known, class)?;
+    follow(&mut name, ".", rest)?;
+    if let Some(found) = class_with(alloc, unit, known, &name)? {
+        return Ok(found);
+    }
+    let mut inside = internal_of(alloc, unit, class)?;
+    follow(&mut inside, "$", rest)?;
+    Ok(Denoted::Other(inside))
+}
+
+/// The class that a name of one part denotes.
+fn class_of_simple<C: Classes>(
+    alloc: Global,
+    unit: &Unit,
+    class: usize,
+    known: &C,
+    name: &Text,
+) -> Result<Denoted, AllocError>
+    ensures { IfOk result (λ found. found ≡ in_package_else unit.now name.now (simple_class unit.now class (C.listed known.now) name.now)) }
+{
+    if let Some(found) = simple_class(alloc, unit, class, known, name)? {
+        return Ok(found);
+    }
+    Ok(Denoted::Other(joined_with(alloc, "/", &unit.package, name)?))
+}
+
+/// The class that a name of several parts denotes.
+fn class_of_dotted<C: Classes>(
+    alloc: Global,
+    unit: &Unit,
+    class: usize,
+    known: &C,
+    first: &Text,
+    rest: &[Text],
+    parts: &[Text],
+) -> Result<Denoted, AllocError>
+    ensures { IfOk result (λ found. found ≡ dotted_class unit.now (C.listed known.now) (simple_class unit.now class (C.listed known.now) first.now) rest.now parts.now) }
+{
+    if let Some(found) = simple_class(alloc, unit, class, known, first)? {
+        return member_class(alloc, unit, known, &found, rest);
+    }
+    spelled(alloc, unit, known, parts)
+}
+
+/// The class that a name denotes at the class number i, where it is no type variable.
+#[tactic(auto, unfolding(crate::specs::Names::class_of_name))]
+fn class_of_name<C: Classes>(
+    alloc: Global,
+    unit: &Unit,
+    class: usize,
+    known: &C,
+    parts: &[Text],
+) -> Result<Denoted, AllocError>
+    ensures { IfOk result (λ found. found ≡ class_of_name unit.now class (C.listed known.now) parts.now) }
+{
+    match parts {
+        [] => spelled(alloc, unit, known, parts),
+        [name] => class_of_simple(alloc, unit, class, known, name),
+        [first, rest @ ..] => class_of_dotted(alloc, unit, class, known, first, rest, parts),
+    }
+}
+
+/// The primitive type that a word names.
+#[tactic(auto, unfolding(crate::specs::Names::primitive))]
+fn primitive(word: &Text) -> Option<Base>
+    ensures { result ≡ primitive word.now }
+{
+    if is(word, "byte") {
+        return Some(Base::Byte);
+    }
+    if is(word, "char") {
+        return Some(Base::Char);
+    }
+    if is(word, "double") {
+        return Some(Base::Double);
+    }
+    if is(word, "float") {
+        return Some(Base::Float);
+    }
+    if is(word, "int") {
+        return Some(Base::Int);
+    }
+    if is(word, "long") {
+        return Some(Base::Long);
+    }
+    if is(word, "short") {
+        return Some(Base::Short);
+    }
+    if is(word, "boolean") {
+        return Some(Base::Boolean);
+    }
+    None
+}
+
+#[tactic(auto, unfolding(crate::specs::Names::primitive_of))]
+fn primitive_of(parts: &[Text]) -> Option<Base>
+    ensures { result ≡ primitive_of parts.now }
+{
+    match parts {
+        [word] => primitive(word),
+        _ => None,
+    }
+}
+
+/// The erased type of a name that is no type variable, without its dimensions.
+#[tactic(auto, unfolding(crate::specs::Names::base_of))]
+fn base_of<C: Classes>(
+    alloc: Global,
+    unit: &Unit,
+    class: usize,
+    known: &C,
+    parts: &Option<Items<Text>>,
+) -> Result<Base, AllocError>
+    ensures { IfOk result (λ base. base ≡ base_of unit.now class (C.listed known.now) parts.now) }
+{
+    let Some(parts) = parts else {
+        return Ok(Base::Class(Text::from_str(alloc, "java/lang/Object")?));
+    };
+    if let Some(base) = primitive_of(parts.as_slice()) {
+        return Ok(base);
+    }
+    let found = class_of_name(alloc, unit, class, known, parts.as_slice())?;
+    Ok(Base::Class(internal_of(alloc, unit, &found)?))
+}
+
+fn wide(number: Option<u32>) -> Option<usize>
+    ensures { result ≡ number }
+{
+    match number {
+        Some(number) => Some(number as usize),
+        None => None,
+    }
+}
+
+/// The erased type that a type denotes at a class of the text, or at a method of it.
+#[tactic(auto, unfolding(crate::specs::Names::denoted_type))]
+pub fn resolve_at<C: Classes>(
+    alloc: Global,
+    unit: &Unit,
+    class: usize,
+    method: Option<usize>,
+    name: &TypeText,
+    known: &C,
+) -> Result<Erased, AllocError>
+    requires nested { IsNested unit.now.classes }
+    requires dims { name.now.dims + dims_of_bounds unit.now.classes < 2 ^ 64 }
+    ensures { IfOk result (λ kind. kind ≡ denoted_type unit.now class method name.now (C.listed known.now)) }
+{
+    let scopes = scopes_at(alloc, unit.classes.as_slice(), class, method)?;
+    let end = end_of(alloc, scopes, class, name)?;
+    let base = base_of(alloc, unit, end.class, known, &end.parts)?;
+    Ok(Erased {
+        dims: end.dims,
+        base,
+    })
+}
+
+/// The erased type that a type denotes at a class of the text, or at a method of it; both are numbers in the
+/// text. `known` are the classes known besides those of the text.
+pub fn resolve_name<C: Classes>(
+    alloc: Global,
+    unit: &Unit,
+    class: u32,
+    method: Option<u32>,
+    name: &TypeText,
+    known: &C,
+) -> Result<Erased, AllocError>
+    requires nested { IsNested unit.now.classes }
+    requires class { class < length unit.now.classes }
+    requires method { IsMethodOf unit.now.classes class method }
+    requires dims { name.now.dims + dims_of_bounds unit.now.classes < 2 ^ 64 }
+    ensures exact { IfOk result (λ kind. kind ≡ denoted_type unit.now class method name.now (C.listed known.now)) }
+{
+    let kind = resolve_at(alloc, unit, class as usize, wide(method), name, known)?;
+    Ok(kind)
+}

@@ -1,0 +1,397 @@
+ghost use Rattle.std.specs.Prelude.{◌≡◌, ◌<◌, ◌∷◌, ◌++◌, [], length, Some, IfOk, IfSome, bytes_eq};
+ghost use Rattle.std.specs.Option.{option_copied};
+ghost use Rattle.class_summary.specs.Known.{IsPlaceOf};
+ghost use Rattle.class_summary.specs.Sources.{joined};
+ghost use Rattle.class_summary.specs.Names.{internal_of, own_called, class_with, same_number, is_member, member_named, enclosing, own_class, ends_with, imported, spelled, known_as, same_text, is_nested, IsLesser, nested_class, nested_below, below, below_star, starred, of_java_lang, named_class, simple_class};
+
+use crate::classes::Classes;
+use crate::paths::{around, canonical_name, internal_name, joined, name_at};
+use crate::summary::Nesting;
+use java_units::{Import, SourceClass, Unit};
+use lists::{Copies, Items, Text, copy_all};
+use std::alloc::{AllocError, Global};
+use std::cmp::Ordering;
+
+/// A class that a name denotes: one of the text by its number, or another by its internal name.
+#[derive(Drop)]
+pub enum Denoted {
+    Own(usize),
+    Other(Text),
+}
+
+/// Whether two texts are the same.
+pub fn same(left: &Text, right: &Text) -> bool
+    ensures { result ≡ bytes_eq left.now right.now }
+{
+    left.as_str() == right.as_str()
+}
+
+/// Whether a text is this word.
+pub fn is(text: &Text, word: &str) -> bool
+    ensures { result ≡ bytes_eq text.now word.now }
+{
+    text.as_str() == word
+}
+
+/// The internal name of a class.
+pub fn internal_of(alloc: Global, unit: &Unit, class: &Denoted) -> Result<Text, AllocError>
+    ensures { IfOk result (λ name. name ≡ internal_of unit.now class.now) }
+{
+    match class {
+        Denoted::Own(i) => internal_name(alloc, unit, *i),
+        Denoted::Other(name) => name.copy(alloc),
+    }
+}
+
+/// The first class of the text with this canonical name.
+fn own_called(alloc: Global, unit: &Unit, name: &Text) -> Result<Option<usize>, AllocError>
+    ensures { IfOk result (λ found. found ≡ own_called unit.now name.now) }
+{
+    for i in 0..unit.classes.len() {
+        let own = canonical_name(alloc, unit, i)?;
+        if same(name, &own) {
+            return Ok(Some(i));
+        }
+    }
+    Ok(None)
+}
+
+/// The class with this canonical name, among those of the text and then the known ones.
+#[tactic(auto, unfolding(crate::specs::Names::class_with))]
+pub fn class_with<C: Classes>(
+    alloc: Global,
+    unit: &Unit,
+    known: &C,
+    name: &Text,
+) -> Result<Option<Denoted>, AllocError>
+    ensures { IfOk result (λ found. found ≡ class_with unit.now (C.listed known.now) name.now) }
+{
+    if let Some(i) = own_called(alloc, unit, name)? {
+        return Ok(Some(Denoted::Own(i)));
+    }
+    let Some(place) = known.by_canonical(name.as_str()) else {
+        return Ok(None);
+    };
+    Ok(Some(Denoted::Other(known.at(place).name.copy(alloc)?)))
+}
+
+fn same_number(left: Option<usize>, right: Option<usize>) -> bool
+    ensures { result ≡ same_number left right }
+{
+    match (left, right) {
+        (None, None) => true,
+        (Some(i), Some(j)) => i == j,
+        _ => false,
+    }
+}
+
+/// Whether a class has this name and stands directly in that class, or in none.
+fn is_member(class: &SourceClass, outer: Option<usize>, name: &Text) -> bool
+    ensures { result ≡ is_member outer name.now class.now }
+{
+    let own = match class.outer {
+        Some(own) => Some(own as usize),
+        None => None,
+    };
+    same_number(own, outer) && same(name, &class.name)
+}
+
+/// The first class of the text that has this name and stands directly in that class, or in none.
+fn member_named(classes: &[SourceClass], outer: Option<usize>, name: &Text) -> Option<usize>
+    ensures { result ≡ member_named outer name.now classes.now }
+{
+    for i in 0..classes.len() {
+        if is_member(&classes[i], outer, name) {
+            return Some(i);
+        }
+    }
+    None
+}
+
+/// From the innermost class outwards: that class, or one nested directly in it, by its name.
+fn enclosing(
+    alloc: Global,
+    classes: &[SourceClass],
+    numbers: &[usize],
+    name: &Text,
+) -> Result<Option<usize>, AllocError>
+    ensures { IfOk result (λ found. found ≡ enclosing classes.now name.now numbers.now) }
+{
+    for k in 0..numbers.len() {
+        let here = numbers[k];
+        let own = name_at(alloc, classes, here)?;
+        if same(name, &own) {
+            return Ok(Some(here));
+        }
+        let Some(member) = member_named(classes, Some(here), name) else {
+            continue;
+        };
+        return Ok(Some(member));
+    }
+    Ok(None)
+}
+
+/// A class of the text by its simple name: an enclosing class or a member of one, else a top-level class.
+fn own_class(
+    alloc: Global,
+    unit: &Unit,
+    class: usize,
+    name: &Text,
+) -> Result<Option<usize>, AllocError>
+    ensures { IfOk result (λ found. found ≡ own_class unit.now class name.now) }
+{
+    let numbers = around(alloc, unit.classes.as_slice(), class)?;
+    if let Some(i) = enclosing(alloc, unit.classes.as_slice(), numbers.as_slice(), name)? {
+        return Ok(Some(i));
+    }
+    Ok(member_named(unit.classes.as_slice(), None, name))
+}
+
+/// Whether an import without star ends with this name.
+fn ends_with(import: &Import, name: &Text) -> bool
+    ensures { result ≡ ends_with name.now import.now }
+{
+    if import.star {
+        return false;
+    }
+    match import.parts.as_slice().last() {
+        Some(last) => same(last, name),
+        None => false,
+    }
+}
+
+/// The first import without star that ends with this name.
+fn imported<'a>(imports: &'a [Import], name: &Text) -> Option<&'a Import>
+    ensures { option_copied result ≡ imported name.now imports.now }
+{
+    for i in 0..imports.len() {
+        let import = &imports[i];
+        if ends_with(import, name) {
+            return Some(import);
+        }
+    }
+    None
+}
+
+/// The class with these parts as its canonical name, else the parts joined by `/`.
+#[tactic(auto, unfolding(crate::specs::Names::spelled))]
+pub fn spelled<C: Classes>(
+    alloc: Global,
+    unit: &Unit,
+    known: &C,
+    parts: &[Text],
+) -> Result<Denoted, AllocError>
+    ensures { IfOk result (λ class. class ≡ spelled unit.now (C.listed known.now) parts.now) }
+{
+    let name = joined(alloc, ".", parts)?;
+    if let Some(class) = class_with(alloc, unit, known, &name)? {
+        return Ok(class);
+    }
+    Ok(Denoted::Other(joined(alloc, "/", parts)?))
+}
+
+/// The class of this internal name, where it is known.
+fn known_as<C: Classes>(known: &C, name: Text) -> Option<Denoted>
+    ensures { result ≡ known_as (C.listed known.now) name }
+{
+    match known.find(name.as_str()) {
+        Some(_) => Some(Denoted::Other(name)),
+        None => None,
+    }
+}
+
+/// A name behind parts, with a separator between them.
+pub fn joined_with(
+    alloc: Global,
+    sign: &str,
+    parts: &Items<Text>,
+    name: &Text,
+) -> Result<Text, AllocError>
+    ensures { IfOk result (λ text. text ≡ joined sign.now (parts.now ++ name.now ∷ [])) }
+{
+    let mut all = copy_all(alloc, parts)?;
+    all.push(name.copy(alloc)?)?;
+    joined(alloc, sign, all.as_slice())
+}
+
+fn same_text(text: &Option<Text>, name: &Text) -> bool
+    ensures { result ≡ same_text text.now name.now }
+{
+    match text {
+        Some(text) => same(text, name),
+        None => false,
+    }
+}
+
+/// Whether a class stands directly in the class of this internal name, and has this simple name.
+fn is_nested(nesting: &Option<Nesting>, outer: &Text, name: &Text) -> bool
+    ensures { result ≡ is_nested outer.now name.now nesting.now }
+{
+    match nesting {
+        Some(nesting) => same_text(&nesting.outer, outer) && same_text(&nesting.simple, name),
+        None => false,
+    }
+}
+
+/// Of a class and another that may be missing, the one whose name is less.
+fn lesser<C: Classes>(known: &C, place: usize, best: Option<usize>) -> usize
+    requires here { place < length (C.listed known.now) }
+    requires there { IfSome best (λ b. b < length (C.listed known.now)) }
+    ensures within { result < length (C.listed known.now) }
+    ensures class { IsLesser (C.listed known.now) place best result }
+{
+    let Some(best) = best else {
+        return place;
+    };
+    if known.at(best).name.compare(&known.at(place).name) == Ordering::Less {
+        return best;
+    }
+    place
+}
+
+/// The known class that stands directly in that class and has this simple name.
+fn nested_class<C: Classes>(known: &C, outer: &Text, name: &Text) -> Option<usize>
+    ensures { IsPlaceOf (C.listed known.now) (nested_class outer.now name.now (C.listed known.now)) result }
+{
+    let mut best: Option<usize> = None;
+    let mut left = known.count();
+    while left > 0 {
+        left -= 1;
+        if !is_nested(&known.at(left).nesting, outer, name) {
+            continue;
+        }
+        best = Some(lesser(known, left, best));
+    }
+    best
+}
+
+/// The known class nested directly in a class.
+fn nested_below<C: Classes>(
+    alloc: Global,
+    unit: &Unit,
+    known: &C,
+    name: &Text,
+    class: &Denoted,
+) -> Result<Option<Denoted>, AllocError>
+    ensures { IfOk result (λ found. found ≡ nested_below unit.now (C.listed known.now) name.now (Some class.now)) }
+{
+    let outer = internal_of(alloc, unit, class)?;
+    let Some(place) = nested_class(known, &outer, name) else {
+        return Ok(None);
+    };
+    Ok(Some(Denoted::Other(known.at(place).name.copy(alloc)?)))
+}
+
+/// The known class of this name that an import with star of these parts has.
+#[tactic(auto, unfolding(crate::specs::Names::below))]
+fn below<C: Classes>(
+    alloc: Global,
+    unit: &Unit,
+    known: &C,
+    name: &Text,
+    parts: &Items<Text>,
+) -> Result<Option<Denoted>, AllocError>
+    ensures { IfOk result (λ found. found ≡ below unit.now (C.listed known.now) name.now parts.now) }
+{
+    let inside = joined_with(alloc, "/", parts, name)?;
+    if let Some(class) = known_as(known, inside) {
+        return Ok(Some(class));
+    }
+    let package = joined(alloc, ".", parts.as_slice())?;
+    let Some(class) = class_with(alloc, unit, known, &package)? else {
+        return Ok(None);
+    };
+    nested_below(alloc, unit, known, name, &class)
+}
+
+/// What one import has of this name.
+fn below_star<C: Classes>(
+    alloc: Global,
+    unit: &Unit,
+    known: &C,
+    name: &Text,
+    import: &Import,
+) -> Result<Option<Denoted>, AllocError>
+    ensures { IfOk result (λ found. found ≡ below_star unit.now (C.listed known.now) name.now import.now) }
+{
+    if !import.star {
+        return Ok(None);
+    }
+    below(alloc, unit, known, name, &import.parts)
+}
+
+/// The class of this name in the first import with star that has one.
+fn starred<C: Classes>(
+    alloc: Global,
+    unit: &Unit,
+    known: &C,
+    name: &Text,
+    imports: &[Import],
+) -> Result<Option<Denoted>, AllocError>
+    ensures { IfOk result (λ found. found ≡ starred unit.now (C.listed known.now) name.now imports.now) }
+{
+    for i in 0..imports.len() {
+        let Some(class) = below_star(alloc, unit, known, name, &imports[i])? else {
+            continue;
+        };
+        return Ok(Some(class));
+    }
+    Ok(None)
+}
+
+/// `java/lang/NAME`, where it is known or the name is `Object` or `String`.
+#[tactic(auto, unfolding(crate::specs::Names::of_java_lang))]
+fn of_java_lang<C: Classes>(
+    alloc: Global,
+    known: &C,
+    name: &Text,
+) -> Result<Option<Denoted>, AllocError>
+    ensures { IfOk result (λ found. found ≡ of_java_lang (C.listed known.now) name.now) }
+{
+    let mut full = Text::from_str(alloc, "java/lang/")?;
+    full.push_str(name.as_str())?;
+    if is(name, "Object") || is(name, "String") {
+        return Ok(Some(Denoted::Other(full)));
+    }
+    Ok(known_as(known, full))
+}
+
+/// A class that the text names by its imports and its package, or that is known without being named.
+#[tactic(auto, unfolding(crate::specs::Names::named_class))]
+fn named_class<C: Classes>(
+    alloc: Global,
+    unit: &Unit,
+    known: &C,
+    name: &Text,
+) -> Result<Option<Denoted>, AllocError>
+    ensures { IfOk result (λ found. found ≡ named_class unit.now (C.listed known.now) name.now) }
+{
+    if let Some(import) = imported(unit.imports.as_slice(), name) {
+        return Ok(Some(spelled(alloc, unit, known, import.parts.as_slice())?));
+    }
+    let inside = joined_with(alloc, "/", &unit.package, name)?;
+    if let Some(class) = known_as(known, inside) {
+        return Ok(Some(class));
+    }
+    if let Some(class) = starred(alloc, unit, known, name, unit.imports.as_slice())? {
+        return Ok(Some(class));
+    }
+    of_java_lang(alloc, known, name)
+}
+
+/// A class by its simple name at the class number i.
+#[tactic(auto, unfolding(crate::specs::Names::simple_class))]
+pub fn simple_class<C: Classes>(
+    alloc: Global,
+    unit: &Unit,
+    class: usize,
+    known: &C,
+    name: &Text,
+) -> Result<Option<Denoted>, AllocError>
+    ensures { IfOk result (λ found. found ≡ simple_class unit.now class (C.listed known.now) name.now) }
+{
+    if let Some(i) = own_class(alloc, unit, class, name)? {
+        return Ok(Some(Denoted::Own(i)));
+    }
+    named_class(alloc, unit, known, name)
+}
