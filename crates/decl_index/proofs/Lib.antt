@@ -1,0 +1,9 @@
+pub mod Names
+pub mod Sorted
+pub mod Places
+pub mod State
+pub mod Circles
+pub mod RowLemmas
+pub mod Texts
+pub mod CountLemmas
+pub mod Results

@@ -1,0 +1,41 @@
+use Rattle.std.proofs.Common.{rules, ◌≡◌, ◌⊎◌, sym, subst, map, List, ℕ}
+use Rattle.std.specs.Prelude.{unwrap_or, IfErr}
+use Rattle.decl_index.specs.declared.change.ChangeFault.{ChangeFault}
+use Rattle.decl_index.specs.declared.change.ChangeFault.TheVariants.{OutOfMemory}
+use Rattle.decl_index.specs.Steps.{IsPublishFault}
+use Rattle.std.specs.Arc.{arc_value}
+use Rattle.decl_index.specs.History.{Name, use_of, counted, remove, put}
+use Rattle.decl_index.specs.Places.{Leaves, count_pairs}
+use Rattle.decl_index.specs.Refusals.{IsSound, IsFaultOf}
+use Rattle.decl_index.proofs.Places.{leaves-then}
+use Rattle.decl_index.proofs.CountLemmas.{counted-use}
+use Rattle.decl_index.proofs.Results.{or_then, err_then}
+use Rattle.decl_index.proofs.index.Index.published.Goals as goal
+
+pub returns : goal.returns
+returns c =
+    let first : Leaves (map remove c.args.removes.now) c.args.self.now.classes (map arc_value c.take_all.new.classes.items) = search rules in
+    let second : Leaves (map put c.args.puts.now) (map arc_value c.take_all.new.classes.items) (map arc_value c.put_all.new.classes.items) = search rules in
+    let view : c.args.self.now.counts ≡ count_pairs (arc_value c.self.inside.counts) = search rules in
+    let sound : IsSound (map arc_value c.put_all.new.classes.items) = search rules in
+    record {
+      state = record {
+        classes = leaves-then _ _ _ _ _ first second;
+        counts = subst (λ (ps : List (Name × ℕ)). (key : Name) → use_of (count_pairs (arc_value c.in_ok-with_counts.field-0)) key ≡ unwrap_or (counted key c.args.counts.now) (use_of ps key)) (sym view) (counted-use (arc_value c.self.inside.counts) (arc_value c.in_ok-with_counts.field-0) c.args.counts.now c.in_ok-with_counts.ensures);
+        number = search rules;
+        sound = sound;
+      };
+      refused = search rules;
+    }
+
+pub returns-in_err-check-clause-refused : goal.returns-in_err-check-clause-refused
+returns-in_err-check-clause-refused c =
+    let first : Leaves (map remove c.args.removes.now) c.args.self.now.classes (map arc_value c.take_all.new.classes.items) = search rules in
+    let second : Leaves (map put c.args.puts.now) (map arc_value c.take_all.new.classes.items) (map arc_value c.put_all.new.classes.items) = search rules in
+    let Q : ChangeFault → Type 0 = λ fault. (fault ≡ OutOfMemory) ⊎ IsPublishFault c.args.puts.now c.args.removes.now c.args.self.now fault in
+    let left = map arc_value c.put_all.new.classes.items in
+    let handed : c.deref-2.result.now ≡ c.put_all.new.classes.items = search rules in
+    let refused : (c.in_err-check.field-0.0 ≡ OutOfMemory) ⊎ IsFaultOf left c.in_err-check.field-0.0 = subst (λ xs. (c.in_err-check.field-0.0 ≡ OutOfMemory) ⊎ IsFaultOf (map arc_value xs) c.in_err-check.field-0.0) handed c.in_err-check.ensures.refused in
+    let why : Q c.in_err-check.field-0.0 = or_then refused (λ f. record { left = left; classes = leaves-then _ _ _ _ _ first second; fault = f }) in
+    let same : IfErr c.from_residual-in_err-check.result (λ fault. fault ≡ c.in_err-check.field-0.0) = search rules in
+    err_then (λ fault. fault ≡ c.in_err-check.field-0.0) Q c.from_residual-in_err-check.result same (λ fault e. subst Q (sym e) why)

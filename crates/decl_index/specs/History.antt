@@ -1,0 +1,100 @@
+-- What a list of changes leaves: for each name, and for each key of a count, the last entry that speaks of it decides.
+use Rattle.std.specs.Prelude.{◌≡◌, ℕ, suc, if◌then◌else◌, List, [], ◌∷◌, ◌++◌, length, map, bytes_eq, nat_le, unwrap_or, option_map, Option, Some, None}
+use Rattle.std.specs.Ordering.{nat_cmp}
+use Rattle.std.specs.declared.cmp.Ordering.{Ordering}
+use Rattle.std.specs.declared.cmp.Ordering.TheVariants.{Less}
+use Rattle.std.specs.Cmp.Lexicographic.{slice_cmp}
+use Rattle.std.specs.List.{flat_map, AllByRecursion}
+use Rattle.class_summary.specs.declared.summary.ClassSummary.{ClassSummary}
+use Rattle.class_summary.specs.Known.{class_named}
+use Rattle.decl_index.specs.declared.change.Change.{Change}
+use Rattle.decl_index.specs.declared.change.Change.TheVariants.{Publish, Withdraw}
+
+-- A name by its bytes.
+abbrev pub Name : Type 0
+Name = List ℕ
+
+-- The order of names by their bytes.
+unfoldable pub order : Name → Name → Ordering
+order m n = slice_cmp nat_cmp m n
+
+-- An entry of a publication: it takes the class of a name out, or puts a class in.
+pub data Edit : Type 0 where
+  remove : Name → Edit
+  put : ClassSummary → Edit
+
+-- Within one publication the removes come before the puts. A withdrawal changes no class.
+abbrev pub edits_of : Change → List Edit
+edits_of (Publish puts removes counts) = map remove removes ++ map put puts
+edits_of (Withdraw m) = []
+
+-- What an entry says of a name: nothing, that it has no class, or its class.
+abbrev pub said : Name → Edit → Option (Option ClassSummary)
+said n (remove m) = if bytes_eq n m then Some None else None
+said n (put c) = if bytes_eq n c.name then Some (Some c) else None
+
+-- The first where it says something, else the second.
+abbrev pub or_else : {A : Type 0} → Option A → Option A → Option A
+or_else (Some a) b = Some a
+or_else None b = b
+
+-- What the entries say of a name: the last that speaks of it decides.
+unfoldable pub decided : Name → List Edit → Option (Option ClassSummary)
+decided n [] = None
+decided n (e ∷ es) = or_else (decided n es) (said n e)
+
+-- A name of which nothing is said has no class.
+abbrev pub told : Option (Option ClassSummary) → Option ClassSummary
+told (Some c) = c
+told None = None
+
+-- The class of a name after the changes.
+abbrev pub class_in : List Change → Name → Option ClassSummary
+class_in history n = told (decided n (flat_map edits_of history))
+
+-- The counts of a change; those of a publication come after its puts.
+abbrev pub counts_of : Change → List (Name × ℕ)
+counts_of (Publish puts removes counts) = counts
+counts_of (Withdraw m) = []
+
+-- The count of a key: the last one given decides.
+unfoldable pub counted : Name → List (Name × ℕ) → Option ℕ
+counted key [] = None
+counted key (p ∷ ps) = or_else (counted key ps) (if bytes_eq key p.0 then Some p.1 else None)
+
+-- The count of a key after the changes, 0 where none was given.
+abbrev pub use_in : List Change → Name → ℕ
+use_in history key = unwrap_or (counted key (flat_map counts_of history)) 0
+
+-- Strictly in rising order of names.
+unfoldable pub Rises : List ClassSummary → Type 0
+Rises [] = Unit {0}
+Rises (c ∷ cs) = AllByRecursion (λ d. order c.name d.name ≡ Less) cs × Rises cs
+
+-- The classes in rising order of names are those of each name after the changes.
+pub record AreClasses (history : List Change) (cs : List ClassSummary) : Type 0 where
+  pub rises : Rises cs
+  pub named : (n : Name) → class_named cs n ≡ class_in history n
+
+-- The count of a key in a list, 0 where it has none.
+unfoldable pub use_of : List (Name × ℕ) → Name → ℕ
+use_of [] key = 0
+use_of (p ∷ ps) key = if bytes_eq key p.0 then p.1 else use_of ps key
+
+-- Classes in rising order of names, counts of keys, and the number of changes.
+pub record State : Type 0 where
+  pub classes : List ClassSummary
+  pub counts : List (Name × ℕ)
+  pub number : ℕ
+
+-- The state is what the changes leave.
+pub record IsState (history : List Change) (s : State) : Type 0 where
+  pub classes : AreClasses history s.classes
+  pub counts : (key : Name) → use_of s.counts key ≡ use_in history key
+  pub number : s.number ≡ length history
+
+-- The number of the first change that withdraws version n, where there is one. The first change has the number 1.
+unfoldable pub first_withdrawal : List Change → ℕ → Option ℕ
+first_withdrawal [] n = None
+first_withdrawal (Publish puts removes counts ∷ history) n = option_map suc (first_withdrawal history n)
+first_withdrawal (Withdraw m ∷ history) n = if nat_le n m then Some 1 else option_map suc (first_withdrawal history n)

@@ -1,0 +1,5 @@
+pub mod History
+pub mod Refusals
+pub mod Places
+pub mod Rows
+pub mod Steps

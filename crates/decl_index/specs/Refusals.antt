@@ -1,0 +1,110 @@
+-- When a change is refused.
+use Rattle.std.specs.Prelude.{◌≡◌, ◌≢◌, ◌<◌, ◌≤◌, ◌+◌, ◌⊎◌, ℕ, List, [], ◌∷◌, ◌++◌, length, sum_by, codes, Option, Some, None}
+use Rattle.std.specs.declared.cmp.Ordering.TheVariants.{Less}
+use Rattle.class_summary.specs.declared.summary.ClassSummary.{ClassSummary}
+use Rattle.class_summary.specs.declared.summary.MethodSummary.{MethodSummary}
+use Rattle.class_summary.specs.Known.{class_named, outer_in}
+use Rattle.decl_index.specs.declared.change.Change.{Change}
+use Rattle.decl_index.specs.declared.change.Change.TheVariants.{Publish, Withdraw}
+use Rattle.decl_index.specs.declared.change.ChangeFault.{ChangeFault}
+use Rattle.decl_index.specs.declared.change.ChangeFault.TheVariants.{Cyclic, Full, TooHigh, JournalFull, NestCycle, OutOfMemory}
+use Rattle.decl_index.specs.History.{Name, order, AreClasses}
+
+-- The name is one of the names.
+unfoldable pub IsOneOf : Name → List Name → Type 0
+IsOneOf n [] = ⊥
+IsOneOf n (m ∷ ms) = (m ≡ n) ⊎ IsOneOf n ms
+
+-- The supers of a class.
+abbrev pub supers_of : ClassSummary → List Name
+supers_of c = c.supers
+
+-- What stands there, as a list.
+abbrev pub at_most_one : Option Name → List Name
+at_most_one None = []
+at_most_one (Some n) = n ∷ []
+
+-- The class around a class, where it has one.
+abbrev pub outers_of : ClassSummary → List Name
+outers_of c = at_most_one (outer_in c.nesting)
+
+-- One step: from the name of a known class to a name that the class gives.
+pub record Steps (to : ClassSummary → List Name) (cs : List ClassSummary) (a b : Name) : Type 0 where
+  pub class : ClassSummary
+  pub known : class_named cs a ≡ Some class
+  pub leads : IsOneOf b (to class)
+
+-- A way from a to b by one step or more, through these names.
+unfoldable pub IsWay : (ClassSummary → List Name) → List ClassSummary → Name → List Name → Name → Type 0
+IsWay to cs a [] b = Steps to cs a b
+IsWay to cs a (m ∷ ms) b = Steps to cs a m × IsWay to cs m ms b
+
+-- There is a way from the class of this name back to it.
+abbrev pub ReachesItself : (ClassSummary → List Name) → List ClassSummary → Name → Type 0
+ReachesItself to cs n = (ms : List Name) × IsWay to cs n ms n
+
+-- The least name but one that reaches itself.
+pub record IsLeastCircle (to : ClassSummary → List Name) (but : Option Name) (cs : List ClassSummary) (n : Name) : Type 0 where
+  pub counts : Some n ≢ but
+  pub circle : ReachesItself to cs n
+  pub least : (m : Name) → order m n ≡ Less → Some m ≢ but → ReachesItself to cs m → ⊥
+
+-- No name but one reaches itself.
+pub record HasNoCircle (to : ClassSummary → List Name) (but : Option Name) (cs : List ClassSummary) : Type 0 where
+  pub none : (n : Name) → Some n ≢ but → ReachesItself to cs n → ⊥
+
+-- java/lang/Object
+abbrev pub object_name : Name
+object_name = codes "java/lang/Object"
+
+-- A method counts as 1 and its parameters.
+abbrev pub method_parts : MethodSummary → ℕ
+method_parts m = 1 + length m.params
+
+-- The parts of a class: 1, its supers, and for each member 1 and its parameters.
+abbrev pub parts_of : ClassSummary → ℕ
+parts_of c = 1 + length c.supers + length c.fields + sum_by method_parts c.methods
+
+-- The parts of all classes.
+abbrev pub parts_in : List ClassSummary → ℕ
+parts_in cs = sum_by parts_of cs
+
+-- The most parts of an index.
+abbrev pub most_parts : ℕ
+most_parts = 16777215
+
+-- The classes may not be published for this fault: a circle of supers comes first, then one of outer classes, then too
+-- many parts. Each circle is named by its least name; java/lang/Object may reach itself by supers.
+abbrev pub IsFaultOf : List ClassSummary → ChangeFault → Type 0
+IsFaultOf cs (Cyclic n) = IsLeastCircle supers_of (Some object_name) cs n
+IsFaultOf cs (NestCycle n) = HasNoCircle supers_of (Some object_name) cs × IsLeastCircle outers_of None cs n
+IsFaultOf cs (Full n) = HasNoCircle supers_of (Some object_name) cs × HasNoCircle outers_of None cs × (n ≡ parts_in cs) × (most_parts < n)
+IsFaultOf cs (TooHigh n) = ⊥
+IsFaultOf cs JournalFull = ⊥
+IsFaultOf cs OutOfMemory = ⊥
+
+-- The classes may be published.
+pub record IsSound (cs : List ClassSummary) : Type 0 where
+  pub supers : HasNoCircle supers_of (Some object_name) cs
+  pub outers : HasNoCircle outers_of None cs
+  pub parts : parts_in cs ≤ most_parts
+
+-- The classes that the history leaves have this fault.
+pub record IsFaultAfter (history : List Change) (why : ChangeFault) : Type 0 where
+  pub left : List ClassSummary
+  pub classes : AreClasses history left
+  pub fault : IsFaultOf left why
+
+-- The withdrawal of versions through m is refused where no change has the number m yet.
+abbrev pub IsTooHigh : ℕ → ℕ → ChangeFault → Type 0
+IsTooHigh number m (TooHigh n) = (n ≡ m) × (number + 1 ≤ m)
+IsTooHigh number m (Cyclic n) = ⊥
+IsTooHigh number m (NestCycle n) = ⊥
+IsTooHigh number m (Full n) = ⊥
+IsTooHigh number m JournalFull = ⊥
+IsTooHigh number m OutOfMemory = ⊥
+
+-- The change is refused after the history, for this fault.
+abbrev pub Refuses : List Change → Change → ChangeFault → Type 0
+Refuses history (Publish puts removes counts) fault = IsFaultAfter (history ++ Publish puts removes counts ∷ []) fault
+Refuses history (Withdraw m) fault = IsTooHigh (length history) m fault

@@ -1,0 +1,16 @@
+-- Names given by classes, as rows of places.
+use Rattle.std.specs.Prelude.{◌≡◌, ℕ, List, length, slice_get, Some}
+use Rattle.class_summary.specs.declared.summary.ClassSummary.{ClassSummary}
+use Rattle.graphs.specs.Graph.{IsIn, edges}
+use Rattle.decl_index.specs.History.{Name}
+use Rattle.decl_index.specs.Refusals.{IsOneOf}
+
+-- A place is in the row exactly where its class has one of the names.
+pub record IsRow (cs : List ClassSummary) (names : List Name) (row : List ℕ) : Type 0 where
+  pub sound : (b : ℕ) → IsIn b row → (d : ClassSummary) × ((slice_get cs b ≡ Some d) × IsOneOf d.name names)
+  pub complete : (b : ℕ) (d : ClassSummary) → slice_get cs b ≡ Some d → IsOneOf d.name names → IsIn b row
+
+-- From each class the places of the classes with the names that it gives.
+pub record IsGraph (to : ClassSummary → List Name) (cs : List ClassSummary) (rows : List (List ℕ)) : Type 0 where
+  pub size : length rows ≡ length cs
+  pub row : (a : ℕ) (c : ClassSummary) → slice_get cs a ≡ Some c → IsRow cs (to c) (edges rows a)

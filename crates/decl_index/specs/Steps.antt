@@ -1,0 +1,28 @@
+-- What one change does to the state of an index.
+use Rattle.std.specs.Prelude.{◌≡◌, ◌≤◌, ◌+◌, ℕ, List, ◌++◌, map, unwrap_or}
+use Rattle.class_summary.specs.declared.summary.ClassSummary.{ClassSummary}
+use Rattle.decl_index.specs.declared.change.ChangeFault.{ChangeFault}
+use Rattle.decl_index.specs.History.{Name, State, Rises, remove, put, counted, use_of}
+use Rattle.decl_index.specs.Refusals.{IsFaultOf, IsSound}
+use Rattle.decl_index.specs.Places.{Leaves}
+
+-- A publication makes the second state of the first.
+pub record IsPublished (puts : List ClassSummary) (removes : List Name) (more : List (Name × ℕ)) (old new : State) : Type 0 where
+  pub classes : Leaves (map remove removes ++ map put puts) old.classes new.classes
+  pub counts : (key : Name) → use_of new.counts key ≡ unwrap_or (counted key more) (use_of old.counts key)
+  pub number : new.number ≡ old.number + 1
+  pub sound : IsSound new.classes
+
+-- The classes that a publication would leave are refused.
+pub record IsPublishFault (puts : List ClassSummary) (removes : List Name) (old : State) (why : ChangeFault) : Type 0 where
+  pub left : List ClassSummary
+  pub classes : Leaves (map remove removes ++ map put puts) old.classes left
+  pub fault : IsFaultOf left why
+
+-- A withdrawal keeps the classes and the counts, and counts as a change.
+pub record IsWithdrawn (through : ℕ) (old new : State) : Type 0 where
+  pub rises : Rises new.classes
+  pub classes : new.classes ≡ old.classes
+  pub counts : (key : Name) → use_of new.counts key ≡ use_of old.counts key
+  pub number : new.number ≡ old.number + 1
+  pub low : through ≤ old.number

@@ -1,0 +1,110 @@
+ghost use Rattle.std.specs.Prelude.{◌≡◌, ◌++◌, List, ℕ, None, Some, IfOk, IfSome, IfNone, OnOk, map, if◌then◌else◌, bytes_eq, reverse};
+ghost use Rattle.std.specs.Arc.{arc_value};
+ghost use Rattle.class_summary.specs.Known.{class_named, outer_of, nesting_at, simple_in, nested_name, dotted, canonical};
+ghost use Rattle.decl_index.specs.History.{Name, Rises, or_else};
+ghost use Rattle.decl_index.specs.Refusals.{HasNoCircle, outers_of};
+ghost use Rattle.decl_index.specs.Places.{called_place, place_among, canonical_names};
+
+use crate::table::{Shared, find};
+use std::alloc::{AllocError, Global};
+use std::collections::BTreeMap;
+
+/// The places of classes by their canonical names.
+pub type Called = BTreeMap<Vec<u8>, usize>;
+
+/// The names of the class around the class of this name and the simple name that it has in it, where there are both.
+fn names_in<'a>(classes: &'a [Shared], name: &str) -> Option<(&'a str, &'a str)>
+    requires { Rises (map arc_value classes.now) }
+    ensures both { IfSome result (λ names. (outer_of (map arc_value classes.now) name.now ≡ Some names.0.now) × (simple_in (nesting_at (class_named (map arc_value classes.now) name.now)) ≡ Some names.1.now)) }
+    ensures none { IfNone result ((outer : Name → Name) (own : Name) → nested_name (outer_of (map arc_value classes.now) name.now) (simple_in (nesting_at (class_named (map arc_value classes.now) name.now))) outer own ≡ own) }
+{
+    let place = find(classes, name)?;
+    let nesting = classes[place].nesting.as_ref()?;
+    let outer = nesting.outer.as_ref()?;
+    let simple = nesting.simple.as_ref()?;
+    Some((outer.as_str(), simple.as_str()))
+}
+
+/// Adds the bytes of a name, the last first.
+fn push_backwards(text: &mut Vec<u8>, name: &[u8]) -> Result<(), AllocError>
+    ensures { OnOk result (text.new.items ≡ text.old.items ++ reverse name.now) }
+{
+    let mut left = name.len();
+    while left > 0 {
+        left -= 1;
+        text.push(name[left])?;
+    }
+    Ok(())
+}
+
+/// Adds the bytes of a name with `.` in place of `/`, the last first.
+fn push_dotted(text: &mut Vec<u8>, name: &[u8]) -> Result<(), AllocError>
+    ensures { OnOk result (text.new.items ≡ text.old.items ++ reverse (dotted name.now)) }
+{
+    let mut left = name.len();
+    while left > 0 {
+        left -= 1;
+        text.push(if name[left] == b'/' { b'.' } else { name[left] })?;
+    }
+    Ok(())
+}
+
+/// A name with `.` in place of `/`, and then the text turned around.
+fn turned(text: Vec<u8>, name: &[u8]) -> Result<Vec<u8>, AllocError>
+    ensures { IfOk result (λ whole. whole.items ≡ dotted name.now ++ reverse text.items) }
+{
+    let mut whole = text;
+    push_dotted(&mut whole, name)?;
+    whole.as_mut_slice().reverse();
+    Ok(whole)
+}
+
+/// The canonical name of the class of this name.
+fn canonical_name<'a>(
+    alloc: Global,
+    classes: &'a [Shared],
+    name: &'a str,
+) -> Result<Vec<u8>, AllocError>
+    requires rises { Rises (map arc_value classes.now) }
+    requires free { HasNoCircle outers_of None (map arc_value classes.now) }
+    ensures { IfOk result (λ text. text.items ≡ canonical (map arc_value classes.now) name.now) }
+{
+    let mut backwards = Vec::new(alloc);
+    let mut around = name;
+    let mut left = classes.len();
+    while left > 0 {
+        let Some((outer, simple)) = names_in(classes, around) else {
+            return turned(backwards, around.as_bytes());
+        };
+        left -= 1;
+        push_backwards(&mut backwards, simple.as_bytes())?;
+        backwards.push(b'.')?;
+        around = outer;
+    }
+    turned(backwards, around.as_bytes())
+}
+
+/// Adds the place of a class by its canonical name, if that name has none.
+fn add(called: &mut Called, name: Vec<u8>, place: usize) -> Result<(), AllocError>
+    ensures { OnOk result ((text : Name) → called_place called.new text ≡ or_else (called_place called.old text) (if bytes_eq name.items text then Some place else None)) }
+{
+    if called.contains_key(name.as_slice()) {
+        return Ok(());
+    }
+    called.insert(name, place)?;
+    Ok(())
+}
+
+/// The places of the classes by their canonical names; the first class of a name counts.
+pub fn called(alloc: Global, classes: &[Shared]) -> Result<Called, AllocError>
+    requires rises { Rises (map arc_value classes.now) }
+    requires free { HasNoCircle outers_of None (map arc_value classes.now) }
+    ensures { IfOk result (λ called. (text : Name) → called_place called text ≡ place_among (canonical_names (map arc_value classes.now)) text) }
+{
+    let mut called = BTreeMap::new(alloc);
+    for place in 0..classes.len() {
+        let name = canonical_name(alloc, classes, classes[place].name.as_str())?;
+        add(&mut called, name, place)?;
+    }
+    Ok(called)
+}

@@ -1,0 +1,147 @@
+ghost use Rattle.std.specs.Prelude.{◌≡◌, ◌⊎◌, ◌≤◌, IfOk, IfSome, OnOk, IfErr, MatchOption, Some, None, map, sum_by, option_map};
+ghost use Rattle.std.specs.Arc.{arc_value};
+ghost use Rattle.decl_index.specs.declared.change.ChangeFault.TheVariants.{OutOfMemory};
+ghost use Rattle.decl_index.specs.History.{Rises};
+ghost use Rattle.decl_index.specs.Refusals.{supers_of, outers_of, object_name, method_parts, parts_of, parts_in, HasNoCircle, IsLeastCircle, IsFaultOf, IsSound};
+ghost use Rattle.decl_index.specs.Rows.{IsRow, IsGraph};
+
+use crate::change::ChangeFault;
+use crate::table::{Shared, find};
+use class_summary::{ClassSummary, MethodSummary};
+use graphs::least_cycle;
+use lists::{Copies, Items, Text};
+use std::alloc::{AllocError, Global};
+
+/// The class that may reach itself by supers.
+const OBJECT: &str = "java/lang/Object";
+
+/// The most parts of an index.
+const MOST_PARTS: u64 = 16_777_215;
+
+/// The places of the classes with these names.
+fn row(alloc: Global, classes: &[Shared], names: &[Text]) -> Result<Items<usize>, AllocError>
+    requires { Rises (map arc_value classes.now) }
+    ensures { IfOk result (λ row. IsRow (map arc_value classes.now) names.now row) }
+{
+    let mut row = Items::new(alloc);
+    for name in names {
+        let Some(place) = find(classes, name.as_str()) else {
+            continue;
+        };
+        row.push(place)?;
+    }
+    Ok(row)
+}
+
+/// The name of the class around a class, as a list.
+fn outer_names(class: &ClassSummary) -> &[Text]
+    ensures { result.now ≡ outers_of class.now }
+{
+    match &class.nesting {
+        Some(nesting) => nesting.outer.as_slice(),
+        None => &[],
+    }
+}
+
+/// From each class the places of its supers.
+fn super_rows(alloc: Global, classes: &[Shared]) -> Result<Vec<Items<usize>>, AllocError>
+    requires { Rises (map arc_value classes.now) }
+    ensures { IfOk result (λ rows. IsGraph supers_of (map arc_value classes.now) rows.items) }
+{
+    let mut rows = Vec::new(alloc);
+    for class in classes {
+        rows.push(row(alloc, classes, class.supers.as_slice())?)?;
+    }
+    Ok(rows)
+}
+
+/// From each class the place of the class around it.
+fn outer_rows(alloc: Global, classes: &[Shared]) -> Result<Vec<Items<usize>>, AllocError>
+    requires { Rises (map arc_value classes.now) }
+    ensures { IfOk result (λ rows. IsGraph outers_of (map arc_value classes.now) rows.items) }
+{
+    let mut rows = Vec::new(alloc);
+    for class in classes {
+        rows.push(row(alloc, classes, outer_names(&**class))?)?;
+    }
+    Ok(rows)
+}
+
+/// The least name that reaches itself by supers.
+fn super_circle(alloc: Global, classes: &[Shared]) -> Result<Option<Text>, AllocError>
+    requires { Rises (map arc_value classes.now) }
+    ensures { IfOk result (λ found. MatchOption found (HasNoCircle supers_of (Some object_name) (map arc_value classes.now)) (λ name. IsLeastCircle supers_of (Some object_name) (map arc_value classes.now) name)) }
+{
+    let rows = super_rows(alloc, classes)?;
+    let object = find(classes, OBJECT).unwrap_or(classes.len());
+    match least_cycle(alloc, rows.as_slice(), object)? {
+        Some(place) => Ok(Some(classes[place].name.copy(alloc)?)),
+        None => Ok(None),
+    }
+}
+
+/// The least name that reaches itself by outer classes.
+fn outer_circle(alloc: Global, classes: &[Shared]) -> Result<Option<Text>, AllocError>
+    requires { Rises (map arc_value classes.now) }
+    ensures { IfOk result (λ found. MatchOption found (HasNoCircle outers_of None (map arc_value classes.now)) (λ name. IsLeastCircle outers_of None (map arc_value classes.now) name)) }
+{
+    let rows = outer_rows(alloc, classes)?;
+    match least_cycle(alloc, rows.as_slice(), classes.len())? {
+        Some(place) => Ok(Some(classes[place].name.copy(alloc)?)),
+        None => Ok(None),
+    }
+}
+
+/// The parts of methods; None where their number passes 64 bits.
+fn parts_of_methods(methods: &[MethodSummary]) -> Option<u64>
+    ensures { IfSome result (λ n. n ≡ sum_by method_parts methods.now) }
+{
+    let mut parts: u64 = 0;
+    for method in methods {
+        parts = parts
+            .checked_add(1)?
+            .checked_add(method.params.len() as u64)?;
+    }
+    Some(parts)
+}
+
+/// The parts of a class; None where their number passes 64 bits.
+fn parts_of(class: &ClassSummary) -> Option<u64>
+    ensures { IfSome result (λ n. n ≡ parts_of class.now) }
+{
+    let supers = 1u64.checked_add(class.supers.len() as u64)?;
+    let fields = supers.checked_add(class.fields.len() as u64)?;
+    fields.checked_add(parts_of_methods(class.methods.as_slice())?)
+}
+
+/// The parts of all classes; None where their number passes 64 bits.
+fn parts_in(classes: &[Shared]) -> Option<u64>
+    ensures { IfSome result (λ n. n ≡ parts_in (map arc_value classes.now)) }
+{
+    let mut parts: u64 = 0;
+    for class in classes {
+        parts = parts.checked_add(parts_of(&**class)?)?;
+    }
+    Some(parts)
+}
+
+/// Whether the classes may be published. More parts than 64 bits count don't fit in memory.
+pub fn check(alloc: Global, classes: &[Shared]) -> Result<(), ChangeFault>
+    requires { Rises (map arc_value classes.now) }
+    ensures sound { OnOk result (IsSound (map arc_value classes.now)) }
+    ensures refused { IfErr result (λ fault. (fault ≡ OutOfMemory) ⊎ IsFaultOf (map arc_value classes.now) fault) }
+{
+    if let Some(name) = super_circle(alloc, classes)? {
+        return Err(ChangeFault::Cyclic(name));
+    }
+    if let Some(name) = outer_circle(alloc, classes)? {
+        return Err(ChangeFault::NestCycle(name));
+    }
+    let Some(parts) = parts_in(classes) else {
+        return Err(ChangeFault::OutOfMemory);
+    };
+    if parts > MOST_PARTS {
+        return Err(ChangeFault::Full(parts));
+    }
+    Ok(())
+}

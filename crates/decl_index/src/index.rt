@@ -1,0 +1,156 @@
+ghost use Rattle.std.specs.Prelude.{◌≡◌, ◌<◌, ◌≤◌, ◌+◌, ◌⊎◌, ◌++◌, ◌∷◌, [], List, IfOk, IfErr, map, length};
+ghost use Rattle.decl_index.specs.declared.change.Change.{Change};
+ghost use Rattle.decl_index.specs.declared.change.ChangeFault.{ChangeFault};
+ghost use Rattle.decl_index.specs.declared.change.ChangeFault.TheVariants.{OutOfMemory};
+ghost use Rattle.decl_index.specs.History.{IsState, use_of};
+ghost use Rattle.decl_index.specs.Refusals.{Refuses, IsTooHigh};
+ghost use Rattle.decl_index.specs.Steps.{IsPublished, IsPublishFault, IsWithdrawn};
+
+use crate::called::{Called, called};
+use crate::change::{Change, ChangeFault};
+use crate::checks::check;
+use crate::counts::{Counts, with_counts};
+use crate::table::{Shared, find, put_all, share, take_all};
+use class_summary::{ClassSummary, Classes};
+use lists::Text;
+use std::alloc::{AllocError, Global};
+use std::collections::BTreeMap;
+use std::marker::Model;
+use std::sync::Arc;
+
+/// What is known of classes after a list of changes, in rising byte order of names. Indexes share the classes
+/// that they have in common.
+#[derive(Drop)]
+pub struct Index {
+    classes: Vec<Shared>,
+    counts: Arc<Counts, Global>,
+    called: Arc<Called, Global>,
+    number: u32,
+}
+
+impl Model for Index {
+    ghost use Rattle.std.specs.Prelude.{◌≡◌, List, ℕ, map};
+    ghost use Rattle.std.specs.Arc.{arc_value};
+    ghost use Rattle.decl_index.specs.History.{State, Name, Rises};
+    ghost use Rattle.decl_index.specs.Places.{called_place, place_among, canonical_names, count_pairs};
+
+    ghost Value = { State };
+
+    ghost view = { λ i. record { classes = map arc_value i.classes.items; counts = count_pairs (arc_value i.counts); number = i.number } };
+
+    ghost invariant = { λ i. Rises (map arc_value i.classes.items) × ((text : Name) → called_place (arc_value i.called) text ≡ place_among (canonical_names (map arc_value i.classes.items)) text) };
+}
+
+impl Index {
+    /// The index of no change.
+    pub fn empty(alloc: Global) -> Result<Index, AllocError>
+        ensures state { IfOk result (λ index. IsState [] index) }
+    {
+        Ok(Index {
+            classes: Vec::new(alloc),
+            counts: Arc::new(alloc, BTreeMap::new(alloc)).map_err(|_| AllocError)?,
+            called: Arc::new(alloc, BTreeMap::new(alloc)).map_err(|_| AllocError)?,
+            number: 0,
+        })
+    }
+
+    /// How many changes were applied.
+    pub fn number(&self) -> u32
+        ensures { result ≡ self.now.number }
+    {
+        self.number
+    }
+
+    /// The usage count of a key `owner.name:descriptor`, 0 where none was given.
+    pub fn usage(&self, key: &str) -> u32
+        ensures { result ≡ use_of self.now.counts key.now }
+    {
+        self.counts.get(key).copied().unwrap_or(0)
+    }
+
+    /// The index after a publication.
+    fn published(
+        &self,
+        alloc: Global,
+        puts: &[ClassSummary],
+        removes: &[Text],
+        counts: &[(Text, u32)],
+    ) -> Result<Index, ChangeFault>
+        requires { self.now.number < 4294967295 }
+        ensures state { IfOk result (λ next. IsPublished puts.now removes.now counts.now self.now next) }
+        ensures refused { IfErr result (λ fault. (fault ≡ OutOfMemory) ⊎ IsPublishFault puts.now removes.now self.now fault) }
+    {
+        let mut classes = share(alloc, &self.classes)?;
+        take_all(&mut classes, removes);
+        put_all(alloc, &mut classes, puts)?;
+        check(alloc, &classes)?;
+        let called = Arc::new(alloc, called(alloc, &classes)?).map_err(|_| AllocError)?;
+        Ok(Index {
+            classes,
+            counts: with_counts(alloc, &self.counts, counts)?,
+            called,
+            number: self.number + 1,
+        })
+    }
+
+    /// The index after a withdrawal.
+    fn withdrawn(&self, alloc: Global, through: u32) -> Result<Index, ChangeFault>
+        requires { self.now.number < 4294967295 }
+        ensures state { IfOk result (λ next. IsWithdrawn through self.now next) }
+        ensures refused { IfErr result (λ fault. (fault ≡ OutOfMemory) ⊎ IsTooHigh self.now.number through fault) }
+    {
+        if through > self.number {
+            return Err(ChangeFault::TooHigh(through));
+        }
+        Ok(Index {
+            classes: share(alloc, &self.classes)?,
+            counts: Arc::try_clone(&self.counts)?,
+            called: Arc::try_clone(&self.called)?,
+            number: 1 + self.number,
+        })
+    }
+
+    /// The index with the change added, which shares the classes that the change doesn't touch; the receiver
+    /// stays. The refusals come in the order `Cyclic`, `NestCycle`, `Full`; a withdrawal is refused by
+    /// `TooHigh` alone, where its version isn't below `number() + 1`. `JournalFull` is never answered.
+    pub fn apply(&self, alloc: Global, change: &Change) -> Result<Index, ChangeFault>
+        requires { self.now.number < 4294967295 }
+        ensures state { (history : List Change) → IsState history self.now → IfOk result (λ next. IsState (history ++ change.now ∷ []) next) }
+        ensures lawful { (history : List Change) → IsState history self.now → IfOk result (λ next. (fault : ChangeFault) → Refuses history change.now fault → ⊥) }
+        ensures refused { (history : List Change) → IsState history self.now → IfErr result (λ fault. (fault ≡ OutOfMemory) ⊎ Refuses history change.now fault) }
+    {
+        match change {
+            Change::Publish {
+                puts,
+                removes,
+                counts,
+            } => self.published(
+                alloc,
+                puts.as_slice(),
+                removes.as_slice(),
+                counts.as_slice(),
+            ),
+            Change::Withdraw(through) => self.withdrawn(alloc, *through),
+        }
+    }
+}
+
+impl Classes for Index {
+    ghost listed = { λ s. s.classes };
+
+    fn count(&self) -> usize {
+        self.classes.len()
+    }
+
+    fn at(&self, place: usize) -> &ClassSummary {
+        &*self.classes[place]
+    }
+
+    fn find(&self, name: &str) -> Option<usize> {
+        find(&self.classes, name)
+    }
+
+    fn by_canonical(&self, dotted: &str) -> Option<usize> {
+        self.called.get(dotted.as_bytes()).copied()
+    }
+}

@@ -1,0 +1,17 @@
+// The index of classes after a history of changes. The main definition is `IsState`: of all puts and removes
+// of one name the last decides, and `Refuses` says which changes are refused. An index shares the classes
+// that a change doesn't touch. It stands on `class_summary` and `graphs`.
+#![tactic(auto)]
+
+mod called;
+mod change;
+mod checks;
+mod counts;
+mod index;
+mod table;
+
+pub use change::{Change, ChangeFault};
+pub use index::Index;
+
+#[cfg(test)]
+mod tests;

@@ -1,0 +1,178 @@
+use crate::{Change, ChangeFault, Index};
+use class_summary::{ClassSummary, Classes, Nesting};
+use lists::{Copies, Items, Text};
+use std::alloc::{AllocError, Global};
+use std::test::Fail;
+
+/// A public class with these supers, nested in a class by a simple name where `outer` isn't empty.
+fn class(
+    alloc: Global,
+    name: &str,
+    parent: &str,
+    outer: &str,
+    simple: &str,
+) -> Result<ClassSummary, AllocError> {
+    let mut supers = Items::new(alloc);
+    supers.push(Text::from_str(alloc, parent)?)?;
+    let nesting = Nesting {
+        outer: Some(Text::from_str(alloc, outer)?),
+        simple: Some(Text::from_str(alloc, simple)?),
+        flags: 0x0009,
+    };
+    Ok(ClassSummary {
+        name: Text::from_str(alloc, name)?,
+        flags: 0x0021,
+        nesting: if outer.is_empty() {
+            None
+        } else {
+            Some(nesting)
+        },
+        supers,
+        fields: Items::new(alloc),
+        methods: Items::new(alloc),
+    })
+}
+
+/// A publication of two classes, each with its parent, the class around it and its simple name.
+fn publication(alloc: Global, classes: &[(&str, &str, &str, &str)]) -> Result<Change, AllocError> {
+    let mut puts = Items::new(alloc);
+    for class_words in classes {
+        puts.push(class(
+            alloc,
+            class_words.0,
+            class_words.1,
+            class_words.2,
+            class_words.3,
+        )?)?;
+    }
+    Ok(Change::Publish {
+        puts,
+        removes: Items::new(alloc),
+        counts: Items::new(alloc),
+    })
+}
+
+fn applied(alloc: Global, index: &Index, change: &Change) -> Result<Index, ChangeFault> {
+    if index.number() == u32::MAX {
+        return Err(ChangeFault::OutOfMemory);
+    }
+    index.apply(alloc, change)
+}
+
+fn marked(alloc: Global, kind: &str, name: &Text) -> Result<Text, AllocError> {
+    let mut text = Text::from_str(alloc, kind)?;
+    text.push_str(name.as_str())?;
+    Ok(text)
+}
+
+/// The name in a fault, with a word for its kind before it.
+fn fault_of(alloc: Global, answer: &Result<Index, ChangeFault>) -> Result<Text, AllocError> {
+    match answer {
+        Err(ChangeFault::Cyclic(name)) => marked(alloc, "supers ", name),
+        Err(ChangeFault::NestCycle(name)) => marked(alloc, "outers ", name),
+        Err(ChangeFault::TooHigh(1)) => Text::from_str(alloc, "too high 1"),
+        Err(_) => Text::from_str(alloc, "other"),
+        Ok(_) => Text::from_str(alloc, "accepted"),
+    }
+}
+
+const OBJECT: &str = "java/lang/Object";
+
+/// Publications on the empty index: classes with their parents, outer classes and simple names.
+const ROWS: [([(&str, &str, &str, &str); 2], &str); 6] = [
+    ([("A", "B", "", ""), ("B", "A", "", "")], "supers A"),
+    ([("D", "C", "", ""), ("C", "D", "", "")], "supers C"),
+    (
+        [("p/X", OBJECT, "p/X", "X"), ("p/Y", OBJECT, "", "")],
+        "outers p/X",
+    ),
+    (
+        [("p/X", "p/X", "p/X", "X"), ("p/Y", OBJECT, "", "")],
+        "supers p/X",
+    ),
+    (
+        [(OBJECT, OBJECT, "", ""), ("A", OBJECT, "", "")],
+        "accepted",
+    ),
+    ([("A", OBJECT, "", ""), ("A", "A", "", "")], "supers A"),
+];
+
+#[test]
+fn circles_are_refused(rt: HostRuntime) -> Result<(), Fail> {
+    let empty = Index::empty(rt.alloc())?;
+    for row in &ROWS {
+        let change = publication(rt.alloc(), &row.0)?;
+        let answer = fault_of(rt.alloc(), &applied(rt.alloc(), &empty, &change))?;
+        assert_eq!(rt; answer.as_str(), row.1);
+    }
+    Ok(())
+}
+
+#[test]
+fn a_withdrawal_counts_as_a_change(rt: HostRuntime) -> Result<(), Fail> {
+    let empty = Index::empty(rt.alloc())?;
+    let high = fault_of(
+        rt.alloc(),
+        &applied(rt.alloc(), &empty, &Change::Withdraw(1)),
+    )?;
+    assert_eq!(rt; high.as_str(), "too high 1");
+    assert_eq!(rt; empty.number(), 0);
+    let next = applied(rt.alloc(), &empty, &Change::Withdraw(0))?;
+    assert_eq!(rt; next.number(), 1);
+    assert_eq!(rt; next.count(), 0);
+    Ok(())
+}
+
+#[test]
+fn a_class_that_is_removed_and_put_is_there(rt: HostRuntime) -> Result<(), Fail> {
+    let mut puts = Items::new(rt.alloc());
+    puts.push(class(rt.alloc(), "A", OBJECT, "", "")?)?;
+    let mut removes = Items::new(rt.alloc());
+    removes.push(Text::from_str(rt.alloc(), "A")?)?;
+    let change = Change::Publish {
+        puts,
+        removes,
+        counts: Items::new(rt.alloc()),
+    };
+    let next = applied(
+        rt.alloc(),
+        &Index::empty(rt.alloc())?,
+        &change.copy(rt.alloc())?,
+    )?;
+    assert_eq!(rt; next.number(), 1);
+    assert_eq!(rt; next.find("A"), Some(0));
+    assert_eq!(rt; next.find("B"), None);
+    Ok(())
+}
+
+#[test]
+fn classes_are_found_by_canonical_names(rt: HostRuntime) -> Result<(), Fail> {
+    let classes = [("p/A$B", OBJECT, "p/A", "B"), ("p/A", OBJECT, "", "")];
+    let change = publication(rt.alloc(), &classes)?;
+    let index = applied(rt.alloc(), &Index::empty(rt.alloc())?, &change)?;
+    assert_eq!(rt; index.by_canonical("p.A.B"), Some(1));
+    assert_eq!(rt; index.by_canonical("p.A"), Some(0));
+    assert_eq!(rt; index.by_canonical("p.A$B"), None);
+    if index.count() == 2 {
+        assert_eq!(rt; index.at(1).name.as_str(), "p/A$B");
+    }
+    Ok(())
+}
+
+#[test]
+fn the_last_count_of_a_key_counts(rt: HostRuntime) -> Result<(), Fail> {
+    let mut counts = Items::new(rt.alloc());
+    counts.push((Text::from_str(rt.alloc(), "A.m:()V")?, 7))?;
+    counts.push((Text::from_str(rt.alloc(), "A.m:()V")?, 9))?;
+    let change = Change::Publish {
+        puts: Items::new(rt.alloc()),
+        removes: Items::new(rt.alloc()),
+        counts,
+    };
+    let index = applied(rt.alloc(), &Index::empty(rt.alloc())?, &change)?;
+    assert_eq!(rt; index.usage("A.m:()V"), 9);
+    assert_eq!(rt; index.usage("A.n:()V"), 0);
+    let later = applied(rt.alloc(), &index, &Change::Withdraw(1))?;
+    assert_eq!(rt; later.usage("A.m:()V"), 9);
+    Ok(())
+}
