@@ -1,0 +1,7 @@
+use Rattle.std.proofs.Common.{◌≡◌, ℕ, ◌<◌, slice_get, Some}
+use Rattle.class_summary.specs.declared.summary.ClassSummary.{ClassSummary}
+use Rattle.subtyping.specs.Places.{IsListed}
+use Rattle.subtyping.proofs.supers.names_of.Given as goal
+
+abbrev pub invariant-loop-place : goal.invariant-loop-place
+invariant-loop-place g l = (i : ℕ) (c : ClassSummary) → i < l.place → slice_get (g.C.Classes.listed l.known) i ≡ Some c → IsListed l.names c

@@ -1,0 +1,7 @@
+use Rattle.std.proofs.Common.{◌≡◌, take}
+use Rattle.std.specs.List.{filter_map}
+use Rattle.subtyping.specs.Places.{place_of}
+use Rattle.subtyping.proofs.supers.places_of.Given as goal
+
+abbrev pub invariant-loop-name : goal.invariant-loop-name
+invariant-loop-name l = l.row ≡ filter_map (place_of l.names) (take l.name-index l.supers)

@@ -1,0 +1,5 @@
+pub mod Paths
+pub mod Steps
+pub mod Places
+pub mod Asked
+pub mod Widening

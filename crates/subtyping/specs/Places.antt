@@ -1,0 +1,78 @@
+-- The names that occur among the classes, each at a place, and the ancestors of each as places.
+use Rattle.std.specs.Prelude.{◌≡◌, ℕ, suc, ◌≤◌, ◌<◌, if◌then◌else◌, List, [], ◌∷◌, length, map, slice_index, slice_get, bytes_eq, option_map, Option, Some, None}
+use Rattle.std.specs.List.{filter_map}
+use Rattle.graphs.specs.Graph.{IsIn, edges, IsForward, AreAncestors}
+use Rattle.class_summary.specs.Known.{KnownClasses}
+use Rattle.class_summary.specs.declared.summary.ClassSummary.{ClassSummary}
+use Rattle.subtyping.specs.Paths.{IsOneOf, Leads}
+use Rattle.subtyping.specs.Steps.{object, supers_of, IsSuperStep}
+
+-- The place of a name.
+unfoldable pub place_of : List (List ℕ) → List ℕ → Option ℕ
+place_of [] name = None
+place_of (x ∷ xs) name = if bytes_eq x name then Some 0 else option_map suc (place_of xs name)
+
+-- Names, and for each the places of its ancestors, in rising order.
+pub record Ancestry : Type 0 where
+  pub names : List (List ℕ)
+  pub rows : List (List ℕ)
+
+-- b is among the ancestors of a.
+pub record Stands (ancestry : Ancestry) (a b : List ℕ) : Type 0 where
+  pub low : ℕ
+  pub high : ℕ
+  pub from : place_of ancestry.names a ≡ Some low
+  pub to : place_of ancestry.names b ≡ Some high
+  pub among : IsIn high (edges ancestry.rows low)
+
+-- The numbers rise.
+abbrev pub Rises : List ℕ → Type 0
+Rises row = (i j : ℕ) → i ≤ j → j < length row → slice_index row i ≤ slice_index row j
+
+-- Each row rises.
+abbrev pub AllRise : List (List ℕ) → Type 0
+AllRise rows = (i : ℕ) → Rises (edges rows i)
+
+-- The ancestors of each class are those to which steps to supers lead.
+pub record IsAncestry (known : KnownClasses) (ancestry : Ancestry) : Type 0 where
+  pub rises : AllRise ancestry.rows
+  pub sound : (a b : List ℕ) → Stands ancestry a b → Leads (IsSuperStep known) a b
+  pub complete : (a b : List ℕ) → Leads (IsSuperStep known) a b → Stands ancestry a b
+
+-- The name has a place.
+abbrev pub IsPlaced : List (List ℕ) → List ℕ → Type 0
+IsPlaced names name = (i : ℕ) × (place_of names name ≡ Some i)
+
+-- A name that had a place has it still.
+abbrev pub IsGrown : List (List ℕ) → List (List ℕ) → Type 0
+IsGrown old new = (name : List ℕ) (i : ℕ) → place_of old name ≡ Some i → place_of new name ≡ Some i
+
+-- The class and its supers have places.
+pub record IsListed (names : List (List ℕ)) (class : ClassSummary) : Type 0 where
+  pub own : IsPlaced names class.name
+  pub supers : (b : List ℕ) → IsOneOf b class.supers → IsPlaced names b
+
+-- The places of the supers of a class.
+abbrev pub row_of : KnownClasses → List (List ℕ) → List ℕ → List ℕ
+row_of known names a = filter_map (place_of names) (supers_of known a)
+
+-- From each name, the places of its supers.
+abbrev pub graph_of : KnownClasses → List (List ℕ) → List (List ℕ)
+graph_of known names = map (row_of known names) names
+
+-- Each class and its supers have places.
+abbrev pub AreListed : KnownClasses → List (List ℕ) → Type 0
+AreListed known names = (i : ℕ) (c : ClassSummary) → slice_get known i ≡ Some c → IsListed names c
+
+-- Of the graph, the edges that don't lie on circles and don't come from Object.
+pub record IsWithout (names graph rows : List (List ℕ)) : Type 0 where
+  pub kept : List (List ℕ)
+  pub forward : IsForward graph kept
+  pub long : length rows ≡ length graph
+  pub others : (i : ℕ) → (place_of names object ≡ Some i → ⊥) → edges rows i ≡ edges kept i
+  pub none : (i : ℕ) → place_of names object ≡ Some i → edges rows i ≡ []
+
+-- For each node its ancestors, in rising order.
+pub record AreRows (graph rows : List (List ℕ)) : Type 0 where
+  pub each : (i : ℕ) → AreAncestors graph i (edges rows i)
+  pub rises : AllRise rows
