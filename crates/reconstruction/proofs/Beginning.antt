@@ -1,0 +1,61 @@
+-- The first items of a search.
+use Rattle.std.proofs.Common.{◌≡◌, ℕ, ◌<◌, ◌≤◌, List, [], ◌∷◌, length, get_or, Some, refl, sym, ap, subst, ◌∙◌, arith}
+use Rattle.std.proofs.lemmas.List.Elements.{All-nil, All-cons}
+use Rattle.std.specs.List.Sorted.{IsPermutation}
+use Rattle.terms.specs.Count.{total}
+use Rattle.terms.specs.Place.{Place, goal_place}
+use Rattle.terms.specs.Reading.{read}
+use Rattle.terms.specs.declared.parts.Parts.{Parts}
+use Rattle.reconstruction.specs.Fronts.{reading}
+use Rattle.reconstruction.specs.Search.{IsSearch}
+use Rattle.reconstruction.specs.Spots.{IsKept, IsSpot}
+use Rattle.reconstruction.specs.Tabled.{place_of, places_of, least_of, AreSpots, backwards, front_of, stack_of, IsHeld, seen}
+use Rattle.reconstruction.specs.Levelled.{AreComplete, IsAt}
+use Rattle.reconstruction.specs.declared.item.Item.{Item}
+use Rattle.reconstruction.specs.declared.item.Arena.{Arena}
+use Rattle.reconstruction.specs.declared.spot.Spot.{Spot}
+use Rattle.reconstruction.specs.declared.tables.Tables.{Tables}
+use Rattle.reconstruction.proofs.Making.{moved_at}
+use Rattle.reconstruction.proofs.Starts.{first_search, empty_search}
+
+abbrev pub first_spot_of : Spot
+first_spot_of = record { row = 0; state = 0 }
+
+reading-none : (g : Parts) (root : Place) → reading g root [] ≡ Some (record { weight = 0; open_places = root ∷ [] })
+unfolding reading read
+reading-none g root = refl
+
+-- nothing, where no term is within the limit
+pub begun_none : (t : Tables) (a : Arena) (key : ℕ) (items : List (ℕ × Item)) → AreComplete t → key ≡ least_of t (place_of t first_spot_of) → t.env.limit < key → items ≡ [] → IsAt t a 0 items []
+begun_none t a key items ready is past empty = subst (λ (l : List (ℕ × Item)). IsAt t a 0 l []) (sym empty) (record {
+  all = All-nil (λ (q : ℕ × Item). IsHeld t a q.0 q.1);
+  inside = All-nil (λ x. x < length a.fronts);
+  search = empty_search t.env t.env.limit (IsKept t.env t.patterns) (least_of t) (goal_place t.env) ready.least ready.root (omega (arith, is, ap (least_of t) ready.start_is, past));
+})
+
+-- the empty front
+pub begun_one : (t : Tables) (a : Arena) (key : ℕ) (i : Item) (old new : List (ℕ × Item)) → AreComplete t → key ≡ least_of t (place_of t first_spot_of) → key ≤ t.env.limit → a.fronts ≡ [] ∷ [] → i.front ≡ 0 → i.stack < length a.stacks → get_or a.stacks i.stack [] ≡ first_spot_of ∷ []
+    → old ≡ [] → IsPermutation ((key, i) ∷ old) new → IsAt t a 0 new []
+begun_one t a key i old new ready is within fronts zero stack_in stack empty perm =
+    let root = goal_place t.env in
+    let same : key ≡ least_of t root = is ∙ ap (least_of t) ready.start_is in
+    let none : front_of a i.front ≡ [] = ap (λ n. front_of a n) zero ∙ ap (λ (l : List (List ℕ)). backwards (get_or l 0 [])) fronts in
+    let places : places_of t (stack_of a i.stack) ≡ root ∷ [] = ap (places_of t) stack ∙ ap (λ p. p ∷ []) ready.start_is in
+    let long : length a.fronts ≡ 1 = ap (λ (l : List (List ℕ)). length l) fronts in
+    let held : IsHeld t a key i = record {
+      front_in = omega (arith, zero, long);
+      stack_in = stack_in;
+      spots = subst (AreSpots t) (sym stack) (All-cons (IsSpot t.env t.patterns) first_spot_of [] ready.start (All-nil (IsSpot t.env t.patterns)));
+      weight = 0;
+      is = ap (reading t.env root) none ∙ reading-none t.env root ∙ ap (λ o. Some (record { weight = 0; open_places = o })) (sym places);
+      keyed = omega (arith, same, ap (total (least_of t)) places);
+      within = within;
+    } in
+    let first : IsSearch t.env t.env.limit (least_of t) root 0 ((least_of t root, []) ∷ []) [] = first_search t.env t.env.limit (least_of t) root (omega (arith, same, within)) in
+    let shown : (least_of t root, []) ∷ [] ≡ seen a ((key, i) ∷ []) = ap (λ k. (k, []) ∷ []) (sym same) ∙ ap (λ f. (key, f) ∷ []) (sym none) in
+    let one : IsAt t a 0 ((key, i) ∷ []) [] = record {
+      all = All-cons (λ (q : ℕ × Item). IsHeld t a q.0 q.1) (key, i) [] held (All-nil (λ (q : ℕ × Item). IsHeld t a q.0 q.1));
+      inside = All-nil (λ x. x < length a.fronts);
+      search = subst (λ q. IsSearch t.env t.env.limit (least_of t) root 0 q []) shown first;
+    } in
+    moved_at t a 0 ((key, i) ∷ []) new [] one (subst (λ (l : List (ℕ × Item)). IsPermutation ((key, i) ∷ l) new) empty perm)

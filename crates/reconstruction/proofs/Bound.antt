@@ -1,0 +1,109 @@
+-- The variables at a spot.
+use Rattle.std.proofs.Common.{◌≡◌, ◌≢◌, inl, ℕ, zero, suc, ◌+◌, ◌-◌, ◌*◌, ◌<◌, ◌≤◌, true, false, List, [], ◌∷◌, ◌++◌, length, get_or, slice_get, Option, None, Some, refl, sym, ap, ◌∙◌, arith, append-nil}
+use Rattle.std.proofs.lemmas.List.Elements.{All-nil}
+use Rattle.std.proofs.lemmas.Option.{slice_get-get_or, slice_get_past}
+use Rattle.terms.specs.Place.{goal_place}
+use Rattle.terms.specs.Reading.{some_when, variable_at, turn, turn_by, and_then}
+use Rattle.terms.specs.Typing.{joined, is_below}
+use Rattle.terms.specs.Weights.{step}
+use Rattle.terms.specs.declared.parts.Arg.{Arg}
+use Rattle.terms.specs.declared.parts.Arg.TheVariants.{Plain, Fun}
+use Rattle.terms.specs.declared.parts.Decl.{Decl}
+use Rattle.terms.specs.declared.parts.Parts.{Parts}
+use Rattle.terms.proofs.Halves.{symbol-even}
+use Rattle.patterns.specs.declared.state.State.{State}
+use Rattle.reconstruction.specs.Fronts.{key_within}
+use Rattle.reconstruction.specs.Spots.{row_of_args, row_of_decl, rows_at, at_state, IsSpot}
+use Rattle.reconstruction.specs.Tabled.{place_of, places_of, least_of, front_of, stack_of, AreHeld, IsParent, IsTurn, may, Grew}
+use Rattle.reconstruction.specs.Variables.{variables}
+use Rattle.reconstruction.specs.declared.item.Item.{Item}
+use Rattle.reconstruction.specs.declared.item.Arena.{Arena}
+use Rattle.reconstruction.specs.declared.item.Parent.{Parent}
+use Rattle.reconstruction.specs.declared.spot.Spot.{Spot}
+use Rattle.reconstruction.specs.declared.tables.Tables.{Tables}
+use Rattle.reconstruction.proofs.Children.{after, next_reading, no_push}
+use Rattle.reconstruction.proofs.Growths.{all-grown-refl, grew-none, grew-one}
+use Rattle.reconstruction.proofs.Steps.{grew-as}
+
+joined-one : (row : List ℕ) → joined (row ∷ []) ≡ row
+unfolding joined
+joined-one row = append-nil row
+
+joined-none : joined [] ≡ []
+unfolding joined
+joined-none = refl
+
+-- other than one argument has no row
+pub not_one : (args : List Arg) → length args ≢ 1 → [] ≡ joined (row_of_args args)
+not_one [] h = sym joined-none
+not_one (Plain b ∷ []) h = absurd (h refl)
+not_one (Fun ps r ∷ []) h = absurd (h refl)
+not_one (Plain b ∷ a ∷ more) h = sym joined-none
+not_one (Fun ps r ∷ a ∷ more) h = sym joined-none
+
+pub one_fun : (args : List Arg) (x : Arg) (ps : List ℕ) (r : ℕ) → length args ≡ 1 → x ≡ get_or args 0 x → x ≡ Fun ps r → ps ≡ joined (row_of_args args)
+one_fun [] x ps r n at is = absurd (omega (arith, n))
+one_fun (a ∷ b ∷ more) x ps r n at is = absurd (omega (arith, n))
+one_fun (a ∷ []) x ps r n at is = sym (ap (λ y. joined (row_of_args (y ∷ []))) (sym at ∙ is) ∙ joined-one ps)
+
+pub one_plain : (args : List Arg) (x : Arg) (b : ℕ) → length args ≡ 1 → x ≡ get_or args 0 x → x ≡ Plain b → [] ≡ joined (row_of_args args)
+one_plain [] x b n at is = absurd (omega (arith, n))
+one_plain (a ∷ c ∷ more) x b n at is = absurd (omega (arith, n))
+one_plain (a ∷ []) x b n at is = sym (ap (λ y. joined (row_of_args (y ∷ []))) (sym at ∙ is) ∙ joined-none)
+
+pub row_none : (g : Parts) (row : ℕ) → row ≡ 0 → [] ≡ joined (rows_at g row)
+row_none g row z = sym (ap (λ r. joined (rows_at g r)) z ∙ joined-none)
+
+row_of : (g : Parts) (row : ℕ) → row ≢ 0 → rows_at g row ≡ row_of_decl (slice_get g.decls (row - 1))
+row_of g zero h = absurd (h refl)
+row_of g (suc k) h = (let e : k ≡ suc k - 1 = omega arith in ap (λ n. row_of_decl (slice_get g.decls n)) e)
+
+pub row_some : (g : Parts) (row : ℕ) (ds : List Decl) (d : Decl) → row ≢ 0 → ds ≡ g.decls → row - 1 < length ds → d ≡ get_or ds (row - 1) d → joined (row_of_args d.args) ≡ joined (rows_at g row)
+row_some g row ds d h same low at = let is : slice_get ds (row - 1) ≡ Some d = slice_get-get_or ds (row - 1) d low ∙ ap (λ x. Some x) (sym at) in sym (ap joined (row_of g row h ∙ ap (λ l. row_of_decl (slice_get l (row - 1))) (sym same) ∙ ap row_of_decl is))
+
+pub row_past : (g : Parts) (row : ℕ) (ds : List Decl) → row ≢ 0 → ds ≡ g.decls → length ds ≤ row - 1 → [] ≡ joined (rows_at g row)
+row_past g row ds h same past = let is : slice_get ds (row - 1) ≡ None = slice_get_past ds (row - 1) past in sym (ap joined (row_of g row h ∙ ap (λ l. row_of_decl (slice_get l (row - 1))) (sym same) ∙ ap row_of_decl is) ∙ joined-none)
+
+-- a spot's rows are those of its place
+pub place-rows : (t : Tables) (p : Spot) → (place_of t p).ctx ≡ rows_at t.env p.row
+place-rows t p = go (slice_get t.patterns.states p.state)
+  where
+    go : (o : Option State) → (at_state t.patterns o (rows_at t.env p.row)).ctx ≡ rows_at t.env p.row
+    go None = refl
+    go (Some s) = refl
+
+turn-is : (t : Tables) (p : Spot) (n a : ℕ) → slice_get (joined (rows_at t.env p.row)) n ≡ Some a → turn t.env (place_of t p) (2 * n) ≡ variable_at t.env (place_of t p) (Some a)
+unfolding turn
+turn-is t p n a is = ap (turn_by t.env (place_of t p)) (symbol-even n) ∙ ap (λ c. variable_at t.env (place_of t p) (slice_get (joined c) n)) (place-rows t p) ∙ ap (variable_at t.env (place_of t p)) is
+
+-- a variable below the wanted type is a turn
+pub variable-turn : (t : Tables) (p : Spot) (n a w : ℕ) → slice_get (joined (rows_at t.env p.row)) n ≡ Some a → is_below t.env a (place_of t p).wanted ≡ true → w ≡ 1 + step (Some a) (place_of t p).wanted → IsTurn t (place_of t p) (2 * n) w []
+variable-turn t p n a w is below weighs = record {
+  weight = 1 + step (Some a) (place_of t p).wanted;
+  is = turn-is t p n a is ∙ ap (λ b. some_when b (record { weight = 1 + step (Some a) (place_of t p).wanted; open_places = [] })) below;
+  opened = All-nil (IsSpot t.env t.patterns);
+  capped = inl (omega (arith, weighs));
+}
+
+-- another one adds nothing
+pub no_variable : (t : Tables) (a : Arena) (p : Parent) (n b : ℕ) (items : List (ℕ × Item)) → IsParent t a p → AreHeld t a items → slice_get (joined (rows_at t.env p.spot.row)) n ≡ Some b → is_below t.env b (place_of t p.spot).wanted ≡ false → Grew t a a (front_of a p.front) ((2 * n) ∷ []) items items
+no_variable t a p n b items parent all is below =
+    let at = place_of t p.spot in
+    let none : turn t.env at (2 * n) ≡ None = turn-is t p.spot n b is ∙ ap (λ c. some_when c (record { weight = 1 + step (Some b) at.wanted; open_places = [] })) below in
+    let dead : may t (front_of a p.front) (2 * n) ≡ false =
+    ap (key_within t.env.limit (least_of t)) (next_reading t.env (goal_place t.env) (front_of a p.front) (2 * n) parent.weight at (places_of t (stack_of a p.rest)) parent.is ∙ ap (λ o. and_then o (after parent.weight (places_of t (stack_of a p.rest)))) none) in
+    grew-one t a a (front_of a p.front) (2 * n) items items (all-grown-refl a) all (no_push t a (front_of a p.front) (2 * n) items dead)
+
+variables-zero : variables 0 ≡ []
+unfolding variables
+variables-zero = refl
+
+variables-suc : (n : ℕ) → variables (suc n) ≡ variables n ++ (2 * n) ∷ []
+unfolding variables
+variables-suc n = refl
+
+pub grew-no_variables : (t : Tables) (a : Arena) (f : List ℕ) (items : List (ℕ × Item)) → AreHeld t a items → Grew t a a f (variables 0) items items
+grew-no_variables t a f items all = grew-as t a a f (variables 0) [] items items variables-zero (grew-none t a f items all)
+
+pub variables-more : (n : ℕ) → variables (n + 1) ≡ variables n ++ (2 * n) ∷ []
+variables-more n = (let e : n + 1 ≡ suc n = omega arith in ap variables e ∙ variables-suc n)

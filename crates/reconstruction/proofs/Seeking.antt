@@ -1,0 +1,44 @@
+-- Facts for one step of the search.
+use Rattle.std.proofs.Common.{◌≡◌, ℕ, List, [], ◌∷◌, ◌++◌, get_or, Option, None, Result, Ok, Err, OnErr, sym, ap, subst, ◌∙◌, append_assoc}
+use Rattle.std.specs.List.Sorted.{IsPermutation}
+use Rattle.std.proofs.lemmas.List.Sorted.{IsPermutation-trans, IsPermutation-append_right}
+use Rattle.least_weights.specs.LeastWeight.{place_at}
+use Rattle.reconstruction.specs.Spots.{IsSpot, rows_at, at_state, number}
+use Rattle.std.proofs.lemmas.List.Elements.{All-head}
+use Rattle.reconstruction.specs.Tabled.{place_of, least_of, AreSpots, stack_of, IsHeld, AreHeld}
+use Rattle.reconstruction.specs.Levelled.{AreComplete}
+use Rattle.reconstruction.specs.declared.item.Arena.{Arena}
+use Rattle.reconstruction.specs.declared.item.Item.{Item}
+use Rattle.reconstruction.specs.declared.spot.Spot.{Spot}
+use Rattle.reconstruction.specs.declared.tables.Tables.{Tables}
+use Rattle.reconstruction.proofs.Weights.{least-is}
+
+-- the weight of a spot's state is the least weight at its place
+pub spot-least : (t : Tables) → AreComplete t → (p : Spot) → IsSpot t.env t.patterns p → (o : Option ℕ) → o ≡ get_or t.least p.state None → number t.env.limit o ≡ least_of t (place_of t p)
+spot-least t ready p spot o is =
+    let rows = rows_at t.env p.row in
+    let at : place_of t p ≡ place_at t.patterns spot.state rows = ap (λ s. at_state t.patterns s rows) spot.is in
+    ap (number t.env.limit) is
+    ∙ sym (least-is t.env t.patterns t.least ready.weights p.state spot.state rows spot.is spot.types spot.depth)
+    ∙ ap (least_of t) (sym at)
+
+-- one more item of those aside is in the queue
+pub one_moved : {X : Type 0} (start old ys q more : List X) (x : X) → IsPermutation start (old ++ q) → old ≡ ys ++ x ∷ [] → IsPermutation (x ∷ q) more → IsPermutation start (ys ++ more)
+one_moved {X} start old ys q more x h is p =
+    let P : List X → Type 0 = λ l. IsPermutation start l in
+    IsPermutation-trans start (ys ++ (x ∷ q)) (ys ++ more) (subst P (ap (λ l. l ++ q) is ∙ append_assoc ys (x ∷ []) q) h) (IsPermutation-append_right ys (x ∷ q) more p)
+
+pub head_held : (t : Tables) (a : Arena) (k : ℕ) (i : Item) (items : List (ℕ × Item)) → AreHeld t a ((k, i) ∷ items) → IsHeld t a k i
+head_held t a k i items all = All-head (λ (x : ℕ × Item). IsHeld t a x.0 x.1) (k, i) items all
+
+-- the first open place of an item is a spot
+pub first_spot : (t : Tables) (a : Arena) (k : ℕ) (p : Spot) (r : ℕ) (i : Item) → IsHeld t a k i → stack_of a i.stack ≡ p ∷ stack_of a r → IsSpot t.env t.patterns p
+first_spot t a k p r i h first = All-head (IsSpot t.env t.patterns) p (stack_of a r) (subst (AreSpots t) first h.spots)
+
+pub on_err_of : {X E : Type 0} (P : Type 0) (r : Result X E) → P → OnErr r P
+on_err_of P (Ok x) h = tt
+on_err_of P (Err e) h = h
+
+pub on_err_by : {X E : Type 0} (P Q : Type 0) (r : Result X E) → (P → Q) → OnErr r P → OnErr r Q
+on_err_by P Q (Ok x) f h = tt
+on_err_by P Q (Err e) f h = f h

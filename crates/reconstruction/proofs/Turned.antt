@@ -1,0 +1,220 @@
+-- The moves that are made at a state are turns at each of its spots.
+use Rattle.std.proofs.Common.{◌≡◌, inl, ℕ, suc, ◌+◌, ◌*◌, ◌<◌, ◌≤◌, true, ◌&&◌, ◌==◌, List, [], ◌∷◌, ◌++◌, length, slice_get, Some, All, refl, sym, ap, subst, ◌∙◌, arith}
+use Rattle.std.proofs.lemmas.Bool.{and_from, false≢true, or_right}
+use Rattle.std.proofs.lemmas.List.Elements.{All-nil, All-cons, All-weaker}
+use Rattle.std.proofs.lemmas.Option.{slice_get_within}
+use Rattle.terms.specs.Count.{total}
+use Rattle.terms.specs.Faults.{IsValid, HasLengths, are_plain}
+use Rattle.terms.specs.Place.{Place}
+use Rattle.terms.specs.Reading.{has_room, places, binders, some_when, declared_at, turn_by, turn}
+use Rattle.terms.specs.Typing.{is_below, is_pair}
+use Rattle.terms.specs.Weights.{step}
+use Rattle.terms.specs.declared.parts.Arg.{Arg}
+use Rattle.terms.specs.declared.parts.Arg.TheVariants.{Plain, Fun}
+use Rattle.terms.specs.declared.parts.Decl.{Decl}
+use Rattle.terms.specs.declared.parts.Parts.{Parts}
+use Rattle.terms.proofs.Halves.{symbol-odd}
+use Rattle.terms.proofs.Valid.{valid-depth, valid-limit, valid-pair, below-itself}
+use Rattle.succinct.specs.Compression.{Compression, need_of}
+use Rattle.patterns.specs.Patterned.{Patterned, ArePatterns, state_sought, sought_from}
+use Rattle.patterns.specs.States.{left_at, place_in, place_sought, place_of}
+use Rattle.patterns.specs.declared.state.State.{State}
+use Rattle.patterns.proofs.Mets.{place_of-get}
+use Rattle.least_weights.specs.Edges.{IsTail, AreTails}
+use Rattle.least_weights.specs.LeastWeight.{AreLeastWeights, place_at}
+use Rattle.least_weights.proofs.Joins.{pair-get}
+use Rattle.least_weights.proofs.Lows.{split-tails, no-tails, step-same, step-apart}
+use Rattle.least_weights.proofs.Sought.{IsAt, plain-at, fun-at}
+use Rattle.reconstruction.specs.Spots.{row_of_args, row_of_decl, rows_at, at_state, IsSpot}
+use Rattle.reconstruction.specs.Tabled as tabled
+use Rattle.reconstruction.specs.Tabled.{places_of, least_of, AreSpots, IsTurn, spots_under}
+use Rattle.reconstruction.specs.Moves.{moves_at, IsExactMove, IsAnyMove}
+use Rattle.reconstruction.specs.Made.{number_of, least_total, IsHead, IsMoveOf}
+use Rattle.reconstruction.specs.declared.spot.Spot.{Spot}
+use Rattle.reconstruction.specs.declared.tables.Move.{Move}
+use Rattle.reconstruction.specs.declared.tables.Move.TheVariants.{Head, Lambda, Below}
+use Rattle.reconstruction.specs.declared.tables.Tables.{Tables}
+use Rattle.reconstruction.proofs.Weights.{least-is}
+use Rattle.reconstruction.proofs.Opens.{plain-set}
+
+-- places as spots, with their least weights together
+pub record Opened (t : Tables) (ps : List Place) (spots : List Spot) (sum : ℕ) : Type 0 where
+  pub places : ps ≡ places_of t spots
+  pub opened : AreSpots t spots
+  pub least : total (least_of t) ps ≡ sum
+
+-- a place as a spot, with its least weight
+pub record IsSpotOf (t : Tables) (q : Place) (p : Spot) (n : ℕ) : Type 0 where
+  pub spot : IsSpot t.env t.patterns p
+  pub is : q ≡ tabled.place_of t p
+  pub least : least_of t q ≡ n
+
+pub opened-none : (t : Tables) → Opened t [] [] 0
+opened-none t = record { places = refl; opened = All-nil (IsSpot t.env t.patterns); least = refl }
+
+pub opened-more : (t : Tables) (q : Place) (p : Spot) (n : ℕ) (qs : List Place) (ps : List Spot) (sum : ℕ) → IsSpotOf t q p n → Opened t qs ps sum → Opened t (q ∷ qs) (p ∷ ps) (n + sum)
+opened-more t q p n qs ps sum first rest = record {
+  places = ap (λ x. x ∷ qs) first.is ∙ ap (λ l. tabled.place_of t p ∷ l) rest.places;
+  opened = All-cons (IsSpot t.env t.patterns) p ps first.spot rest.opened;
+  least = (let a = first.least in let b = rest.least in omega (arith, a, b));
+}
+
+pub plain-room : (left : ℕ) (args : List Arg) → are_plain args ≡ true → has_room left args ≡ true
+unfolding has_room
+plain-room left [] h = refl
+plain-room left (Plain b ∷ args) h = plain-room left args h
+plain-room left (Fun ps r ∷ args) h = absurd (false≢true h)
+
+pub fun-room : (left : ℕ) (ps : List ℕ) (r : ℕ) → has_room (suc left) (Fun ps r ∷ []) ≡ true
+unfolding has_room
+fun-room left ps r = refl
+
+pub places-fun : (ctx : List (List ℕ)) (left : ℕ) (ps : List ℕ) (r : ℕ) → places ctx (suc left) (Fun ps r ∷ []) ≡ record { ctx = ctx ++ ps ∷ []; left = left; wanted = r } ∷ []
+unfolding places
+places-fun ctx left ps r = refl
+
+no_rows : (ctx : List (List ℕ)) → length ctx ≡ 0 → ctx ≡ []
+no_rows [] h = refl
+no_rows (x ∷ ctx) h = absurd (omega (arith, h))
+
+-- a state at which a value is sought from another one
+pub value-state : (g : Parts) (c : Compression) (d : Patterned) → ArePatterns c g.goal g.depth d → (i : ℕ) (s : State) (b t : ℕ) → slice_get d.states i ≡ Some s → IsTail c d i (Plain b) t → slice_get d.states t ≡ Some (record { set = s.set; goal = b })
+value-state g c d made i s b t is tail =
+    let w = made.wanted tail.need (need_of (Plain b)) tail.is in
+    let chain : state_sought d i tail.need ≡ place_of d.states (record { set = s.set; goal = w.0.goal }) =
+    ap (λ o. sought_from d o tail.need) is ∙ ap (λ o. place_sought d.space d.states s o) w.1 ∙ ap (λ o. place_in d.states w.0.goal o) (plain-set d.space s.set w.0 w.2.lambda) in
+    let found = place_of-get d.states (record { set = s.set; goal = w.0.goal }) t (sym chain ∙ tail.to) in
+    subst (λ x. slice_get d.states t ≡ Some (record { set = s.set; goal = x })) w.2.goal found
+
+-- the place of a lambda's body, and that there is room for it
+pub record BodyOpened (t : Tables) (k left : ℕ) (ctx : List (List ℕ)) (args : List Arg) (body : ℕ) : Type 0 where
+  pub room : has_room left args ≡ true
+  pub opened : Opened t (places ctx left args) (spots_under (k + 1) (body ∷ [])) (least_total t.env.limit t.least (body ∷ []))
+
+module _ (t : Tables) (c : Compression) (valid : IsValid t.env) (lengths : HasLengths t.env) (made : ArePatterns c t.env.goal t.env.depth t.patterns) (right : AreLeastWeights t.env t.patterns t.least) where
+  -- a place that stands at a state is its spot
+  pub spot-is : (i row left b : ℕ) → IsAt t.patterns t.env.depth i (rows_at t.env row) left b → IsSpotOf t (record { ctx = rows_at t.env row; left = left; wanted = b }) (record { row = row; state = i }) (number_of t.env.limit t.least i)
+  spot-is i row left b at =
+      let d = t.patterns in
+      let s = at.state in
+      let ctx = rows_at t.env row in
+      let rows = at.rows in
+      let l = at.left_is in
+      let depth : length ctx + left_at d.space s.set ≡ t.env.depth = omega (arith, rows, l) in
+      let here : Place = record { ctx = ctx; left = left; wanted = b } in
+      let place : here ≡ place_at d s ctx = ap (λ n. record { ctx = ctx; left = n; wanted = b }) l ∙ ap (λ n. record { ctx = ctx; left = left_at d.space s.set; wanted = n }) at.goal in
+      record {
+        spot = record { state = s; is = at.is; types = at.types; depth = depth };
+        is = place ∙ sym (ap (λ o. at_state d o ctx) at.is);
+        least = ap (least_of t) place ∙ least-is t.env d t.least right i s ctx at.is at.types depth;
+      }
+
+  -- the places of values
+  pub plain-opened : (i row left b : ℕ) → IsAt t.patterns t.env.depth i (rows_at t.env row) left b → (args : List Arg) (ts : List ℕ) → are_plain args ≡ true → AreTails c t.patterns i args ts → Opened t (places (rows_at t.env row) left args) (spots_under row ts) (least_total t.env.limit t.least ts)
+  unfolding places
+  plain-opened i row left b at [] ts plain tails = subst (λ l. Opened t [] (spots_under row l) (least_total t.env.limit t.least l)) (sym (no-tails c t.patterns i ts tails)) (opened-none t)
+  plain-opened i row left b at (Plain a ∷ args) ts plain tails =
+      let s = split-tails c t.patterns i (Plain a) args ts tails in
+      let inner = plain-at c t.patterns t.env.depth made.wanted made.depth_is i s.first (rows_at t.env row) left b a at s.tail in
+      let rest = plain-opened i row left b at args s.rest plain s.others in
+      let qs = places (rows_at t.env row) left args in
+      let q : Place = record { ctx = rows_at t.env row; left = left; wanted = a } in
+      let p : Spot = record { row = row; state = s.first } in
+      subst (λ l. Opened t (q ∷ qs) (spots_under row l) (least_total t.env.limit t.least l)) (sym s.is)
+      (opened-more t q p (number_of t.env.limit t.least s.first) qs (spots_under row s.rest) (least_total t.env.limit t.least s.rest) (spot-is s.first row left a inner) rest)
+  plain-opened i row left b at (Fun ps r ∷ args) ts plain tails = absurd (false≢true plain)
+
+  pub lambda-opened : (i row left b k body : ℕ) (decl : Decl) (ps : List ℕ) (r : ℕ) → IsAt t.patterns t.env.depth i (rows_at t.env row) left b → slice_get t.env.decls k ≡ Some decl → decl.args ≡ Fun ps r ∷ [] → AreTails c t.patterns i decl.args (body ∷ []) → BodyOpened t k left (rows_at t.env row) decl.args body
+  lambda-opened i row left b k body decl ps r at is wants tails =
+      let d = t.patterns in
+      let ctx = rows_at t.env row in
+      let tail : IsTail c d i (Fun ps r) body = tails.each 0 (Fun ps r) body (ap (λ l. slice_get l 0) wants) refl in
+      let u = fun-at c d t.env.depth made.wanted made.depth_is i body ctx left b ps r at tail in
+      let flat = valid-depth t.env valid in
+      let rows = at.rows in
+      let some = u.left_is in
+      let outer : ctx ≡ [] = no_rows ctx (omega (arith, flat, rows, some)) in
+      let e : k + 1 ≡ suc k = omega arith in
+      let row_is : rows_at t.env (k + 1) ≡ ps ∷ [] = ap (rows_at t.env) e ∙ ap row_of_decl is ∙ ap row_of_args wants in
+      let same : ctx ++ ps ∷ [] ≡ rows_at t.env (k + 1) = ap (λ (x : List (List ℕ)). x ++ ps ∷ []) outer ∙ sym row_is in
+      let inner : IsAt d t.env.depth body (rows_at t.env (k + 1)) u.inner r = subst (λ x. IsAt d t.env.depth body x u.inner r) same u.at in
+      let q : Place = record { ctx = rows_at t.env (k + 1); left = u.inner; wanted = r } in
+      let p : Spot = record { row = k + 1; state = body } in
+      let one : Opened t (q ∷ []) (p ∷ []) (least_total t.env.limit t.least (body ∷ [])) = opened-more t q p (number_of t.env.limit t.least body) [] [] 0 (spot-is body (k + 1) u.inner r inner) (opened-none t) in
+      let shown : places ctx left decl.args ≡ q ∷ [] = ap (places ctx left) wants ∙ ap (λ n. places ctx n (Fun ps r ∷ [])) u.left_is ∙ places-fun ctx u.inner ps r ∙ ap (λ x. record { ctx = x; left = u.inner; wanted = r } ∷ []) same in
+      record {
+        room = ap (has_room left) wants ∙ ap (λ n. has_room n (Fun ps r ∷ [])) u.left_is ∙ fun-room u.inner ps r;
+        opened = subst (λ l. Opened t l (p ∷ []) (least_total t.env.limit t.least (body ∷ []))) (sym shown) one;
+      }
+
+  -- a head whose wants are spots is a turn
+  pub opened-turn : (i row left b goal k w extra : ℕ) (ts : List ℕ) (spots : List Spot) → (h : IsHead t.env c t.patterns t.least i goal k w ts) → has_room left h.decl.args ≡ true → Opened t (places (rows_at t.env row) left h.decl.args) spots (least_total t.env.limit t.least ts) → is_below t.env goal b ≡ true → step (Some goal) b ≡ extra → IsTurn t (record { ctx = rows_at t.env row; left = left; wanted = b }) (2 * k + 1) (w + extra) spots
+  unfolding turn
+  opened-turn i row left b goal k w extra ts spots h room o below weighs =
+      let decl = h.decl in
+      let ctx = rows_at t.env row in
+      let q : Place = record { ctx = ctx; left = left; wanted = b } in
+      let weight = decl.weight + binders decl.args + step (Some decl.result) b in
+      let tests : is_below t.env decl.result b && has_room left decl.args ≡ true = and_from (is_below t.env decl.result b) (has_room left decl.args) (ap (λ x. is_below t.env x b) h.gives ∙ below) room in
+      let more : step (Some decl.result) b ≡ extra = ap (λ x. step (Some x) b) h.gives ∙ weighs in
+      let all : total (least_of t) (places_of t spots) ≡ least_total t.env.limit t.least ts = ap (total (least_of t)) (sym o.places) ∙ o.least in
+      let sum = h.weighs in
+      record {
+        weight = weight;
+        is = ap (turn_by t.env q) (symbol-odd k) ∙ ap (declared_at t.env q) h.is ∙ ap (λ x. some_when x (record { weight = weight; open_places = places ctx left decl.args })) tests ∙ ap (λ l. Some (record { weight = weight; open_places = l })) o.places;
+        opened = o.opened;
+        capped = inl (omega (arith, sum, more, all));
+      }
+
+  small-number : (k : ℕ) (decl : Decl) → slice_get t.env.decls k ≡ Some decl → k < 2147483648
+  small-number k decl is = (let low = slice_get_within t.env.decls k decl is in let few = lengths.decls in omega (arith, low, few))
+
+  small-weight : (w : ℕ) → w ≤ t.env.limit → w ≤ 10001
+  small-weight w h = (let l = valid-limit t.env valid in let top = l.1 in omega (arith, h, top))
+
+  -- the spot's place, written out
+  pub spot-place : (p : Spot) (s : IsSpot t.env t.patterns p) → tabled.place_of t p ≡ place_at t.patterns s.state (rows_at t.env p.row)
+  spot-place p s = ap (λ o. at_state t.patterns o (rows_at t.env p.row)) s.is
+
+  pub spot-at : (p : Spot) (s : IsSpot t.env t.patterns p) → IsAt t.patterns t.env.depth p.state (rows_at t.env p.row) (left_at t.patterns.space s.state.set) s.state.goal
+  spot-at p s = record { state = s.state; is = s.is; types = s.types; left_is = refl; goal = refl; rows = s.depth }
+
+  -- a move that gives just a type is a turn where that type may stand
+  pub exact-move : (p : Spot) (s : IsSpot t.env t.patterns p) (i goal extra n : ℕ) (m : Move) → IsAt t.patterns t.env.depth i (rows_at t.env p.row) (left_at t.patterns.space s.state.set) goal → is_below t.env goal s.state.goal ≡ true → step (Some goal) s.state.goal ≡ extra → IsMoveOf t.env c t.patterns t.least i goal n m → IsExactMove t p extra m
+  exact-move p s i goal extra n (Head k w ts) at below weighs (same, plain) =
+      let left = left_at t.patterns.space s.state.set in
+      let o = plain-opened i p.row left goal at plain.head.decl.args ts plain.plain plain.head.tails in
+      let turn_is = opened-turn i p.row left s.state.goal goal k w extra ts (spots_under p.row ts) plain.head (plain-room left plain.head.decl.args plain.plain) o below weighs in
+      record {
+        number = small-number k plain.head.decl plain.head.is;
+        small = small-weight w plain.head.within;
+        head = subst (λ q. IsTurn t q (2 * k + 1) (w + extra) (spots_under p.row ts)) (sym (spot-place p s)) turn_is;
+      }
+  exact-move p s i goal extra n (Lambda k w body) at below weighs (same, lambda) =
+      let left = left_at t.patterns.space s.state.set in
+      let h = lambda.head in
+      let o = lambda-opened i p.row left goal k body h.decl lambda.params lambda.body at h.is lambda.is h.tails in
+      let turn_is = opened-turn i p.row left s.state.goal goal k w extra (body ∷ []) (spots_under (k + 1) (body ∷ [])) h o.room o.opened below weighs in
+      record {
+        number = small-number k h.decl h.is;
+        small = small-weight w h.within;
+        head = subst (λ q. IsTurn t q (2 * k + 1) (w + extra) (spots_under (k + 1) (body ∷ []))) (sym (spot-place p s)) turn_is;
+      }
+  exact-move p s i goal extra n (Below lower) at below weighs h = tt
+
+  pub pair-below : (a b : ℕ) → is_pair t.env.pairs a b ≡ true → is_below t.env a b ≡ true
+  unfolding is_below
+  pair-below a b h = or_right (a == b) (is_pair t.env.pairs a b) h
+
+  -- the moves of a state are turns at its spots, and under a coercion those of the lower state are
+  pub any-move : ((i : ℕ) (s : State) → slice_get t.patterns.states i ≡ Some s → All (λ m. (n : ℕ) × IsMoveOf t.env c t.patterns t.least i s.goal n m) (moves_at t i)) → (p : Spot) → IsSpot t.env t.patterns p → (n : ℕ) (m : Move) → (goal : ℕ) → (s : IsSpot t.env t.patterns p) → goal ≡ s.state.goal → IsMoveOf t.env c t.patterns t.least p.state goal n m → IsAnyMove t p m
+  any-move all p s0 n (Head k w ts) goal s same h = exact-move p s p.state s.state.goal 0 n (Head k w ts) (spot-at p s) (below-itself t.env s.state.goal) (step-same s.state.goal s.state.goal refl) (subst (λ x. IsMoveOf t.env c t.patterns t.least p.state x n (Head k w ts)) same h)
+  any-move all p s0 n (Lambda k w body) goal s same h = exact-move p s p.state s.state.goal 0 n (Lambda k w body) (spot-at p s) (below-itself t.env s.state.goal) (step-same s.state.goal s.state.goal refl) (subst (λ x. IsMoveOf t.env c t.patterns t.least p.state x n (Lambda k w body)) same h)
+  any-move all p s0 n (Below lower) goal s same h =
+      let left = left_at t.patterns.space s.state.set in
+      let at = plain-at c t.patterns t.env.depth made.wanted made.depth_is p.state lower (rows_at t.env p.row) left s.state.goal h.lower (spot-at p s) h.tail in
+      let there = value-state t.env c t.patterns made p.state s.state h.lower lower s.is h.tail in
+      let pair : is_pair t.env.pairs h.lower goal ≡ true = pair-get t.env.pairs h.place (h.lower, goal) h.is in
+      let pair_to : is_pair t.env.pairs h.lower s.state.goal ≡ true = subst (λ x. is_pair t.env.pairs h.lower x ≡ true) same pair in
+      let apart = (valid-pair t.env valid h.lower s.state.goal pair_to).2 in
+      All-weaker (λ m. (n : ℕ) × IsMoveOf t.env c t.patterns t.least lower h.lower n m) (IsExactMove t p 10) (λ m q. exact-move p s lower h.lower 10 q.0 m at (pair-below h.lower s.state.goal pair_to) (step-apart h.lower s.state.goal apart) q.1) (moves_at t lower) (all lower (record { set = s.state.set; goal = h.lower }) there)

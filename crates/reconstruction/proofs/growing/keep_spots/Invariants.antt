@@ -1,0 +1,15 @@
+use Rattle.std.proofs.Common.{◌≡◌, ◌≤◌, ◌<◌, ◌++◌, [], drop, length, get_or}
+use Rattle.reconstruction.specs.Chained.{IsGrown}
+use Rattle.reconstruction.specs.Tabled.{spots_under}
+use Rattle.reconstruction.proofs.growing.keep_spots.Given as goal
+
+abbrev pub invariant-loop-i : goal.invariant-loop-i
+invariant-loop-i l = record {
+  inside : l.i ≤ length l.states;
+  within : l.at < length l.stacks;
+  kept : get_or l.stacks l.at [] ≡ spots_under l.row (drop l.i l.states) ++ get_or l.fn.stacks l.rest [];
+  grown : IsGrown l.fn.stacks l.stacks;
+}
+
+abbrev pub decreases-loop-i : goal.decreases-loop-i
+decreases-loop-i l = l.i

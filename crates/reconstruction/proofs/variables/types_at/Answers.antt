@@ -1,0 +1,14 @@
+use Rattle.std.proofs.Common.{◌∙◌, ap}
+use Rattle.terms.specs.Typing.{joined}
+use Rattle.reconstruction.specs.Spots.{row_of_args}
+use Rattle.reconstruction.proofs.Bound.{row_none, row_some, row_past}
+use Rattle.reconstruction.proofs.variables.types_at.Goals as goal
+
+pub returns-then-row-eq0 : goal.returns-then-row-eq0
+returns-then-row-eq0 c = record { value = row_none c.args.tables.now.env c.args.row c.if-row-eq0.true }
+
+pub returns-in-Some : goal.returns-in-Some
+returns-in-Some c = record { value = c.only_row.ensures.value ∙ ap (λ l. joined (row_of_args l)) c.as_slice.ensures ∙ row_some c.args.tables.now.env c.args.row c.as_slice-decls.result.now c.in-Some.decl.now c.if-row-eq0.false (c.as_slice-decls.ensures ∙ ap (λ g. g.decls) c.parts.ensures.value) c.in-Some.ensures.lookup.3.0 c.in-Some.ensures.lookup.1 }
+
+pub returns-in-None : goal.returns-in-None
+returns-in-None c = record { value = row_past c.args.tables.now.env c.args.row c.as_slice-decls.result.now c.if-row-eq0.false (c.as_slice-decls.ensures ∙ ap (λ g. g.decls) c.parts.ensures.value) c.in-None.ensures.lookup.3 }

@@ -1,0 +1,20 @@
+-- The variables at a spot, and all numbers that a spot may add to a front.
+use Rattle.std.specs.Prelude.{ℕ, zero, suc, ◌*◌, List, [], ◌∷◌, ◌++◌, length}
+use Rattle.terms.specs.Typing.{joined}
+use Rattle.reconstruction.specs.Moves.{moves_at, all_numbers}
+use Rattle.reconstruction.specs.Spots.{rows_at}
+use Rattle.reconstruction.specs.declared.spot.Spot.{Spot}
+use Rattle.reconstruction.specs.declared.tables.Tables.{Tables}
+
+-- the numbers of the first variables
+unfoldable pub variables : ℕ → List ℕ
+variables zero = []
+variables (suc n) = variables n ++ (2 * n) ∷ []
+
+-- how many variables are bound at a spot
+abbrev pub bound_at : Tables → Spot → ℕ
+bound_at t p = length (joined (rows_at t.env p.row))
+
+-- the variables, and then the declarations
+abbrev pub numbers_at : Tables → Spot → List ℕ
+numbers_at t p = variables (bound_at t p) ++ all_numbers t (moves_at t p.state)

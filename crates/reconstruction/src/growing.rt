@@ -1,0 +1,63 @@
+// One partial term more: a front with one number more, and the places that it opens.
+
+ghost use Rattle.std.specs.Prelude.{◌≡◌, ◌<◌, ◌≤◌, ◌++◌, [], length, get_or, IfOk, OnOk};
+ghost use Rattle.reconstruction.specs.Chained.{IsGrown};
+ghost use Rattle.reconstruction.specs.Tabled.{spots_under, place_of, front_of, IsParent, IsTurn, AreGrown, Pushes};
+
+use crate::chains::Chains;
+use crate::item::{Arena, Item, Parent};
+use crate::spot::Spot;
+use crate::tables::Tables;
+use std::alloc::AllocError;
+
+/// Keeps the spots of these states under one row before a list of spots.
+fn keep_spots(
+    stacks: &mut Chains<Spot>,
+    row: u32,
+    states: &[u32],
+    rest: u32,
+) -> Result<u32, AllocError>
+    requires rest { rest < length stacks.old }
+    ensures kept { IfOk result (λ i. get_or stacks.new i [] ≡ spots_under row states.now ++ get_or stacks.old rest []) }
+    ensures within { IfOk result (λ i. i < length stacks.new) }
+    ensures grown { IsGrown stacks.old stacks.new }
+{
+    let mut at = rest;
+    let mut i = states.len();
+    while i > 0 {
+        i -= 1;
+        let state = states[i];
+        at = stacks.cons(Spot { row, state }, at)?;
+    }
+    Ok(at)
+}
+
+/// Adds the front with this number, if a term within the limit may come of it.
+pub fn grow_by(
+    tables: &Tables,
+    arena: &mut Arena,
+    aside: &mut Vec<(u32, Item)>,
+    parent: Parent,
+    number: u32,
+    total: u32,
+    row: u32,
+    states: &[u32],
+) -> Result<(), AllocError>
+    requires parent { IsParent tables.now arena.old parent }
+    requires head { IsTurn tables.now (place_of tables.now parent.spot) number total (spots_under row states.now) }
+    ensures pushes { OnOk result (Pushes tables.now arena.new (front_of arena.old parent.front) number aside.old.items aside.new.items) }
+    ensures grown { AreGrown arena.old arena.new }
+{
+    let limit = tables.env.parts().limit;
+    if parent.base > limit {
+        return Ok(());
+    }
+    if total > limit - parent.base {
+        return Ok(());
+    }
+    let key = parent.base + total;
+    let stack = keep_spots(&mut arena.stacks, row, states, parent.rest)?;
+    let front = arena.fronts.cons(number, parent.front)?;
+    aside.push((key, Item { front, stack }))?;
+    Ok(())
+}

@@ -1,0 +1,26 @@
+use crate::chains::Chains;
+use crate::spot::Spot;
+
+/// A partial term: the list of its front, the last number first, and the list of its open places.
+#[derive(Clone, Copy, Debug)]
+pub struct Item {
+    pub front: u32,
+    pub stack: u32,
+}
+
+/// The lists of the partial terms: fronts and open places share their ends.
+#[derive(Drop)]
+pub struct Arena {
+    pub fronts: Chains<u32>,
+    pub stacks: Chains<Spot>,
+}
+
+/// A partial term whose first open place is to be filled: its key without that place's least weight, that
+/// place, and the list of the others.
+#[derive(Clone, Copy, Debug)]
+pub struct Parent {
+    pub front: u32,
+    pub base: u32,
+    pub spot: Spot,
+    pub rest: u32,
+}

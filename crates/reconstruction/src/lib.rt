@@ -1,0 +1,25 @@
+// The search that rebuilds the terms of a goal in the order of their weights. A partial term is a front of a
+// prefix code; a queue holds each under the least total of its completions. The main definition is
+// `IsSearch`: each term that is still to come completes exactly one front. It stands on `terms`, `succinct`,
+// `patterns`, `least_weights` and `weight_queue`.
+#![tactic(auto)]
+
+mod building;
+mod chains;
+mod growing;
+mod heads;
+mod item;
+mod making_level;
+mod moves;
+mod moving;
+mod rebuild;
+mod spot;
+mod starting;
+mod stepping;
+mod tables;
+mod variables;
+
+pub use rebuild::Rebuild;
+
+#[cfg(test)]
+mod tests;

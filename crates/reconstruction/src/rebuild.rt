@@ -1,0 +1,150 @@
+ghost use Rattle.std.specs.Prelude.{◌≡◌, ◌⊎◌, ◌+◌, ◌≤◌, List, length, IfOk, IfSome, IfNone, OnErr};
+ghost use Rattle.terms.specs.Code.{prefix_code};
+ghost use Rattle.terms.specs.Count.{Stands, total};
+ghost use Rattle.terms.specs.Expr.{Expr};
+ghost use Rattle.terms.specs.Listing.{Progress, IsNextLevel, Skipped};
+ghost use Rattle.terms.specs.Place.{IsInhabitant, total_of};
+ghost use Rattle.reconstruction.specs.Rebuilding.{AreGiven, IsNextWeight};
+
+use crate::building::terms_of;
+use crate::chains::Chains;
+use crate::item::{Arena, Item};
+use crate::making_level::{make_level, next_weight};
+use crate::moves::tables_of;
+use crate::starting::begin;
+use crate::tables::Tables;
+use std::alloc::{AllocError, Global};
+use std::marker::Model;
+use terms::{Env, Level, Levels};
+use weight_queue::WeightQueue;
+
+/// A search that rebuilds the terms of a goal in the order of their weights, from partial terms in a queue.
+/// It keeps partial terms alone, and makes the terms of a level when that is asked for.
+#[derive(Drop)]
+pub struct Rebuild {
+    tables: Tables,
+    arena: Arena,
+    queue: WeightQueue<Item>,
+    /// The item that was popped last, where it doesn't belong to the levels given.
+    held: Option<(u32, Item)>,
+    /// Room for the items that grow from one, before they go into the queue.
+    aside: Vec<(u32, Item)>,
+    /// The whole fronts of the level that was begun.
+    found: Vec<u32>,
+    /// The weight of the level that was begun last, or 0.
+    level: u32,
+    /// The weight after that of the last level, or 0.
+    from: u32,
+}
+
+impl Model for Rebuild {
+    ghost use Rattle.reconstruction.specs.Levelled.{AreComplete, IsAt, IsLeastHeld, with_held};
+    ghost use Rattle.reconstruction.specs.Rebuilding.{Rebuilding, IsOn};
+    ghost use Rattle.reconstruction.specs.Tallied.{AreTallied};
+    ghost use Rattle.std.specs.Prelude.{max};
+
+    ghost Value = { Rebuilding };
+
+    ghost view = { λ r. record { progress = record { parts = r.tables.env; from = r.from }; reached = r.level; pops = r.queue.pops } };
+
+    ghost invariant = { λ r. AreComplete r.tables × IsAt r.tables r.arena (max r.from r.level) (with_held r.held r.queue.items) r.found.items × IsLeastHeld r.held r.queue.items × IsOn r.tables r.from r.level r.found.items × AreTallied r.tables r.arena r.level r.held r.queue.items r.queue.pops };
+}
+
+impl Rebuild {
+    /// A search that has given nothing yet and popped nothing. It owns the environment.
+    pub fn new(alloc: Global, env: Env) -> Result<Rebuild, AllocError>
+        ensures start { IfOk result (λ search. search ≡ record { progress = record { parts = env; from = 0 }; reached = 0; pops = 0 }) }
+    {
+        let tables = tables_of(alloc, env)?;
+        let mut arena = Arena {
+            fronts: Chains::new(alloc),
+            stacks: Chains::new(alloc),
+        };
+        let mut queue = WeightQueue::new(alloc);
+        begin(&tables, &mut arena, &mut queue)?;
+        Ok(Rebuild {
+            tables,
+            arena,
+            queue,
+            held: None,
+            aside: Vec::new(alloc),
+            found: Vec::new(alloc),
+            level: 0,
+            from: 0,
+        })
+    }
+
+    /// The next level, as `next_level` gives it. What is reached is its weight; after want of memory it is the
+    /// weight of the level that was being made.
+    pub fn advance(&mut self, alloc: Global) -> Result<Option<Level>, AllocError>
+        ensures next { IfOk result (λ found. IfSome found (λ level.
+            IsNextLevel self.old.progress.parts self.old.progress.from level
+            × (self.new.progress ≡ record { parts = self.old.progress.parts; from = level.weight + 1 }))) }
+        ensures none_left { IfOk result (λ found. IfNone found (
+            Skipped self.old.progress.parts self.old.progress.from (self.old.progress.parts.limit + 1)
+            × (self.new.progress ≡ self.old.progress))) }
+        ensures same_level_again { OnErr result (self.new.progress ≡ self.old.progress) }
+        ensures pops_rise { self.old.pops ≤ self.new.pops }
+        ensures reached { IfOk result (λ found. IfSome found (λ level. self.new.reached ≡ level.weight)) }
+        ensures not_further { IfOk result (λ found. IfNone found (self.new.reached ≡ self.old.reached)) }
+        ensures being_made { OnErr result (IsNextWeight self.old.progress.parts self.old.progress.from self.new.reached) }
+    {
+        let found = self.found.as_slice();
+        let next = next_weight(&mut self.queue, &mut self.held, found, self.level);
+        let weight = match next {
+            Some(weight) => weight,
+            None => return Ok(None),
+        };
+        self.level = weight;
+        make_level(
+            &self.tables,
+            &mut self.arena,
+            &mut self.queue,
+            &mut self.held,
+            &mut self.aside,
+            &mut self.found,
+            weight,
+        )?;
+        let fronts = self.found.as_slice();
+        let terms = terms_of(alloc, &self.tables, &self.arena, fronts)?;
+        self.found.clear();
+        self.from = weight + 1;
+        Ok(Some(Level { weight, terms }))
+    }
+}
+
+impl Rebuild {
+    /// How many items were popped so far; a count of 2^64 - 1 stands for that many or more. There are no more of
+    /// them than 1 and, for each term up to the weight of the level that was begun last, its nodes and 1: nothing
+    /// that leads nowhere is popped, and nothing twice. The 1 is the item that is held for the next level.
+    /// There are no fewer of them than terms given: each was popped when it was whole.
+    pub fn popped_items(&self) -> u64
+        ensures count { result ≡ self.now.pops }
+        ensures few { (es : List Expr) → ((e : Expr) → IsInhabitant self.now.progress.parts e → total_of self.now.progress.parts e ≤ self.now.reached → Stands e es) → result ≤ 1 + total (λ e. length (prefix_code e) + 1) es }
+        ensures many { (es : List Expr) → AreGiven self.now.progress es → (length es ≤ result) ⊎ (result ≡ 18446744073709551615) }
+    {
+        self.queue.pops()
+    }
+}
+
+impl Levels for Rebuild {
+    ghost progress = { λ r. r.progress };
+
+    ghost popped = { λ r. r.pops };
+
+    fn over(alloc: Global, env: Env) -> Result<Rebuild, AllocError> {
+        Rebuild::new(alloc, env)
+    }
+
+    fn env(&self) -> &Env {
+        &self.tables.env
+    }
+
+    fn next_level(&mut self, alloc: Global) -> Result<Option<Level>, AllocError> {
+        self.advance(alloc)
+    }
+
+    fn pops(&self) -> u64 {
+        self.popped_items()
+    }
+}

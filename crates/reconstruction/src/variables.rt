@@ -1,0 +1,125 @@
+// The partial terms that grow from one by a variable, and all that grow from it.
+
+ghost use Rattle.std.specs.Prelude.{◌≡◌, ◌+◌, ◌*◌, ◌<◌, ◌≤◌, [], ◌∷◌, All, OnOk, slice_get, Some};
+ghost use Rattle.terms.specs.Typing.{joined};
+ghost use Rattle.terms.specs.Weights.{step};
+ghost use Rattle.reconstruction.specs.Spots.{row_of_args, rows_at};
+ghost use Rattle.reconstruction.specs.Tabled.{place_of, front_of, IsParent, AreHeld, AreGrown, Grew};
+ghost use Rattle.reconstruction.specs.Moves.{moves_at, IsAnyMove};
+ghost use Rattle.reconstruction.specs.Variables.{variables, bound_at, numbers_at};
+
+use crate::growing::grow_by;
+use crate::item::{Arena, Item, Parent};
+use crate::moving::grow_moves;
+use crate::spot::Spot;
+use crate::tables::Tables;
+use std::alloc::AllocError;
+use terms::Arg;
+
+/// The parameters of the lambda that is the only argument.
+fn only_row(args: &[Arg]) -> &[u32]
+    ensures value { result.now ≡ joined (row_of_args args.now) }
+{
+    if args.len() != 1 {
+        return &[];
+    }
+    match &args[0] {
+        Arg::Fun(params, _) => params.as_slice(),
+        Arg::Plain(_) => &[],
+    }
+}
+
+/// The types of the variables that are bound at a row.
+fn types_at(tables: &Tables, row: u32) -> &[u32]
+    ensures value { result.now ≡ joined (rows_at tables.now.env row) }
+{
+    let decls = tables.env.parts().decls.as_slice();
+    if row == 0 {
+        return &[];
+    }
+    match decls.get(row as usize - 1) {
+        Some(decl) => only_row(decl.args.as_slice()),
+        None => &[],
+    }
+}
+
+/// The type that is wanted at a spot.
+fn goal_at(tables: &Tables, spot: Spot) -> u32
+    ensures value { result ≡ (place_of tables.now spot).wanted }
+{
+    match tables.patterns.states().get(spot.state as usize) {
+        Some(state) => state.goal,
+        None => 0,
+    }
+}
+
+/// What a coercion weighs, with the variable below it.
+fn with_step(from: u32, to: u32) -> u32
+    ensures value { result ≡ 1 + step (Some from) to }
+{
+    if from == to { 1 } else { 11 }
+}
+
+/// Adds what grows by a variable of this type.
+fn grow_variable(
+    tables: &Tables,
+    arena: &mut Arena,
+    aside: &mut Vec<(u32, Item)>,
+    parent: Parent,
+    number: u32,
+    bound: u32,
+) -> Result<(), AllocError>
+    requires parent { IsParent tables.now arena.old parent }
+    requires aside { AreHeld tables.now arena.old aside.old.items }
+    requires small { number < 2147483648 }
+    requires bound { slice_get (joined (rows_at tables.now.env parent.spot.row)) number ≡ Some bound }
+    ensures grew { OnOk result (Grew tables.now arena.old arena.new (front_of arena.old parent.front) ((2 * number) ∷ []) aside.old.items aside.new.items) }
+    ensures grown { AreGrown arena.old arena.new }
+{
+    let goal = goal_at(tables, parent.spot);
+    if !tables.env.is_below(bound, goal) {
+        return Ok(());
+    }
+    let total = with_step(bound, goal);
+    grow_by(tables, arena, aside, parent, 2 * number, total, 0, &[])
+}
+
+/// Adds what grows by the variables.
+fn grow_variables(
+    tables: &Tables,
+    arena: &mut Arena,
+    aside: &mut Vec<(u32, Item)>,
+    parent: Parent,
+) -> Result<(), AllocError>
+    requires parent { IsParent tables.now arena.old parent }
+    requires aside { AreHeld tables.now arena.old aside.old.items }
+    ensures grew { OnOk result (Grew tables.now arena.old arena.new (front_of arena.old parent.front) (variables (bound_at tables.now parent.spot)) aside.old.items aside.new.items) }
+    ensures grown { AreGrown arena.old arena.new }
+{
+    let types = types_at(tables, parent.spot.row);
+    if types.len() > 2_147_483_647 {
+        return Err(AllocError);
+    }
+    for number in 0..types.len() {
+        let bound = types[number];
+        grow_variable(tables, arena, aside, parent, number as u32, bound)?;
+    }
+    Ok(())
+}
+
+/// Adds all partial terms that grow from one by a number more.
+pub fn grow(
+    tables: &Tables,
+    arena: &mut Arena,
+    aside: &mut Vec<(u32, Item)>,
+    parent: Parent,
+) -> Result<(), AllocError>
+    requires parent { IsParent tables.now arena.old parent }
+    requires aside { AreHeld tables.now arena.old aside.old.items }
+    requires turns { All (IsAnyMove tables.now parent.spot) (moves_at tables.now parent.spot.state) }
+    ensures grew { OnOk result (Grew tables.now arena.old arena.new (front_of arena.old parent.front) (numbers_at tables.now parent.spot) aside.old.items aside.new.items) }
+    ensures grown { AreGrown arena.old arena.new }
+{
+    grow_variables(tables, arena, aside, parent)?;
+    grow_moves(tables, arena, aside, parent)
+}
