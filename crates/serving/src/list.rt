@@ -7,7 +7,7 @@ ghost use Rattle.terms.specs.Listing.{IsWhole};
 
 use listing::{Item, Listing};
 use outside::{Gathering, Sink, WriteFault};
-use plain_listing::Plain;
+use reconstruction::Rebuild;
 use std::alloc::{AllocError, Global};
 use terms::{Env, Levels};
 
@@ -91,7 +91,7 @@ pub fn write_list<K: Sink>(alloc: Global, env: Env, sink: &mut K) -> Result<(), 
     ensures later { K.faults sink.old ≤ K.faults sink.new }
     ensures cause { IsErrOf result WriteFault.Failed → Rose (K.faults sink.old) (K.faults sink.new) }
 {
-    let mut listing: Listing<Plain> = Listing::new(alloc, env)?;
+    let mut listing: Listing<Rebuild> = Listing::new(alloc, env)?;
     let mut gathering = Gathering::new(alloc);
     put_pages(alloc, &mut listing, &mut gathering, sink)?;
     gathering.flush(sink)?;

@@ -67,7 +67,7 @@ const CALLS: &str = "type int\ndecl 5 int name x\ndecl 20 int call f int\ngoal i
 // Sheets without their first line, and what is written for them.
 #[test]
 fn sheets_are_listed(rt: HostRuntime) -> Result<(), AllocError> {
-    let table: [(&str, &str); 7] = [
+    let table: [(&str, &str); 9] = [
         ("type int\ntype A\ndecl 5 int name x\ngoal A", ""),
         (
             "type int\ndecl 5 int name b\ndecl 5 int name a\ngoal int",
@@ -89,6 +89,14 @@ fn sheets_are_listed(rt: HostRuntime) -> Result<(), AllocError> {
         (
             "type int\ntype P\ndecl 5 P this\ndecl 20 int field k P\ndecl 20 int hidden-field j P\ngoal int",
             "25 k\n25 this.j\n",
+        ),
+        (
+            "type int\ndecl 5 int name x\ndecl 20 int call f int\ndecl 20 int call g int int\ngoal int\nlimit 50",
+            "5 x\n25 f(x)\n30 g(x, x)\n45 f(f(x))\n50 f(g(x, x))\n50 g(f(x), x)\n50 g(x, f(x))\n",
+        ),
+        (
+            "type int\ntype A\ntype D\ndecl 5 int name x\ndecl 5 A name a\ndecl 5 A call p A A\ndecl 5 int call f int A D\ngoal int\nlimit 1000",
+            "5 x\n",
         ),
     ];
     for (sheet, wanted) in table {
