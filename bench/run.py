@@ -1,0 +1,77 @@
+#!/usr/bin/env python3
+"""Times `insynthd list` on generated sheets and prints a table: run.py [ROUNDS].
+
+The program is first called by its script, which builds it where it isn't built; then it is timed itself. The time of reading is that of the same sheet with a goal that no declaration makes: it is read, checked
+and found to have no term. The first line is counted from the start to the first byte that comes out. Each number is the least of the
+rounds (3 unless given); the high-water is of resident memory. Growth is the whole time by that of the
+next smaller size of its case.
+"""
+import os
+import subprocess
+import sys
+import tempfile
+import time
+
+import generate
+
+ROWS = [("classes", 1000), ("classes", 10000), ("classes", 50000), ("dead", 1000), ("dead", 10000), ("lambdas", 2000), ("deep", 30), ("deep", 300)]
+
+TOP = os.path.join(os.path.dirname(os.path.abspath(__file__)), "..")
+PROGRAM = os.path.join(TOP, "crates", "insynthd", "out", "insynthd")
+
+
+def one_run(path):
+    """First byte, whole time in seconds, lines, and high-water in KiB."""
+    with open(path, "rb") as source:
+        start = time.perf_counter()
+        child = subprocess.Popen([PROGRAM, "list"], stdin=source, stdout=subprocess.PIPE)
+    first, lines = None, 0
+    while piece := os.read(child.stdout.fileno(), 1 << 20):
+        first = first or time.perf_counter() - start
+        lines += piece.count(b"\n")
+    _, status, usage = os.wait4(child.pid, 0)
+    whole = time.perf_counter() - start
+    if status != 0:
+        sys.exit("insynthd ended with %d" % os.waitstatus_to_exitcode(status))
+    return first, whole, lines, usage.ru_maxrss
+
+
+def without_terms(text):
+    """The sheet with a goal that no declaration makes."""
+    lines = [line for line in text.splitlines() if not line.startswith("goal ")]
+    return "\n".join(lines + ["type Unmade", "goal Unmade"]) + "\n"
+
+
+def best(path, rounds):
+    runs = [one_run(path) for _ in range(rounds)]
+    firsts = [run[0] for run in runs if run[0] is not None]
+    return min(firsts, default=None), min(run[1] for run in runs), runs[0][2], max(run[3] for run in runs)
+
+
+def measured(case, size, rounds, folder):
+    text = generate.sheet(case, size)
+    path = os.path.join(folder, "sheet")
+    with open(path, "w") as sheet:
+        sheet.write(without_terms(text))
+    reading = best(path, rounds)[1]
+    with open(path, "w") as sheet:
+        sheet.write(text)
+    return (reading,) + best(path, rounds)
+
+
+def main():
+    rounds = int(sys.argv[1]) if len(sys.argv) > 1 else 3
+    subprocess.run([os.path.join(TOP, "insynthd"), "list"], stdin=open(os.path.join(TOP, "examples", "first.sheet")), stdout=subprocess.DEVNULL, check=True)
+    print("| case | size | lines | reading s | first line s | whole s | growth | memory MiB |")
+    print("|---|---|---|---|---|---|---|---|")
+    before = {}
+    with tempfile.TemporaryDirectory() as folder:
+        for case, size in ROWS:
+            reading, first, whole, lines, memory = measured(case, size, rounds, folder)
+            growth = "%.1f" % (whole / before[case]) if case in before else ""
+            before[case] = whole
+            print("| %s | %d | %d | %.3f | %.3f | %.3f | %s | %.1f |" % (case, size, lines, reading, first or whole, whole, growth, memory / 1024), flush=True)
+
+
+if __name__ == "__main__":
+    main()
