@@ -1,5 +1,6 @@
 pub mod Bounds
 pub mod Dots
+pub mod Greatest
 pub mod Lists
 pub mod Nested
 pub mod Rows

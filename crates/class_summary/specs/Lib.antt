@@ -5,3 +5,4 @@ pub mod Sources
 pub mod Variables
 pub mod Outwards
 pub mod Names
+pub mod SourceSummaries

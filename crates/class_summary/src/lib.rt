@@ -10,6 +10,7 @@ mod naming;
 mod paths;
 mod rules;
 mod shape;
+mod source;
 mod summary;
 mod variables;
 
@@ -17,6 +18,7 @@ pub use classes::Classes;
 pub use naming::resolve_name;
 pub use paths::{canonical_name, internal_name};
 pub use shape::from_shape;
+pub use source::from_unit;
 pub use summary::{ClassSummary, FieldSummary, MethodSummary, Nesting};
 
 #[cfg(test)]

@@ -1,0 +1,134 @@
+-- What is kept of a class that a source text declares (JLS 8, 9).
+use Rattle.std.specs.Prelude.{◌≡◌, ℕ, zero, suc, ◌+◌, ◌==◌, max, if◌then◌else◌, Bool, true, false, List, [], ◌∷◌, ◌++◌, length, map, drop, slice_get, codes, Option, Some, None, unwrap_or}
+use Rattle.std.specs.List.{filter_map}
+use Rattle.type_names.specs.declared.kinds.Base.{Base}
+use Rattle.type_names.specs.declared.kinds.Base.TheVariants.{Byte, Char, Double, Float, Int, Long, Short, Boolean, Class}
+use Rattle.type_names.specs.declared.kinds.Erased.{Erased}
+use Rattle.java_units.specs.declared.types.TypeText.{TypeText}
+use Rattle.java_units.specs.declared.types.Param.{Param}
+use Rattle.java_units.specs.declared.types.SourceField.{SourceField}
+use Rattle.java_units.specs.declared.types.SourceMethod.{SourceMethod}
+use Rattle.java_units.specs.declared.types.SourceClass.{SourceClass}
+use Rattle.java_units.specs.declared.types.ClassKind.{ClassKind}
+use Rattle.java_units.specs.declared.types.ClassKind.TheVariants.{ClassDecl, InterfaceDecl, EnumDecl, RecordDecl, AnnotationDecl}
+use Rattle.java_units.specs.declared.types.Unit as unit
+use Rattle.class_summary.specs.Sources.{internal_name}
+use Rattle.class_summary.specs.Names.{denoted_type}
+use Rattle.class_summary.specs.declared.summary.FieldSummary.{FieldSummary}
+use Rattle.class_summary.specs.declared.summary.MethodSummary.{MethodSummary}
+use Rattle.class_summary.specs.declared.summary.Nesting.{Nesting}
+use Rattle.class_summary.specs.declared.summary.ClassSummary.{ClassSummary}
+
+-- The class that a base is, if it is one.
+abbrev pub class_in : Base → Option (List ℕ)
+class_in Byte = None
+class_in Char = None
+class_in Double = None
+class_in Float = None
+class_in Int = None
+class_in Long = None
+class_in Short = None
+class_in Boolean = None
+class_in (Class name) = Some name
+
+-- The class that an erased type is: none for a primitive and for an array.
+abbrev pub class_of : Erased → Option (List ℕ)
+class_of e = if e.dims == 0 then class_in e.base else None
+
+-- The class that a super denotes at the class number i.
+unfoldable pub super_of : unit.Unit → ℕ → List ClassSummary → TypeText → Option (List ℕ)
+super_of u i known type = class_of (denoted_type u i None type known)
+
+-- The first super of a class that names no superclass.
+abbrev pub parent_of : ClassKind → List ℕ
+parent_of ClassDecl = codes "java/lang/Object"
+parent_of InterfaceDecl = codes "java/lang/Object"
+parent_of EnumDecl = codes "java/lang/Enum"
+parent_of RecordDecl = codes "java/lang/Record"
+parent_of AnnotationDecl = codes "java/lang/Object"
+
+-- What follows the interfaces.
+abbrev pub last_supers : ClassKind → List (List ℕ)
+last_supers ClassDecl = []
+last_supers InterfaceDecl = []
+last_supers EnumDecl = []
+last_supers RecordDecl = []
+last_supers AnnotationDecl = codes "java/lang/annotation/Annotation" ∷ []
+
+abbrev pub named_parent : unit.Unit → ℕ → List ClassSummary → Option TypeText → Option (List ℕ)
+named_parent u i known None = None
+named_parent u i known (Some type) = super_of u i known type
+
+-- The superclass that a class names, where that is a class; else the one of its kind.
+unfoldable pub first_super : unit.Unit → ℕ → List ClassSummary → SourceClass → List ℕ
+first_super u i known c =
+    if c.names_parent then unwrap_or (named_parent u i known (slice_get c.supers 0)) (parent_of c.kind) else parent_of c.kind
+
+-- The interfaces that a class names.
+abbrev pub interfaces : SourceClass → List TypeText
+interfaces c = if c.names_parent then drop 1 c.supers else c.supers
+
+-- The supers: the superclass, then each interface that is a class, then what the kind adds.
+unfoldable pub supers_of : unit.Unit → ℕ → List ClassSummary → SourceClass → List (List ℕ)
+supers_of u i known c = first_super u i known c ∷ (filter_map (super_of u i known) (interfaces c) ++ last_supers c.kind)
+
+-- A field, with the type that its text denotes.
+unfoldable pub field_of : unit.Unit → ℕ → List ClassSummary → SourceField → FieldSummary
+field_of u i known f = record { name = f.name; flags = f.flags; kind = denoted_type u i None f.kind known }
+
+-- The type of a parameter of the method number m.
+unfoldable pub param_of : unit.Unit → ℕ → ℕ → List ClassSummary → Param → Erased
+param_of u i m known p = denoted_type u i (Some m) p.kind known
+
+abbrev pub result_of : unit.Unit → ℕ → ℕ → List ClassSummary → Option TypeText → Option Erased
+result_of u i m known None = None
+result_of u i m known (Some type) = Some (denoted_type u i (Some m) type known)
+
+-- The method number m, with the types that its texts denote.
+unfoldable pub method_of : unit.Unit → ℕ → List ClassSummary → ℕ → SourceMethod → MethodSummary
+method_of u i known m s = record { name = s.name; flags = s.flags; params = map (param_of u i m known) s.params; result = result_of u i m known s.result }
+
+-- The methods, numbered from m on.
+unfoldable pub methods_from : unit.Unit → ℕ → List ClassSummary → ℕ → List SourceMethod → List MethodSummary
+methods_from u i known m [] = []
+methods_from u i known m (s ∷ ss) = method_of u i known m s ∷ methods_from u i known (suc m) ss
+
+-- How a class stands in the class around it; a top-level class has no nesting.
+abbrev pub nesting_of : unit.Unit → SourceClass → Option ℕ → Option Nesting
+nesting_of u c None = None
+nesting_of u c (Some o) = Some (record { outer = Some (internal_name u o); simple = Some c.name; flags = c.flags })
+
+-- The summary of the class number i of a text: its internal name, flags and nesting, its supers, and all of its
+-- fields and methods, the private ones too.
+abbrev pub summary_at : unit.Unit → ℕ → List ClassSummary → SourceClass → ClassSummary
+summary_at u i known c = record {
+  name = internal_name u i;
+  flags = c.flags;
+  nesting = nesting_of u c c.outer;
+  supers = supers_of u i known c;
+  fields = map (field_of u i known) c.fields;
+  methods = methods_from u i known 0 c.methods;
+}
+
+-- The greatest of these numbers.
+abbrev pub greatest : {A : Type 0} → (A → ℕ) → List A → ℕ
+greatest f [] = 0
+greatest f (x ∷ xs) = max (f x) (greatest f xs)
+
+abbrev pub result_dims : Option TypeText → ℕ
+result_dims None = 0
+result_dims (Some t) = t.dims
+
+abbrev pub params_dims : List Param → ℕ
+params_dims ps = greatest (λ p. p.kind.dims) ps
+
+abbrev pub method_dims : SourceMethod → ℕ
+method_dims m = max (params_dims m.params) (result_dims m.result)
+
+-- The greatest dimensions of a type that a class names.
+abbrev pub type_dims : SourceClass → ℕ
+type_dims c = max (greatest (λ t. t.dims) c.supers) (max (greatest (λ f. f.kind.dims) c.fields) (greatest method_dims c.methods))
+
+-- This is the summary of the class number i.
+abbrev pub IsSourceSummary : unit.Unit → ℕ → List ClassSummary → ClassSummary → Type 0
+IsSourceSummary u i known summary = (c : SourceClass) → slice_get u.classes i ≡ Some c → summary ≡ summary_at u i known c
