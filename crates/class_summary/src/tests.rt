@@ -1,16 +1,9 @@
-ghost use Rattle.std.specs.Prelude.{◌≡◌, [], length, IfOk};
-ghost use Rattle.class_summary.specs.SourceSummaries.{greatest, method_dims, type_dims};
-ghost use Rattle.class_summary.specs.Variables.{IsNested, class_dims, dims_of_bounds};
-
-use crate::{
-    ClassSummary, Classes, canonical_name, from_shape, from_unit, internal_name, resolve_name,
-};
+use crate::{ClassSummary, canonical_name, from_shape, internal_name};
 use class_shape::{ClassShape, InnerRow, MemberShape, read_class};
-use java_units::{ClassKind, SourceClass, SourceField, SourceMethod, TypeText, Unit};
+use java_units::{ClassKind, SourceClass, Unit};
 use lists::{Copies, Items, Text};
 use std::alloc::{AllocError, Global};
 use std::test::Fail;
-use type_names::{Base, Erased};
 
 /// A class file of a class `A` below `java/lang/Object`, without members.
 const A: [u8; 53] = [
@@ -143,46 +136,8 @@ fn a_class_file_is_summed_up_and_copied(rt: HostRuntime) -> Result<(), Fail> {
     Ok(())
 }
 
-/// No class is known.
-struct NoClasses;
-
-impl Classes for NoClasses {
-    ghost use Rattle.std.specs.Prelude.{[]};
-
-    ghost listed = { λ _. [] };
-
-    fn count(&self) -> usize {
-        0
-    }
-
-    fn at(&self, _place: usize) -> &ClassSummary {
-        unreachable!()
-    }
-
-    #[tactic(auto, unfolding(crate::specs::Known::class_named))]
-    fn find(&self, _name: &str) -> Option<usize> {
-        None
-    }
-
-    #[tactic(auto, unfolding(crate::specs::Known::class_called))]
-    fn by_canonical(&self, _dotted: &str) -> Option<usize> {
-        None
-    }
-}
-
-fn knows<C: Classes>(known: &C, name: &str) -> bool {
-    known.count() != 0 || known.find(name).is_some() || known.by_canonical(name).is_some()
-}
-
-#[test]
-fn an_empty_list_knows_no_class(rt: HostRuntime) {
-    assert!(rt; !knows(&NoClasses, "A"));
-}
-
 /// A class of a text, without variables and members.
-fn source_class(alloc: Global, name: &str, outer: Option<u32>) -> Result<SourceClass, AllocError>
-    ensures { IfOk result (λ c. (c.outer ≡ outer) × (c.vars ≡ []) × (c.methods ≡ [])) }
-{
+fn source_class(alloc: Global, name: &str, outer: Option<u32>) -> Result<SourceClass, AllocError> {
     Ok(SourceClass {
         name: Text::from_str(alloc, name)?,
         outer,
@@ -194,49 +149,6 @@ fn source_class(alloc: Global, name: &str, outer: Option<u32>) -> Result<SourceC
         fields: Items::new(alloc),
         methods: Items::new(alloc),
     })
-}
-
-/// A text with the one class `A`, in no package.
-fn unit_of_a(alloc: Global) -> Result<Unit, AllocError>
-    ensures nested { IfOk result (λ u. IsNested u.classes) }
-    ensures count { IfOk result (λ u. length u.classes ≡ 1) }
-    ensures dims { IfOk result (λ u. dims_of_bounds u.classes ≡ 0) }
-{
-    let class = source_class(alloc, "A", None)?;
-    let mut classes = Items::new(alloc);
-    classes.push(class)?;
-    Ok(Unit {
-        package: Items::new(alloc),
-        imports: Items::new(alloc),
-        classes,
-    })
-}
-
-/// `NAME[]`.
-fn array_of(alloc: Global, name: &str) -> Result<TypeText, AllocError>
-    ensures { IfOk result (λ t. t.dims ≡ 1) }
-{
-    let mut parts = Items::new(alloc);
-    parts.push(Text::from_str(alloc, name)?)?;
-    Ok(TypeText { parts, dims: 1 })
-}
-
-fn is_class(kind: &Erased, dims: u64, name: &str) -> bool {
-    match &kind.base {
-        Base::Class(own) => own.as_str() == name && kind.dims == dims,
-        _ => false,
-    }
-}
-
-#[test]
-fn a_name_denotes_a_class_of_the_text_or_of_java_lang(rt: HostRuntime) -> Result<(), Fail> {
-    let unit = unit_of_a(rt.alloc())?;
-    for (name, class) in [("String", "java/lang/String"), ("A", "A"), ("B", "B")] {
-        let array = array_of(rt.alloc(), name)?;
-        let kind = resolve_name(rt.alloc(), &unit, 0, None, &array, &NoClasses)?;
-        assert!(rt; is_class(&kind, 1, class));
-    }
-    Ok(())
 }
 
 #[test]
@@ -255,112 +167,5 @@ fn a_nested_class_has_an_internal_and_a_canonical_name(rt: HostRuntime) -> Resul
     };
     assert_eq!(rt; internal_name(rt.alloc(), &unit, 1)?.as_str(), "p/q/A$B");
     assert_eq!(rt; canonical_name(rt.alloc(), &unit, 1)?.as_str(), "p.q.A.B");
-    Ok(())
-}
-
-/// `int f;`
-fn field_of_int(alloc: Global) -> Result<SourceField, AllocError>
-    ensures { IfOk result (λ f. f.kind.dims ≡ 0) }
-{
-    let mut parts = Items::new(alloc);
-    parts.push(Text::from_str(alloc, "int")?)?;
-    Ok(SourceField {
-        name: Text::from_str(alloc, "f")?,
-        flags: 2,
-        kind: TypeText { parts, dims: 0 },
-    })
-}
-
-/// A constructor without parameters.
-fn constructor(alloc: Global) -> Result<SourceMethod, AllocError>
-    ensures dims { IfOk result (λ m. method_dims m ≡ 0) }
-    ensures vars { IfOk result (λ m. m.vars ≡ []) }
-{
-    Ok(SourceMethod {
-        name: Text::from_str(alloc, "<init>")?,
-        flags: 1,
-        vars: Items::new(alloc),
-        params: Items::new(alloc),
-        result: None,
-        body: None,
-    })
-}
-
-/// A class `A` of this kind, with a private field and a constructor.
-fn class_of_kind(alloc: Global, kind: ClassKind) -> Result<SourceClass, AllocError>
-    ensures outer { IfOk result (λ c. c.outer ≡ None) }
-    ensures bounds { IfOk result (λ c. class_dims c ≡ 0) }
-    ensures types { IfOk result (λ c. type_dims c ≡ 0) }
-{
-    let mut fields = Items::new(alloc);
-    fields.push(field_of_int(alloc)?)?;
-    let mut methods = Items::new(alloc);
-    methods.push(constructor(alloc)?)?;
-    Ok(SourceClass {
-        name: Text::from_str(alloc, "A")?,
-        outer: None,
-        kind,
-        flags: 1,
-        vars: Items::new(alloc),
-        supers: Items::new(alloc),
-        names_parent: false,
-        fields,
-        methods,
-    })
-}
-
-/// A text with this one class, in no package.
-fn unit_of(alloc: Global, class: SourceClass) -> Result<Unit, AllocError>
-    requires outer { class.outer ≡ None }
-    requires bounds { class_dims class ≡ 0 }
-    requires types { type_dims class ≡ 0 }
-    ensures nested { IfOk result (λ u. IsNested u.classes) }
-    ensures count { IfOk result (λ u. length u.classes ≡ 1) }
-    ensures bounds { IfOk result (λ u. dims_of_bounds u.classes ≡ 0) }
-    ensures types { IfOk result (λ u. greatest type_dims u.classes ≡ 0) }
-{
-    let mut classes = Items::new(alloc);
-    classes.push(class)?;
-    Ok(Unit {
-        package: Items::new(alloc),
-        imports: Items::new(alloc),
-        classes,
-    })
-}
-
-fn has_super(summary: &ClassSummary, place: usize, name: &str) -> bool {
-    match summary.supers.get(place) {
-        Some(own) => own.as_str() == name,
-        None => false,
-    }
-}
-
-fn is_of_text(summary: &ClassSummary, first: &str, supers: usize) -> bool {
-    if summary.name.as_str() != "A" || summary.nesting.is_some() || summary.flags != 1 {
-        return false;
-    }
-    if summary.fields.len() != 1 || summary.methods.len() != 1 || summary.supers.len() != supers {
-        return false;
-    }
-    has_super(summary, 0, first)
-}
-
-/// Kinds of classes, the first super of each, and the number of supers.
-const KINDS: [(ClassKind, &str, usize); 5] = [
-    (ClassKind::ClassDecl, "java/lang/Object", 1),
-    (ClassKind::InterfaceDecl, "java/lang/Object", 1),
-    (ClassKind::EnumDecl, "java/lang/Enum", 1),
-    (ClassKind::RecordDecl, "java/lang/Record", 1),
-    (ClassKind::AnnotationDecl, "java/lang/Object", 2),
-];
-
-#[test]
-fn a_class_of_a_text_is_summed_up(rt: HostRuntime) -> Result<(), Fail> {
-    for (kind, first, supers) in KINDS {
-        let class = class_of_kind(rt.alloc(), kind)?;
-        let unit = unit_of(rt.alloc(), class)?;
-        let summary = from_unit(rt.alloc(), &unit, 0, &NoClasses)?;
-        assert!(rt; is_of_text(&summary, first, supers));
-    }
     Ok(())
 }

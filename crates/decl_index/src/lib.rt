@@ -14,4 +14,6 @@ pub use change::{Change, ChangeFault};
 pub use index::Index;
 
 #[cfg(test)]
+mod names_tests;
+#[cfg(test)]
 mod tests;

@@ -1,35 +1,10 @@
 use crate::Subtypes;
-use class_summary::{ClassSummary, Classes};
-use std::alloc::Global;
+use class_summary::ClassSummary;
+use decl_index::{Change, ChangeFault, Index};
+use lists::{Items, Text};
+use std::alloc::{AllocError, Global};
 use std::test::Fail;
 use type_names::read_field;
-
-/// No class is known.
-struct NoClasses;
-
-impl Classes for NoClasses {
-    ghost use Rattle.std.specs.Prelude.{[]};
-
-    ghost listed = { λ _. [] };
-
-    fn count(&self) -> usize {
-        0
-    }
-
-    fn at(&self, _place: usize) -> &ClassSummary {
-        unreachable!()
-    }
-
-    #[tactic(auto, unfolding(class_summary::specs::Known::class_named))]
-    fn find(&self, _name: &str) -> Option<usize> {
-        None
-    }
-
-    #[tactic(auto, unfolding(class_summary::specs::Known::class_called))]
-    fn by_canonical(&self, _dotted: &str) -> Option<usize> {
-        None
-    }
-}
 
 /// The primitive types, and for each those to which it widens (JLS 5.1.2).
 const WIDENINGS: [(&str, &str); 8] = [
@@ -76,7 +51,8 @@ fn holds(alloc: Global, subtypes: &Subtypes, a: &str, b: &str) -> Result<bool, F
 
 #[test]
 fn primitives_widen_by_the_table(rt: HostRuntime) -> Result<(), Fail> {
-    let subtypes = Subtypes::new(rt.alloc(), &NoClasses)?;
+    let known = Index::empty(rt.alloc())?;
+    let subtypes = Subtypes::new(rt.alloc(), &known)?;
     for (from, wider) in WIDENINGS {
         for (to, _) in WIDENINGS {
             let widens = holds(rt.alloc(), &subtypes, from, to)?;
@@ -88,8 +64,67 @@ fn primitives_widen_by_the_table(rt: HostRuntime) -> Result<(), Fail> {
 
 #[test]
 fn unknown_classes_and_arrays_have_their_steps(rt: HostRuntime) -> Result<(), Fail> {
-    let subtypes = Subtypes::new(rt.alloc(), &NoClasses)?;
+    let known = Index::empty(rt.alloc())?;
+    let subtypes = Subtypes::new(rt.alloc(), &known)?;
     for (a, b, is_sub) in WITHOUT_CLASSES {
+        assert_eq!(rt; holds(rt.alloc(), &subtypes, a, b)?, is_sub, "{a} {b}");
+    }
+    Ok(())
+}
+
+/// A class of this name with one super.
+fn class(alloc: Global, name: &str, parent: &str) -> Result<ClassSummary, AllocError> {
+    let mut supers = Items::new(alloc);
+    supers.push(Text::from_str(alloc, parent)?)?;
+    Ok(ClassSummary {
+        name: Text::from_str(alloc, name)?,
+        flags: 1,
+        nesting: None,
+        supers,
+        fields: Items::new(alloc),
+        methods: Items::new(alloc),
+    })
+}
+
+/// The index of `A` below `p/B`, of `p/B` below `q/C`, which isn't known, and of `Cloneable` below `p/B`.
+fn index_of_three(alloc: Global) -> Result<Index, ChangeFault> {
+    let mut puts = Items::new(alloc);
+    puts.push(class(alloc, "A", "p/B")?)?;
+    puts.push(class(alloc, "p/B", "q/C")?)?;
+    puts.push(class(alloc, "java/lang/Cloneable", "p/B")?)?;
+    let change = Change::Publish {
+        puts,
+        removes: Items::new(alloc),
+        counts: Items::new(alloc),
+    };
+    let index = Index::empty(alloc)?;
+    if index.number() == u32::MAX {
+        return Err(ChangeFault::OutOfMemory);
+    }
+    index.apply(alloc, &change)
+}
+
+/// Two descriptors, and whether the first type is a strict subtype of the second among these three classes.
+const WITH_CLASSES: [(&str, &str, bool); 12] = [
+    ("LA;", "Ljava/lang/Object;", true),
+    ("LA;", "Lp/B;", true),
+    ("LA;", "Lq/C;", true),
+    ("LA;", "LA;", false),
+    ("Lp/B;", "LA;", false),
+    ("Lp/B;", "Lq/C;", true),
+    ("Lq/C;", "Lp/B;", false),
+    ("Lq/C;", "Ljava/lang/Object;", true),
+    ("[LA;", "[Lq/C;", true),
+    ("[LA;", "Lq/C;", true),
+    ("[I", "Lp/B;", true),
+    ("Ljava/io/Serializable;", "Lp/B;", false),
+];
+
+#[test]
+fn known_classes_are_below_what_stands_above_them(rt: HostRuntime) -> Result<(), Fail> {
+    let known = index_of_three(rt.alloc()).ok().ok_or("an index")?;
+    let subtypes = Subtypes::new(rt.alloc(), &known)?;
+    for (a, b, is_sub) in WITH_CLASSES {
         assert_eq!(rt; holds(rt.alloc(), &subtypes, a, b)?, is_sub, "{a} {b}");
     }
     Ok(())

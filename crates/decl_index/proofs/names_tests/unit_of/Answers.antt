@@ -1,6 +1,6 @@
 use Rattle.std.proofs.Common.{◌≡◌, [], ◌∷◌, rules}
 use Rattle.class_summary.proofs.Sources.{nested_one}
-use Rattle.class_summary.proofs.tests.unit_of.Goals as goal
+use Rattle.decl_index.proofs.names_tests.unit_of.Goals as goal
 
 pub returns-clause-nested : goal.returns-clause-nested
 returns-clause-nested c =

@@ -1,8 +1,0 @@
-use Rattle.std.proofs.Common.{◌≡◌, [], ◌∷◌, rules}
-use Rattle.class_summary.proofs.Sources.{nested_one}
-use Rattle.class_summary.proofs.tests.unit_of_a.Goals as goal
-
-pub returns-clause-nested : goal.returns-clause-nested
-returns-clause-nested c =
-    let e : c.push.new.self ≡ c.in_ok-class.class ∷ [] = search rules in
-    nested_one c.push.new.self c.in_ok-class.class e c.in_ok-class.ensures.0
