@@ -3,7 +3,7 @@
 
 The program is first called by its script, which builds it where it isn't built; then it is timed itself. The time of reading is that of the same sheet with a goal that no declaration makes: it is read, checked
 and found to have no term. The first line is counted from the start to the first byte that comes out. Each number is the least of the
-rounds (3 unless given); the high-water is of resident memory. Growth is the whole time by that of the
+rounds (3 unless given). The high-water is of resident memory, as it stood when the last piece came out. Growth is the whole time by that of the
 next smaller size of its case.
 """
 import os
@@ -20,20 +20,30 @@ TOP = os.path.join(os.path.dirname(os.path.abspath(__file__)), "..")
 PROGRAM = os.path.join(TOP, "crates", "insynthd", "out", "insynthd")
 
 
+def high_water(pid):
+    """The most resident memory of a process so far in KiB, 0 where it has ended."""
+    try:
+        with open("/proc/%d/status" % pid) as status:
+            return next((int(line.split()[1]) for line in status if line.startswith("VmHWM:")), 0)
+    except OSError:
+        return 0
+
+
 def one_run(path):
     """First byte, whole time in seconds, lines, and high-water in KiB."""
     with open(path, "rb") as source:
         start = time.perf_counter()
         child = subprocess.Popen([PROGRAM, "list"], stdin=source, stdout=subprocess.PIPE)
-    first, lines = None, 0
+    first, lines, memory = None, 0, 0
     while piece := os.read(child.stdout.fileno(), 1 << 20):
         first = first or time.perf_counter() - start
         lines += piece.count(b"\n")
-    _, status, usage = os.wait4(child.pid, 0)
+        memory = max(memory, high_water(child.pid))
+    status = child.wait()
     whole = time.perf_counter() - start
     if status != 0:
-        sys.exit("insynthd ended with %d" % os.waitstatus_to_exitcode(status))
-    return first, whole, lines, usage.ru_maxrss
+        sys.exit("insynthd ended with %d" % status)
+    return first, whole, lines, memory
 
 
 def without_terms(text):
