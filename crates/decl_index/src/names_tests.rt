@@ -2,9 +2,9 @@ ghost use Rattle.std.specs.Prelude.{◌≡◌, [], length, IfOk};
 ghost use Rattle.class_summary.specs.SourceSummaries.{greatest, method_dims, type_dims};
 ghost use Rattle.class_summary.specs.Variables.{IsNested, class_dims, dims_of_bounds};
 
-use crate::Index;
+use crate::{Change, ChangeFault, Index};
 use class_summary::{ClassSummary, from_unit, resolve_name};
-use java_units::{ClassKind, SourceClass, SourceField, SourceMethod, TypeText, Unit};
+use java_units::{ClassKind, Import, SourceClass, SourceField, SourceMethod, TypeText, Unit};
 use lists::{Items, Text};
 use std::alloc::{AllocError, Global};
 use std::test::Fail;
@@ -143,6 +143,125 @@ fn a_name_denotes_a_class_of_the_text_or_of_java_lang(rt: HostRuntime) -> Result
         let array = array_of(rt.alloc(), name)?;
         let kind = resolve_name(rt.alloc(), &unit, 0, None, &array, &known)?;
         assert!(rt; is_class(&kind, 1, class));
+    }
+    Ok(())
+}
+
+/// A list of two parts.
+fn two_parts(alloc: Global, first: &str, last: &str) -> Result<Items<Text>, AllocError> {
+    let mut parts = Items::new(alloc);
+    parts.push(Text::from_str(alloc, first)?)?;
+    parts.push(Text::from_str(alloc, last)?)?;
+    Ok(parts)
+}
+
+fn import_of(alloc: Global, first: &str, last: &str) -> Result<Import, AllocError> {
+    Ok(Import {
+        parts: two_parts(alloc, first, last)?,
+        star: false,
+    })
+}
+
+/// `import a.B; import z.B; import c.*;`
+fn imports(alloc: Global) -> Result<Items<Import>, AllocError> {
+    let mut parts = Items::new(alloc);
+    parts.push(Text::from_str(alloc, "c")?)?;
+    let mut imports = Items::new(alloc);
+    imports.push(import_of(alloc, "a", "B")?)?;
+    imports.push(import_of(alloc, "z", "B")?)?;
+    imports.push(Import { parts, star: true })?;
+    Ok(imports)
+}
+
+/// A text of package `p` with these imports and this one class.
+fn unit_in_package(alloc: Global, class: SourceClass) -> Result<Unit, AllocError>
+    requires outer { class.outer ≡ None }
+    requires bounds { class_dims class ≡ 0 }
+    ensures nested { IfOk result (λ u. IsNested u.classes) }
+    ensures count { IfOk result (λ u. length u.classes ≡ 1) }
+    ensures bounds { IfOk result (λ u. dims_of_bounds u.classes ≡ 0) }
+{
+    let mut package = Items::new(alloc);
+    package.push(Text::from_str(alloc, "p")?)?;
+    let imports = imports(alloc)?;
+    let mut classes = Items::new(alloc);
+    classes.push(class)?;
+    Ok(Unit {
+        package,
+        imports,
+        classes,
+    })
+}
+
+/// A class of this name alone.
+fn known_class(alloc: Global, name: &str) -> Result<ClassSummary, AllocError> {
+    Ok(ClassSummary {
+        name: Text::from_str(alloc, name)?,
+        flags: 1,
+        nesting: None,
+        supers: Items::new(alloc),
+        fields: Items::new(alloc),
+        methods: Items::new(alloc),
+    })
+}
+
+const KNOWN: [&str; 6] = ["a/B", "c/K", "c/S", "java/lang/Math", "p/K", "z/B"];
+
+/// The index of these classes.
+fn known_classes(alloc: Global) -> Result<Index, ChangeFault> {
+    let mut puts = Items::new(alloc);
+    for name in KNOWN {
+        puts.push(known_class(alloc, name)?)?;
+    }
+    let change = Change::Publish {
+        puts,
+        removes: Items::new(alloc),
+        counts: Items::new(alloc),
+    };
+    let index = Index::empty(alloc)?;
+    if index.number() == u32::MAX {
+        return Err(ChangeFault::OutOfMemory);
+    }
+    index.apply(alloc, &change)
+}
+
+/// Names at the class `A` of package `p`, and the classes that they denote.
+const NAMES: [(&str, &str); 7] = [
+    ("A", "p/A"),
+    ("B", "a/B"),
+    ("K", "p/K"),
+    ("S", "c/S"),
+    ("Math", "java/lang/Math"),
+    ("String", "java/lang/String"),
+    ("X", "p/X"),
+];
+
+#[test]
+fn a_name_denotes_a_class_rule_by_rule(rt: HostRuntime) -> Result<(), Fail> {
+    let known = known_classes(rt.alloc()).ok().ok_or("an index")?;
+    let class = class_of_kind(rt.alloc(), ClassKind::ClassDecl)?;
+    let unit = unit_in_package(rt.alloc(), class)?;
+    for (name, class) in NAMES {
+        let array = array_of(rt.alloc(), name)?;
+        let kind = resolve_name(rt.alloc(), &unit, 0, None, &array, &known)?;
+        assert!(rt; is_class(&kind, 1, class), "{name}");
+    }
+    Ok(())
+}
+
+/// Dotted names there, and the classes that they denote.
+const DOTTED: [(&str, &str, &str); 3] = [("c", "S", "c/S"), ("A", "N", "p/A$N"), ("q", "Y", "q/Y")];
+
+#[test]
+fn a_dotted_name_goes_on_from_its_first_part(rt: HostRuntime) -> Result<(), Fail> {
+    let known = known_classes(rt.alloc()).ok().ok_or("an index")?;
+    let class = class_of_kind(rt.alloc(), ClassKind::ClassDecl)?;
+    let unit = unit_in_package(rt.alloc(), class)?;
+    for (first, last, class) in DOTTED {
+        let parts = two_parts(rt.alloc(), first, last)?;
+        let name = TypeText { parts, dims: 0 };
+        let kind = resolve_name(rt.alloc(), &unit, 0, None, &name, &known)?;
+        assert!(rt; is_class(&kind, 0, class), "{first} {last}");
     }
     Ok(())
 }
