@@ -3,3 +3,4 @@ pub mod Lists
 pub mod Headers
 pub mod Bodies
 pub mod BlockLaws
+pub mod UnitLaws

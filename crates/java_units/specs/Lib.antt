@@ -6,3 +6,4 @@ pub mod Values
 pub mod Members
 pub mod Units
 pub mod Blocks
+pub mod UnitLaws

@@ -4,6 +4,7 @@ ghost use Rattle.java_tokens.specs.Tokens.{AreTokensOf};
 ghost use Rattle.java_units.specs.Signs.{seen, seens, signs_of};
 ghost use Rattle.java_units.specs.Pieces.{pieces, form_of};
 ghost use Rattle.java_units.specs.Units.{is_class, packages, imports, package_of, import_of, import_in, AreClasses, IsUnit};
+ghost use Rattle.java_units.specs.UnitLaws.{IsNested, IsOnlyUnit};
 
 use crate::class::{Around, class_of, members_of};
 use crate::lexemes::{Lexeme, front, tail};
@@ -168,7 +169,9 @@ fn imports_of(alloc: Global, places: &[&[Lexeme<'_>]]) -> Result<Items<Import>, 
 /// nothing. It takes time linear in the text, whatever is nested in it.
 pub fn read_unit(alloc: Global, text: &str, tokens: &[Token]) -> Result<Unit, AllocError>
     requires { AreTokensOf text.now tokens.now }
-    ensures { IfOk result (λ unit. IsUnit text.now tokens.now unit) }
+    ensures exact { IfOk result (λ unit. IsUnit text.now tokens.now unit) }
+    ensures only { IfOk result (λ unit. IsOnlyUnit text.now tokens.now unit) }
+    ensures outers { IfOk result (λ unit. IsNested unit.classes) }
 {
     let all = lexemes(alloc, text, tokens)?;
     let signs = all.as_slice();
