@@ -4,3 +4,7 @@ pub mod Headers
 pub mod Bodies
 pub mod BlockLaws
 pub mod UnitLaws
+pub mod Dimensions
+pub mod ClassTypes
+pub mod Bounds
+pub mod FewDims

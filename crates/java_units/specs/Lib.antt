@@ -7,3 +7,4 @@ pub mod Members
 pub mod Units
 pub mod Blocks
 pub mod UnitLaws
+pub mod Dimensions

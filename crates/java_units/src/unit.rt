@@ -5,6 +5,7 @@ ghost use Rattle.java_units.specs.Signs.{seen, seens, signs_of};
 ghost use Rattle.java_units.specs.Pieces.{pieces, form_of};
 ghost use Rattle.java_units.specs.Units.{is_class, packages, imports, package_of, import_of, import_in, AreClasses, IsUnit};
 ghost use Rattle.java_units.specs.UnitLaws.{IsNested, IsOnlyUnit};
+ghost use Rattle.java_units.specs.Dimensions.{HasFewDims};
 
 use crate::class::{Around, class_of, members_of};
 use crate::lexemes::{Lexeme, front, tail};
@@ -172,6 +173,7 @@ pub fn read_unit(alloc: Global, text: &str, tokens: &[Token]) -> Result<Unit, Al
     ensures exact { IfOk result (λ unit. IsUnit text.now tokens.now unit) }
     ensures only { IfOk result (λ unit. IsOnlyUnit text.now tokens.now unit) }
     ensures outers { IfOk result (λ unit. IsNested unit.classes) }
+    ensures dims { IfOk result (λ unit. HasFewDims tokens.now unit.classes) }
 {
     let all = lexemes(alloc, text, tokens)?;
     let signs = all.as_slice();

@@ -1,0 +1,36 @@
+-- The types of a unit have few dimensions.
+use Rattle.std.proofs.Common.{◌≡◌, ◌≤◌, ◌∙◌, ℕ, zero, suc, ◌+◌, ◌*◌, Bool, true, false, if◌then◌else◌, List, [], ◌∷◌, length, refl, sym, ap, subst, arith, Option, Some, None}
+use Rattle.java_tokens.specs.declared.token.Token.{Token}
+use Rattle.java_units.specs.declared.types.SourceClass.{SourceClass}
+use Rattle.java_units.specs.declared.types.Unit as unit
+use Rattle.java_units.specs.declared.types.ClassKind.TheVariants.{ClassDecl}
+use Rattle.java_units.specs.Signs.{Sign, is_blank, sign_of, signs_from, with_blocks, signs_of}
+use Rattle.java_units.specs.Units.{IsBody, IsUnit, listed}
+use Rattle.java_units.specs.Dimensions.{greatest, type_dims, dims_of_bounds, HasFewDims}
+use Rattle.java_units.proofs.ClassTypes.{body_few}
+use Rattle.java_units.proofs.Bounds.{body_pays}
+
+signs_or : (b : Bool) (s : Sign) (ss : List Sign) (n : ℕ) → length ss ≤ n → length (if b then ss else s ∷ ss) ≤ suc n
+signs_or true s ss n l = omega (arith, l)
+signs_or false s ss n l = omega (arith, l)
+
+signs_within : (text : List ℕ) (n : ℕ) (ts : List Token) → length (signs_from text n ts) ≤ length ts
+unfolding signs_from
+signs_within text n [] = omega arith
+signs_within text n (t ∷ ts) = signs_or (is_blank t.kind) (sign_of text n t) (signs_from text (n + 1) ts) (length ts) (signs_within text (n + 1) ts)
+
+blocks_length : (ss : List Sign) → length (with_blocks ss) ≡ length ss
+unfolding with_blocks
+blocks_length [] = refl
+blocks_length (s ∷ ss) = ap suc (blocks_length ss)
+
+pub few_dims : (text : List ℕ) (tokens : List Token) (u : unit.Unit) → IsUnit text tokens u → HasFewDims tokens u.classes
+few_dims text tokens u is =
+    let all = is.all_classes in
+    let ss = signs_of text tokens in
+    let l : length ss ≤ length tokens = omega (arith, blocks_length (signs_from text 0 tokens), signs_within text 0 tokens) in
+    let a = body_few all.body (length tokens) 0 (length tokens) None ss l all.is in
+    let b = body_pays all.body (length tokens) 0 None ss ClassDecl [] all.is in
+    let P : List SourceClass → Type 0 = λ cs. greatest type_dims cs + dims_of_bounds cs ≤ 2 * length tokens in
+    let p : P (listed all.body) = omega (arith, a, b, l) in
+    record { few = subst P (sym all.are) p }
