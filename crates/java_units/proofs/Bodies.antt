@@ -1,5 +1,5 @@
 -- The bodies that are still open, the innermost first, and what completes them.
-use Rattle.std.proofs.Common.{◌≡◌, ◌≢◌, ℕ, zero, suc, ◌+◌, true, false, List, [], ◌∷◌, ◌++◌, length, drop, refl, sym, ap, subst, ◌∙◌, append_assoc, append-nil, add-zero, arith, Option, Some, None, ◌==◌}
+use Rattle.std.proofs.Common.{◌≡◌, ◌≢◌, ℕ, suc, ◌+◌, true, false, List, [], ◌∷◌, ◌++◌, length, drop, refl, sym, ap, subst, ◌∙◌, append_assoc, append-nil, add-zero, arith, Option, Some, None, ◌==◌}
 use denote.Ref.{Bor}
 use Rattle.java_units.specs.declared.lexemes.Lexeme.{Lexeme}
 use Rattle.java_units.proofs.Walks.{length-none, seen-nil}
@@ -8,7 +8,6 @@ use Rattle.std.proofs.lemmas.List.{length_push}
 use Rattle.java_units.specs.declared.class.Around.{Around}
 use Rattle.java_units.specs.declared.unit.Frame.{Frame}
 use Rattle.java_units.specs.declared.types.SourceClass.{SourceClass}
-use Rattle.java_units.specs.declared.types.ClassKind.{ClassKind}
 use Rattle.java_units.specs.Signs.{Sign, seen}
 use Rattle.java_units.specs.Pieces.{piece_len}
 use Rattle.java_units.specs.Units.{Body, none, plain, class, IsBody, AreClasses, is_class, class_of, members_of, size, listed}

@@ -1,5 +1,5 @@
 -- The bounds of all type variables of a text, by the signs that spell them.
-use Rattle.std.proofs.Common.{◌≡◌, ◌≢◌, ◌<◌, ◌≤◌, ◌∙◌, ◌==◌, ℕ, zero, suc, ◌+◌, ◌-◌, ◌*◌, min, Bool, true, false, ◌&&◌, ◌||◌, not, if◌then◌else◌, List, [], ◌∷◌, ◌++◌, length, drop, take, map, codes, refl, sym, ap, subst, arith, Option, Some, None}
+use Rattle.std.proofs.Common.{◌≡◌, ◌≢◌, ◌<◌, ◌≤◌, ◌∙◌, ℕ, suc, ◌+◌, ◌-◌, ◌*◌, min, Bool, true, false, ◌&&◌, not, if◌then◌else◌, List, [], ◌∷◌, ◌++◌, length, drop, take, codes, refl, ap, arith, Option, Some}
 use Rattle.std.proofs.lemmas.List.{length-drop, length-take}
 use Rattle.std.specs.List.{flat_map, list_any}
 use Rattle.java_units.specs.declared.access.Modifiers.{Modifiers}
@@ -7,15 +7,14 @@ use Rattle.java_units.specs.declared.class.Around.{Around}
 use Rattle.java_units.specs.declared.pieces.Form.{Form}
 use Rattle.java_units.specs.declared.pieces.Form.TheVariants as form
 use Rattle.java_units.specs.declared.types.SourceMethod.{SourceMethod}
-use Rattle.java_units.specs.declared.types.SourceClass.{SourceClass}
 use Rattle.java_units.specs.declared.types.ClassKind.{ClassKind}
 use Rattle.java_units.specs.declared.types.ClassKind.TheVariants.{ClassDecl, InterfaceDecl, EnumDecl, RecordDecl, AnnotationDecl}
 use Rattle.java_units.specs.Signs.{Sign, is}
 use Rattle.java_units.specs.Forms.{begins, starts, span, lead_len, up_to, deeper}
 use Rattle.java_units.specs.Pieces.{ends, sets, head_len, head, end, end_len, held, bare, pieces, piece_len, fills, package_len, import_len, class_len, is_constructor, is_method, fields_len, form_of, kind_len, named_len}
 use Rattle.java_units.specs.Pieces as pieces_of
-use Rattle.java_units.specs.Values.{first_text, vars_of}
-use Rattle.java_units.specs.Members.{modifiers_of, is_enum, is_plain, nested, method_of, constructor_of, default_constructor, methods_by, methods_in, has_constructor}
+use Rattle.java_units.specs.Values.{first_text}
+use Rattle.java_units.specs.Members.{modifiers_of, is_plain, nested, method_of, constructor_of, default_constructor, methods_by, methods_in, has_constructor}
 use Rattle.java_units.specs.Units.{Body, none, plain, class, IsBody, is_class, declares, kind_of, body_in, members_of, methods_of, kind_in, class_by, class_of, size, listed}
 use Rattle.java_units.specs.Dimensions.{total, over_vars, bound_dims, class_dims, dims_of_bounds}
 use Rattle.java_units.proofs.Walks.{starts-more}
@@ -228,5 +227,19 @@ body_pays (class c inner more) count next around ss kind name is =
     let q = ap (λ x. spelled x (own_name ss) count (pieces (members_of x ss))) k in
     let i = body_pays inner count (suc next) (Some (record { number = next; kind = c.kind })) (members_of c.kind ss) c.kind (own_name ss) is.2 in
     let m = body_pays more count (suc next + size inner) around r kind name is.3 in
-    omega (arith, spelled_next kind name count ss l, class_methods kind name count ss is.0, d, class_pays around count ss, q, i, m,
-    total_append class_dims (listed inner) (listed more), members_within c.kind ss b, bare_within ss, piece_is ss, piece_within ss, length-drop (piece_len ss) ss)
+    omega (
+      arith,
+      spelled_next kind name count ss l,
+      class_methods kind name count ss is.0,
+      d,
+      class_pays around count ss,
+      q,
+      i,
+      m,
+      total_append class_dims (listed inner) (listed more),
+      members_within c.kind ss b,
+      bare_within ss,
+      piece_is ss,
+      piece_within ss,
+      length-drop (piece_len ss) ss,
+    )

@@ -1,8 +1,8 @@
 -- The types that a class names have few dimensions.
-use Rattle.std.proofs.Common.{◌≡◌, ◌≢◌, ◌<◌, ◌≤◌, ◌∙◌, ◌==◌, ℕ, zero, suc, ◌+◌, ◌-◌, ◌*◌, ◌/◌, min, Bool, true, false, ◌&&◌, ◌||◌, not, if◌then◌else◌, List, [], ◌∷◌, ◌++◌, length, drop, take, map, codes, refl, sym, ap, subst, arith, Option, Some, None}
+use Rattle.std.proofs.Common.{◌≤◌, ◌==◌, ℕ, zero, suc, ◌+◌, ◌-◌, Bool, true, false, ◌&&◌, not, if◌then◌else◌, List, [], ◌∷◌, ◌++◌, length, drop, take, map, codes, sym, subst, arith, Option, Some, None}
 use Rattle.std.proofs.lemmas.List.{length-drop, length-take}
 use Rattle.std.specs.List.{flat_map, list_any}
-use Rattle.std.specs.Prelude.{bytes_eq, max}
+use Rattle.std.specs.Prelude.{bytes_eq}
 use Rattle.java_units.specs.declared.access.Modifiers.{Modifiers}
 use Rattle.java_units.specs.declared.class.Around.{Around}
 use Rattle.java_units.specs.declared.entries.Entry.{Entry}
@@ -12,15 +12,13 @@ use Rattle.java_units.specs.declared.pieces.Form.TheVariants as form
 use Rattle.java_units.specs.declared.types.TypeText.{TypeText}
 use Rattle.java_units.specs.declared.types.Param.{Param}
 use Rattle.java_units.specs.declared.types.SourceField.{SourceField}
-use Rattle.java_units.specs.declared.types.SourceMethod.{SourceMethod}
-use Rattle.java_units.specs.declared.types.SourceClass.{SourceClass}
 use Rattle.java_units.specs.declared.types.ClassKind.{ClassKind}
 use Rattle.java_units.specs.declared.types.ClassKind.TheVariants.{ClassDecl, InterfaceDecl, EnumDecl, RecordDecl, AnnotationDecl}
 use Rattle.java_units.specs.Signs.{Sign, is}
-use Rattle.java_units.specs.Forms.{begins, begins_any, starts, span, dims_len, type_len, lead_len, ahead_len, clause_len, next_len, entry_len, entries, up_to}
-use Rattle.java_units.specs.Pieces.{head_len, head, end, held, bare, pieces, piece_len, kind_len, named_len, header_len, result_len, past_vars, form_of}
-use Rattle.java_units.specs.Values.{first_text, type_text, vars_of, typed_param, param_of, kept, params_of, field_of, fields_of, types_of}
-use Rattle.java_units.specs.Members.{modifiers_of, is_interface, is_enum, is_plain, nested, field_flags, result_of, method_of, constructor_of, default_constructor, fields_by, fields_in, methods_by, methods_in, has_constructor}
+use Rattle.java_units.specs.Forms.{begins, begins_any, starts, span, type_len, lead_len, ahead_len, clause_len, next_len, entry_len, entries, up_to}
+use Rattle.java_units.specs.Pieces.{head_len, head, end, held, bare, pieces, piece_len, kind_len, header_len, result_len, past_vars, form_of}
+use Rattle.java_units.specs.Values.{first_text, type_text, typed_param, param_of, kept, params_of, field_of, fields_of, types_of}
+use Rattle.java_units.specs.Members.{modifiers_of, is_plain, nested, field_flags, result_of, method_of, constructor_of, default_constructor, fields_by, fields_in, methods_by, methods_in, has_constructor}
 use Rattle.java_units.specs.Units.{Body, none, plain, class, IsBody, kind_of, parent_of, supers_of, body_in, members_of, methods_of, kind_in, class_by, class_of, size, listed}
 use Rattle.java_units.specs.Dimensions.{greatest, bound_dims, params_dims, method_dims, type_dims}
 use Rattle.java_units.proofs.Dimensions.{Few, plain_few, field_few, param_few}

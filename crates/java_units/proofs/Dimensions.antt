@@ -1,9 +1,6 @@
 -- The dimensions of types, by the signs that spell them.
-use Rattle.std.proofs.Common.{◌≡◌, ◌≢◌, ◌<◌, ◌≤◌, ◌∙◌, ◌==◌, ℕ, zero, suc, ◌+◌, ◌-◌, ◌*◌, ◌/◌, Bool, true, false, ◌&&◌, ◌||◌, not, if◌then◌else◌, List, [], ◌∷◌, ◌++◌, length, drop, take, map, codes, refl, sym, ap, subst, arith, rules, tests, Option, Some, None, length-append}
-use Rattle.std.proofs.lemmas.List.{length-drop, length-take}
-use Rattle.std.specs.List.{flat_map, list_any}
-use Rattle.std.specs.Prelude.{bytes_eq}
-use Rattle.java_units.specs.declared.entries.Entry.{Entry}
+use Rattle.std.proofs.Common.{◌≡◌, ◌≢◌, ◌<◌, ◌≤◌, ◌==◌, ℕ, zero, suc, ◌+◌, ◌-◌, ◌*◌, ◌/◌, Bool, true, false, ◌&&◌, ◌||◌, not, if◌then◌else◌, List, [], ◌∷◌, length, drop, map, codes, refl, sym, subst, arith, rules, tests, Some, None}
+use Rattle.std.proofs.lemmas.List.{length-drop}
 use Rattle.java_units.specs.declared.entries.Entry.TheVariants as entry
 use Rattle.java_units.specs.declared.types.TypeText.{TypeText}
 use Rattle.java_units.specs.declared.types.TypeVar.{TypeVar}
@@ -11,7 +8,7 @@ use Rattle.java_units.specs.Signs.{Sign, is}
 use Rattle.java_units.specs.Forms.{begins, begins_any, begins_name, starts, span, base_len, dim_len, dims_len, dots_len, type_len, wide_len, bound_len, bounds_len, ahead_len, vars_len, var_len, next_len, entry_len, entries_len, entries, more}
 use Rattle.java_units.specs.Forms as forms
 use Rattle.java_units.specs.Values.{type_text, bound_of, var_of, vars_of}
-use Rattle.java_units.specs.Dimensions.{total, greatest, over_vars, bound_dims}
+use Rattle.java_units.specs.Dimensions.{over_vars, bound_dims}
 use Rattle.java_units.proofs.Walks.{span-none, span-more}
 
 if_least : (b : Bool) (m n : ℕ) → m ≤ n → (if b then m else 0) ≤ n

@@ -1,5 +1,5 @@
 -- What the lists of types in the head of a class give, and what the pieces of a text name.
-use Rattle.std.proofs.Common.{◌≡◌, ◌∙◌, ap, sym, ℕ, zero, suc, ◌+◌, ◌<◌, ◌≤◌, slice_index_or, drop, arith, List, [], ◌∷◌, refl, length, add-one, Bool, true, false, codes}
+use Rattle.std.proofs.Common.{◌≡◌, ◌∙◌, ap, sym, ℕ, suc, ◌+◌, ◌<◌, ◌≤◌, slice_index_or, drop, arith, List, [], ◌∷◌, refl, length, add-one, true, false, codes}
 use Rattle.std.proofs.lemmas.List.{drop_all}
 use denote.Ref.{Bor}
 use Rattle.java_units.specs.declared.lexemes.Lexeme.{Lexeme}

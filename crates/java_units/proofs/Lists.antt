@@ -1,5 +1,5 @@
 -- Lists that are read place by place.
-use Rattle.std.proofs.Common.{◌≡◌, ◌∙◌, ap, sym, ℕ, zero, suc, ◌+◌, ◌-◌, ◌<◌, ◌≤◌, slice_index_or, take_all, drop, take, map, arith, List, [], ◌∷◌, ◌++◌, refl, length, append_assoc, append-nil, add-one, Bool, true, false, ◌==◌}
+use Rattle.std.proofs.Common.{◌≡◌, ◌∙◌, ap, sym, ℕ, zero, suc, ◌+◌, ◌<◌, ◌≤◌, slice_index_or, take_all, drop, take, map, arith, List, [], ◌∷◌, ◌++◌, refl, length, append_assoc, append-nil, add-one, Bool, true, false, ◌==◌}
 use denote.Ref.{Bor}
 use Rattle.java_units.specs.declared.lexemes.Lexeme.{Lexeme}
 use Rattle.std.proofs.lemmas.List.{drop_all}

@@ -1,5 +1,5 @@
 -- The unit of a text: there is one alone, and each class stands after the class around it.
-use Rattle.std.proofs.Common.{◌≡◌, ◌≢◌, ◌<◌, ◌∙◌, ℕ, zero, suc, ◌+◌, Bool, true, false, List, [], ◌∷◌, ◌++◌, length, drop, refl, sym, ap, subst, arith, Option, Some, None}
+use Rattle.std.proofs.Common.{◌≡◌, ◌<◌, ◌∙◌, ℕ, zero, suc, ◌+◌, true, false, List, [], ◌∷◌, ◌++◌, length, drop, refl, sym, ap, subst, arith, Option, Some, None}
 use Rattle.std.specs.Prelude.{slice_get}
 use Rattle.std.proofs.Common.{length-append}
 use Rattle.java_tokens.specs.declared.token.Token.{Token}
@@ -7,11 +7,10 @@ use Rattle.java_units.specs.declared.class.Around.{Around}
 use Rattle.java_units.specs.declared.types.Import.{Import}
 use Rattle.java_units.specs.declared.types.SourceClass.{SourceClass}
 use Rattle.java_units.specs.declared.types.Unit as unit
-use Rattle.java_units.specs.declared.types.ClassKind.{ClassKind}
 use Rattle.java_units.specs.Signs.{Sign, signs_of}
-use Rattle.java_units.specs.Forms.{begins, begins_any, begins_name, starts, span, total, name_len, base_len, dim_len, type_len, vars_len, entries_len, entry_len, var_len}
+use Rattle.java_units.specs.Forms.{begins, begins_any, begins_name, starts, span, total, name_len, base_len, dim_len, type_len, vars_len, entries_len, var_len}
 use Rattle.java_units.specs.Pieces.{head_len, head, end, bare, fills, package_len, import_len, target_len, class_len, kind_len, named_len, vars_end, header_len, result_len, past_vars, is_call, is_constructor, is_method, fields_len, form, piece_len}
-use Rattle.java_units.specs.Units.{Body, none, plain, class, IsBody, AreClasses, IsUnit, is_class, class_by, class_of, members_of, number_in, size, listed}
+use Rattle.java_units.specs.Units.{Body, none, plain, class, IsBody, IsUnit, is_class, class_by, class_of, members_of, number_in, size, listed}
 use Rattle.java_units.specs.UnitLaws.{outer_number, IsNested, IsOnlyUnit}
 
 -- each class of these, the first of which has the number n, stands after the class around it

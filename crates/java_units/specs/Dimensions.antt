@@ -1,6 +1,7 @@
 -- How many dimensions the types of a unit have.
-use Rattle.std.specs.Prelude.{ℕ, ◌+◌, ◌*◌, ◌≤◌, max, List, [], ◌∷◌, length, Option, Some, None}
+use Rattle.std.specs.Prelude.{ℕ, ◌+◌, ◌*◌, ◌^◌, ◌<◌, ◌≤◌, max, List, [], ◌∷◌, length, Option, Some, None}
 use Rattle.java_tokens.specs.declared.token.Token.{Token}
+use Rattle.java_tokens.specs.Tokens.{Tile}
 use Rattle.java_units.specs.declared.types.TypeText.{TypeText}
 use Rattle.java_units.specs.declared.types.TypeVar.{TypeVar}
 use Rattle.java_units.specs.declared.types.Param.{Param}
@@ -44,7 +45,9 @@ method_dims m = max (params_dims m.params) (bound_dims m.result)
 abbrev pub type_dims : SourceClass → ℕ
 type_dims c = max (greatest (λ t. t.dims) c.supers) (max (greatest (λ f. f.kind.dims) c.fields) (greatest method_dims c.methods))
 
--- The dimensions of any one of these types and those of all bounds, added up, are at most twice as many as
--- the tokens.
-pub record HasFewDims (tokens : List Token) (classes : List SourceClass) : Type 0 where
+-- The types of these classes have few dimensions: those of any one type and of all bounds, added up, are at
+-- most twice as many as the tokens, and below 2^64 for each text of at most 16 MiB, whose tokens tile it.
+pub record HasFewDims (text : List ℕ) (tokens : List Token) (classes : List SourceClass) : Type 0 where
   pub few : greatest type_dims classes + dims_of_bounds classes ≤ 2 * length tokens
+  pub bounds : 2 * dims_of_bounds classes ≤ length tokens
+  pub fits : length text ≤ 16777216 → Tile 0 (length text) tokens → greatest type_dims classes + dims_of_bounds classes < 2 ^ 64

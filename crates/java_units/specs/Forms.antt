@@ -1,5 +1,5 @@
 -- How many signs a form at the front takes, and 0 where it doesn't stand there.
-use Rattle.std.specs.Prelude.{ℕ, zero, suc, ◌+◌, ◌-◌, Bool, true, false, ◌&&◌, ◌||◌, not, ◌==◌, List, [], ◌∷◌, length, take, drop, map, if◌then◌else◌, codes, bytes_eq}
+use Rattle.std.specs.Prelude.{ℕ, zero, suc, ◌+◌, ◌-◌, Bool, false, ◌&&◌, ◌||◌, not, ◌==◌, List, [], ◌∷◌, drop, map, if◌then◌else◌, codes}
 use Rattle.java_units.specs.Signs.{Sign, is, has}
 use Rattle.java_units.specs.declared.entries.Entry.{Entry}
 use Rattle.java_units.specs.declared.entries.Entry.TheVariants as entry

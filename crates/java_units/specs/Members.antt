@@ -1,17 +1,16 @@
 -- What a class is made of: flags, methods, fields and supers.
-use Rattle.std.specs.Prelude.{ℕ, zero, suc, ◌+◌, Bool, true, false, ◌&&◌, ◌||◌, not, ◌==◌, List, [], ◌∷◌, ◌++◌, length, take, drop, map, if◌then◌else◌, codes, Option, Some, None}
-use Rattle.std.specs.List.{flat_map, list_any}
-use Rattle.java_units.specs.Signs.{Sign, is}
-use Rattle.java_units.specs.Forms.{begins, starts, lead_len, clause_len, up_to, type_len}
-use Rattle.java_units.specs.Pieces.{head, end, held, bare, pieces, kind_len, named_len, header_len, result_len, past_vars, form_of}
-use Rattle.java_units.specs.Values.{first_text, type_text, vars_of, params_of, fields_of, types_of}
+use Rattle.std.specs.Prelude.{ℕ, ◌+◌, Bool, true, false, ◌&&◌, ◌||◌, not, List, [], ◌∷◌, drop, if◌then◌else◌, codes, Option, Some, None}
+use Rattle.std.specs.List.{list_any}
+use Rattle.java_units.specs.Signs.{Sign}
+use Rattle.java_units.specs.Forms.{begins, starts, lead_len}
+use Rattle.java_units.specs.Pieces.{head, end, bare, result_len, past_vars, form_of}
+use Rattle.java_units.specs.Values.{first_text, type_text, vars_of, params_of, fields_of}
 use Rattle.java_units.specs.declared.pieces.Form.{Form}
 use Rattle.java_units.specs.declared.pieces.Form.TheVariants as form
 use Rattle.java_units.specs.declared.access.Modifiers.{Modifiers}
 use Rattle.java_units.specs.declared.types.TypeText.{TypeText}
 use Rattle.java_units.specs.declared.types.SourceField.{SourceField}
 use Rattle.java_units.specs.declared.types.SourceMethod.{SourceMethod}
-use Rattle.java_units.specs.declared.types.SourceClass.{SourceClass}
 use Rattle.java_units.specs.declared.types.ClassKind.{ClassKind}
 use Rattle.java_units.specs.declared.types.ClassKind.TheVariants.{ClassDecl, InterfaceDecl, EnumDecl, RecordDecl, AnnotationDecl}
 
@@ -73,8 +72,8 @@ method_flags around has_block m = flags_of (record (member around m) { is_abstra
 unfoldable pub constructor_flags : ClassKind → Modifiers → ℕ
 constructor_flags around m = flags_of (record (member around m) { is_private = m.is_private || is_enum around })
 
--- The modifiers of a class of this kind in another one, or in none: interfaces are abstract, all in an
--- interface and all but plain classes in a class are static.
+-- The modifiers of a class of this kind in another one, or in none: interfaces are abstract; all in an
+-- interface and all but plain classes in a class are static; in an interface it is public, unless it is private.
 unfoldable pub nested : Option ClassKind → ClassKind → Modifiers → Modifiers
 nested None kind m = record m { is_abstract = m.is_abstract || is_interface kind }
 nested (Some around) kind m = record (member around m) { is_static = m.is_static || (is_interface around || not (is_plain kind)); is_abstract = m.is_abstract || is_interface kind }

@@ -1,5 +1,5 @@
 -- The pieces of a body, and the table of forms that says what a piece is.
-use Rattle.std.specs.Prelude.{ℕ, zero, suc, ◌+◌, ◌-◌, min, Bool, true, false, ◌&&◌, ◌||◌, not, ◌==◌, List, [], ◌∷◌, length, take, drop, if◌then◌else◌, codes}
+use Rattle.std.specs.Prelude.{ℕ, suc, ◌+◌, min, Bool, false, ◌&&◌, ◌||◌, not, ◌==◌, List, [], ◌∷◌, length, take, drop, if◌then◌else◌, codes}
 use Rattle.java_units.specs.Signs.{Sign, is}
 use Rattle.java_units.specs.Forms.{begins, begins_any, begins_name, starts, span, more, name_len, rounds, type_len, lead_len, next_len, stops, deeper, entries_len, vars_len, params_len, clause_len}
 use Rattle.java_units.specs.declared.entries.Entry.TheVariants as entry

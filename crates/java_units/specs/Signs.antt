@@ -2,7 +2,7 @@
 use Rattle.std.specs.Prelude.{ℕ, zero, suc, ◌+◌, ◌-◌, Bool, true, false, ◌&&◌, ◌||◌, not, List, [], ◌∷◌, take, drop, map, if◌then◌else◌, codes, bytes_eq}
 use Rattle.java_tokens.specs.declared.token.Token.{Token}
 use Rattle.java_tokens.specs.declared.token.TokenKind.{TokenKind}
-use Rattle.java_tokens.specs.declared.token.TokenKind.TheVariants.{White, Comment, Text, CharText, Number, Word, Symbol}
+use Rattle.java_tokens.specs.declared.token.TokenKind.TheVariants.{White, Comment, Word}
 use denote.Ref.{Bor}
 use Rattle.java_units.specs.declared.lexemes.Lexeme.{Lexeme}
 

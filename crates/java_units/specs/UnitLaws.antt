@@ -1,5 +1,5 @@
 -- What holds of the unit of each text.
-use Rattle.std.specs.Prelude.{◌≡◌, ◌<◌, ℕ, List, [], ◌∷◌, slice_get, Option, Some, None}
+use Rattle.std.specs.Prelude.{◌≡◌, ◌<◌, ℕ, List, slice_get, Option, Some, None}
 use Rattle.java_tokens.specs.declared.token.Token.{Token}
 use Rattle.java_units.specs.declared.types.SourceClass.{SourceClass}
 use Rattle.java_units.specs.declared.types.Unit as unit

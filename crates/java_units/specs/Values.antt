@@ -1,8 +1,8 @@
 -- What the forms give.
-use Rattle.std.specs.Prelude.{ℕ, zero, suc, ◌+◌, ◌-◌, ◌/◌, Bool, true, false, ◌&&◌, ◌||◌, not, ◌==◌, List, [], ◌∷◌, length, take, drop, map, if◌then◌else◌, codes, bytes_eq, Option, Some, None}
+use Rattle.std.specs.Prelude.{ℕ, ◌+◌, ◌-◌, ◌/◌, Bool, ◌&&◌, ◌||◌, not, ◌==◌, List, [], ◌∷◌, take, drop, map, if◌then◌else◌, codes, bytes_eq, Option, Some, None}
 use Rattle.std.specs.List.{flat_map}
 use Rattle.java_units.specs.Signs.{Sign, is}
-use Rattle.java_units.specs.Forms.{begins, begins_any, base_len, type_len, dims_len, bounds_len, ahead_len, wide_len, dots_len, vars_len, entries}
+use Rattle.java_units.specs.Forms.{begins_any, base_len, type_len, dims_len, bounds_len, ahead_len, wide_len, dots_len, vars_len, entries}
 use Rattle.java_units.specs.declared.entries.Entry.TheVariants as entry
 use Rattle.java_units.specs.declared.types.TypeText.{TypeText}
 use Rattle.java_units.specs.declared.types.TypeVar.{TypeVar}

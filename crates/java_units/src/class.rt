@@ -98,7 +98,7 @@ fn supers_of(
     all_types(alloc, &["implements"], places)
 }
 
-/// Whether the first of these is a superclass.
+/// Whether the first of the supers is a superclass that the class names.
 #[tactic(auto, unfolding(crate::specs::Units::names_parent))]
 fn names_parent(kind: ClassKind, places: &[&[Lexeme<'_>]]) -> bool
     ensures { result ≡ names_parent kind (seens places.now) }

@@ -1,4 +1,6 @@
-use crate::{Import, SourceClass, SourceField, SourceMethod, TypeText, TypeVar, Unit, read_unit};
+use crate::{
+    ClassKind, Import, SourceClass, SourceField, SourceMethod, TypeText, TypeVar, Unit, read_unit,
+};
 use java_tokens::tokens;
 use lists::{Items, Text};
 use std::alloc::{AllocError, Global};
@@ -7,7 +9,7 @@ use std::test::Fail;
 /// Texts, and what each declares: the package, `|`, the imports, and each class as its outer class's
 /// number, `/`, its flags, name, type variables, supers, fields and methods. `+` stands before a superclass
 /// that is named, `:` before a variable's bound, and `#` after a method with a block.
-const ROWS: [(&str, &str); 30] = [
+const ROWS: [(&str, &str); 38] = [
     (
         "class A{int f;}",
         "||-/0000 A<>:{int f 0000}{0000 <init><>()}",
@@ -123,6 +125,39 @@ const ROWS: [(&str, &str); 30] = [
     (
         "class A { void m(List<String s) { if (1 > s) return; } int f; }",
         "||-/0000 A<>:{int f 0000}{0000 <init><>()}",
+    ),
+    (
+        "class A { transient volatile int f; native synchronized final strictfp int m(); }",
+        "||-/0000 A<>:{int f 0000}{0000 int m<>();0000 <init><>()}",
+    ),
+    (
+        "class A { protected static class C { C() {} } protected static class D { int d; void m() {} } }",
+        "||-/0000 A<>:{}{0000 <init><>()}0/000c C<>:{}{0000 <init><>()#}\
+         0/000c D<>:{int d 0000}{0000 void m<>()#;0004 <init><>()}",
+    ),
+    (
+        "interface I implements A extends B {} enum E { A, B } class F {}",
+        "||-/0600 I<>:A,B{}{}-/0000 E<>:{}{}-/0000 F<>:{}{0000 <init><>()}",
+    ),
+    (
+        "import /* c */ a . /* d */ * ; import b.C /* e */ ; import a.b.*.c;",
+        "|a.*,b.C|",
+    ),
+    (
+        "class A { int f; void m()",
+        "||-/0000 A<>:{int f 0000}{0000 void m<>();0000 <init><>()}",
+    ),
+    (
+        "class C { int m()) {} int x = 1], y; }",
+        "||-/0000 C<>:{int x 0000;int y 0000}{0000 int m<>()#;0000 <init><>()}",
+    ),
+    (
+        "class A { <T extends B[][] & C[], U extends D> T[] m(U[] u[]) {} }",
+        "||-/0000 A<>:{}{0000 T[] m<T:B[][],U:D>(U[][] u)#;0000 <init><>()}",
+    ),
+    (
+        "interface I { record R() {} enum E {} private class C {} interface J {} }",
+        "||-/0600 I<>:{}{}0/0009 R<>:{}{}0/0009 E<>:{}{}0/000a C<>:{}{0002 <init><>()}0/0609 J<>:{}{}",
     ),
     ("", "||"),
 ];
@@ -307,6 +342,53 @@ fn read(alloc: Global, text: &str) -> Result<Text, AllocError> {
 fn texts_declare_what_the_forms_say(rt: HostRuntime) -> Result<(), Fail> {
     for (text, wanted) in ROWS {
         let found = read(rt.alloc(), text)?;
+        assert_eq!(rt; found.as_str(), wanted);
+    }
+    Ok(())
+}
+
+fn letter(kind: ClassKind) -> &'static str {
+    match kind {
+        ClassKind::ClassDecl => "C",
+        ClassKind::InterfaceDecl => "I",
+        ClassKind::EnumDecl => "E",
+        ClassKind::RecordDecl => "R",
+        ClassKind::AnnotationDecl => "N",
+    }
+}
+
+/// A letter for each class of a short text: C, I, E or R, and N for an annotation.
+fn kinds(alloc: Global, text: &str) -> Result<Text, AllocError> {
+    if text.len() > 16777216 {
+        return Err(AllocError);
+    }
+    let all = tokens(alloc, text)?;
+    let unit = read_unit(alloc, text, all.as_slice())?;
+    let mut out = Text::new(alloc);
+    for class in unit.classes.as_slice() {
+        out.push_str(letter(class.kind))?;
+    }
+    Ok(out)
+}
+
+#[test]
+fn kinds_are_those_declared(rt: HostRuntime) -> Result<(), Fail> {
+    let table = [
+        (
+            "class A {} interface B {} enum C {} record D() {} @interface E {}",
+            "CIERN",
+        ),
+        (
+            "@interface A { record B() { enum C { ; interface D { class E {} } } } }",
+            "NREIC",
+        ),
+        (
+            "record A {} record B(int b) {} @ /* c */ interface C {}",
+            "RN",
+        ),
+    ];
+    for (text, wanted) in table {
+        let found = kinds(rt.alloc(), text)?;
         assert_eq!(rt; found.as_str(), wanted);
     }
     Ok(())

@@ -167,13 +167,16 @@ fn imports_of(alloc: Global, places: &[&[Lexeme<'_>]]) -> Result<Items<Import>, 
 }
 
 /// Reads what a text declares; `tokens` are its tokens. Nothing is refused: what isn't recognised gives
-/// nothing. It takes time linear in the text, whatever is nested in it.
+/// nothing. It takes time linear in the text, whatever is nested in it. A text has no other unit than the one
+/// answered. Each class stands after the class around it, and the dimensions of types are few: those of a
+/// super, or of the type of a field, a parameter or a result, and of all bounds of type variables, added up,
+/// are at most twice as many as the tokens.
 pub fn read_unit(alloc: Global, text: &str, tokens: &[Token]) -> Result<Unit, AllocError>
     requires { AreTokensOf text.now tokens.now }
     ensures exact { IfOk result (λ unit. IsUnit text.now tokens.now unit) }
     ensures only { IfOk result (λ unit. IsOnlyUnit text.now tokens.now unit) }
     ensures outers { IfOk result (λ unit. IsNested unit.classes) }
-    ensures dims { IfOk result (λ unit. HasFewDims tokens.now unit.classes) }
+    ensures dims { IfOk result (λ unit. HasFewDims text.now tokens.now unit.classes) }
 {
     let all = lexemes(alloc, text, tokens)?;
     let signs = all.as_slice();

@@ -1,4 +1,4 @@
-use Rattle.std.proofs.Common.{◌≡◌, ◌+◌, drop, rules, arith, sym, ◌∙◌, ap}
+use Rattle.std.proofs.Common.{◌+◌, drop, rules, arith, sym, ◌∙◌, ap}
 use Rattle.java_units.specs.Signs.{seen}
 use Rattle.java_units.specs.Forms.{up_to}
 use Rattle.java_units.proofs.Walks.{up_to-hit, up_to-on, up_to-end}

@@ -1,4 +1,4 @@
-use Rattle.std.proofs.Common.{◌∙◌, sym, rules, arith}
+use Rattle.std.proofs.Common.{◌∙◌, sym}
 use Rattle.java_units.proofs.Walks.{begins_name-at, length-some}
 use Rattle.java_units.proofs.lexemes.begins_name.Goals as goal
 

@@ -1,6 +1,4 @@
 use Rattle.std.proofs.Common.{◌≡◌, ◌+◌, ◌-◌, ◌==◌, true, false, rules, tests, arith, sym, ◌∙◌}
-use Rattle.java_units.specs.Signs.{seen}
-use Rattle.java_units.specs.Forms.{closing}
 use Rattle.java_units.proofs.Walks.{past-none, closing-last, closing-right, closing-left, closing-other, closing-on, closing-hit, closing-end}
 use Rattle.java_units.proofs.names.closing.Goals as goal
 

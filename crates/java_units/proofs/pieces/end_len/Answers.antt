@@ -1,4 +1,4 @@
-use Rattle.std.proofs.Common.{◌≡◌, ◌∙◌, ◌<◌, sym, rules, arith, length}
+use Rattle.std.proofs.Common.{◌∙◌, ◌<◌, sym, arith, length}
 use Rattle.java_units.proofs.Walks.{end_len-none, end_len-block, end_len-other, length-some, seen-length}
 use Rattle.java_units.proofs.pieces.end_len.Goals as goal
 

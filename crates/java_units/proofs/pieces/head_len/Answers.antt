@@ -1,4 +1,4 @@
-use Rattle.std.proofs.Common.{◌≡◌, ◌+◌, drop, rules, arith, sym, ◌∙◌, ap, false, [], slice_index_or}
+use Rattle.std.proofs.Common.{◌+◌, drop, rules, arith, sym, ◌∙◌, ap, false, [], slice_index_or}
 use Rattle.java_units.specs.declared.lexemes.Lexeme.{Lexeme}
 use Rattle.java_units.specs.Signs.{seen, sign}
 use Rattle.java_units.specs.Pieces.{head_len, sets}

@@ -1,4 +1,4 @@
-use Rattle.std.proofs.Common.{◌≡◌, ◌∙◌, sym, ap, take}
+use Rattle.std.proofs.Common.{◌∙◌, sym, ap, take}
 use Rattle.java_units.proofs.Walks.{held-none, held-some, length-some}
 use Rattle.java_units.proofs.pieces.held.Goals as goal
 

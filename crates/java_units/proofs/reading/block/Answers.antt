@@ -1,4 +1,4 @@
-use Rattle.std.proofs.Common.{◌≡◌, ◌++◌, ◌∷◌, [], sym, ap, ◌∙◌, rules}
+use Rattle.std.proofs.Common.{◌≡◌, ◌++◌, ◌∷◌, [], sym, ◌∙◌, rules}
 use Rattle.java_units.proofs.BlockLaws.{closer_len, closer_kept, other_len, other_kept, open_len, open_kept, bare_len, bare_kept}
 use Rattle.java_units.proofs.reading.block.Goals as goal
 

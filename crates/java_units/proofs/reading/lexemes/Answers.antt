@@ -1,5 +1,5 @@
 use Rattle.std.proofs.Common.{◌≡◌, ◌++◌, ◌∷◌, [], sym, ap, ◌∙◌, rules}
-use Rattle.java_units.specs.Signs.{seen, signs_of}
+use Rattle.java_units.specs.Signs.{seen}
 use Rattle.java_units.specs.Blocks.{seen_back}
 use Rattle.java_units.proofs.Walks.{seen-nil}
 use Rattle.java_units.proofs.BlockLaws.{all_within, turn, turned}

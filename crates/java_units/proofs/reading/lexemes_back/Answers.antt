@@ -1,10 +1,10 @@
-use Rattle.std.proofs.Common.{◌≡◌, ◌-◌, ◌<◌, suc, length, [], refl, sym, ap, ◌∙◌, rules, arith}
+use Rattle.std.proofs.Common.{◌≡◌, ◌-◌, length, refl, sym, ap, ◌∙◌, rules, arith}
 use Rattle.std.proofs.Common.{◌&&◌, not, slice_index_or}
 use Rattle.java_tokens.specs.declared.token.Token.{Token}
 use Rattle.java_tokens.specs.declared.token.TokenKind.TheVariants.{White}
 use Rattle.java_units.specs.Signs.{is_word, has, reserved}
 use Rattle.java_units.specs.Blocks.{from_last, block_len, closers_after}
-use Rattle.java_units.proofs.BlockLaws.{Backs, backs_none, backs_skip, backs_push, backs_end, within_at}
+use Rattle.java_units.proofs.BlockLaws.{backs_none, backs_skip, backs_push, backs_end, within_at}
 use Rattle.java_units.proofs.reading.lexemes_back.Goals as goal
 
 pub loop-number-init : goal.loop-number-init

@@ -1,4 +1,4 @@
-use Rattle.std.proofs.Common.{◌≡◌, ◌∙◌, sym, ap, rules, [], ◌∷◌, ◌++◌}
+use Rattle.std.proofs.Common.{◌≡◌, ◌∙◌, ap, rules, [], ◌∷◌, ◌++◌}
 use Rattle.java_units.specs.Signs.{seen, seens}
 use Rattle.java_units.proofs.Lists.{entries_on, entries_end, entries_none, seens-push, seens-nil}
 use Rattle.java_units.proofs.starts.entries.Goals as goal

@@ -1,4 +1,4 @@
-use Rattle.std.proofs.Common.{◌≡◌, ◌<◌, ℕ, ◌∙◌, sym, ap, rules, arith, length, ◌++◌, [], ◌≢◌}
+use Rattle.std.proofs.Common.{◌≡◌, ◌∙◌, sym, ap, rules, arith, length, ◌++◌, [], ◌≢◌}
 use Rattle.std.proofs.lemmas.List.{length-drop}
 use Rattle.java_units.specs.Signs.{seen, seens}
 use Rattle.java_units.specs.Forms.{starts}

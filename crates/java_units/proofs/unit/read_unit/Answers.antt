@@ -1,5 +1,4 @@
-use Rattle.std.proofs.Common.{rules, arith}
-use Rattle.std.proofs.lemmas.Grind.{common_steps}
+use Rattle.std.proofs.Common.{rules}
 use Rattle.java_units.specs.declared.types.Unit as unit
 use Rattle.java_units.specs.Units.{IsUnit}
 use Rattle.java_units.proofs.UnitLaws.{nested_unit, one_unit}

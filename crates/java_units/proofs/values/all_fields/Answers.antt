@@ -1,5 +1,5 @@
 use Rattle.std.proofs.Common.{rules}
-use Rattle.java_units.specs.Signs.{seen, seens}
+use Rattle.java_units.specs.Signs.{seen}
 use Rattle.java_units.specs.Values.{field_of}
 use Rattle.java_units.proofs.Lists.{map_on, map_end}
 use Rattle.java_units.proofs.values.all_fields.Goals as goal

@@ -1,5 +1,4 @@
 use Rattle.std.proofs.Common.{rules, ap, ◌∙◌, ◌++◌}
-use Rattle.java_units.specs.Signs.{seen, seens}
 use Rattle.java_units.specs.Values.{kept, param_of}
 use Rattle.java_units.proofs.Lists.{flat_on, flat_end}
 use Rattle.java_units.proofs.values.all_params.Goals as goal

@@ -1,6 +1,6 @@
 use Rattle.std.proofs.Common.{◌≡◌, take}
 use Rattle.std.specs.List.{flat_map}
-use Rattle.java_units.specs.Signs.{seen, seens}
+use Rattle.java_units.specs.Signs.{seens}
 use Rattle.java_units.specs.Values.{kept, param_of}
 use Rattle.java_units.proofs.values.all_params.Given as goal
 

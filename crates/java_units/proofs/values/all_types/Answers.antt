@@ -1,5 +1,4 @@
 use Rattle.std.proofs.Common.{rules}
-use Rattle.java_units.specs.Signs.{seen, seens}
 use Rattle.java_units.specs.Values.{type_text}
 use Rattle.java_units.proofs.Lists.{map_on, map_end}
 use Rattle.java_units.proofs.values.all_types.Goals as goal

@@ -1,5 +1,5 @@
 use Rattle.std.proofs.Common.{◌≡◌, take, map}
-use Rattle.java_units.specs.Signs.{seen, seens}
+use Rattle.java_units.specs.Signs.{seens}
 use Rattle.java_units.specs.Values.{type_text}
 use Rattle.java_units.proofs.values.all_types.Given as goal
 

@@ -1,5 +1,4 @@
 use Rattle.std.proofs.Common.{rules}
-use Rattle.java_units.specs.Signs.{seen, seens}
 use Rattle.java_units.specs.Values.{var_of}
 use Rattle.java_units.proofs.Lists.{map_on, map_end}
 use Rattle.java_units.proofs.values.all_vars.Goals as goal

@@ -1,5 +1,5 @@
 use Rattle.std.proofs.Common.{◌≡◌, take, map}
-use Rattle.java_units.specs.Signs.{seen, seens}
+use Rattle.java_units.specs.Signs.{seens}
 use Rattle.java_units.specs.Values.{var_of}
 use Rattle.java_units.proofs.values.all_vars.Given as goal
 

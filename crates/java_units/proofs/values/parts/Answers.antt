@@ -1,5 +1,4 @@
 use Rattle.std.proofs.Common.{rules, arith, sym, ◌∙◌}
-use Rattle.java_units.specs.Signs.{seen}
 use Rattle.java_units.proofs.Lists.{parts_take, parts_skip, parts_end}
 use Rattle.java_units.proofs.values.parts.Goals as goal
 
