@@ -33,7 +33,7 @@ head_or : (b : Bool) (n m : ℕ) → n ≤ m → (if b then 0 else suc n) ≤ su
 head_or true n m l = omega arith
 head_or false n m l = omega (arith, l)
 
-head_within : (ss : List Sign) (d : ℕ) (set : Bool) → head_len d set ss ≤ length ss
+pub head_within : (ss : List Sign) (d : ℕ) (set : Bool) → head_len d set ss ≤ length ss
 unfolding head_len
 head_within [] d set = omega arith
 head_within (s ∷ ss) d set = head_or (ends d set s) (head_len (deeper d s) (sets d set s) ss) (length ss) (head_within ss (deeper d s) (sets d set s))
@@ -42,7 +42,7 @@ end_if : (b : Bool) (h n : ℕ) → (if b then 1 + min (h + 1) n else 1) ≤ suc
 end_if true h n = omega arith
 end_if false h n = omega arith
 
-end_within : (ss : List Sign) → end_len ss ≤ length ss
+pub end_within : (ss : List Sign) → end_len ss ≤ length ss
 unfolding end_len
 end_within [] = omega arith
 end_within (s ∷ ss) = end_if (is (codes "{") s) s.holds (length ss)
@@ -56,18 +56,18 @@ unfolding end_len
 end_some [] l = absurd (omega arith)
 end_some (s ∷ ss) l = end_some_if (is (codes "{") s) s.holds (length ss)
 
-end_is : (ss : List Sign) → length (end ss) ≡ length ss - head_len 0 false ss
+pub end_is : (ss : List Sign) → length (end ss) ≡ length ss - head_len 0 false ss
 unfolding end
 end_is ss = length-drop (head_len 0 false ss) ss
 
-piece_is : (ss : List Sign) → piece_len ss ≡ head_len 0 false ss + end_len (end ss)
+pub piece_is : (ss : List Sign) → piece_len ss ≡ head_len 0 false ss + end_len (end ss)
 unfolding piece_len
 piece_is ss = refl
 
-piece_within : (ss : List Sign) → piece_len ss ≤ length ss
+pub piece_within : (ss : List Sign) → piece_len ss ≤ length ss
 piece_within ss = omega (arith, piece_is ss, end_is ss, end_within (end ss), head_within ss 0 false)
 
-piece_some : (ss : List Sign) → 0 < length ss → piece_len ss ≢ 0
+pub piece_some : (ss : List Sign) → 0 < length ss → piece_len ss ≢ 0
 piece_some ss l z =
     let h : head_len 0 false ss ≡ 0 = omega (arith, piece_is ss, z) in
     let k : 0 < length (end ss) = omega (arith, end_is ss, h, l) in
@@ -84,9 +84,9 @@ block_if : (b : Bool) (h n m : ℕ) → b ≡ true → m ≡ min h n → m + 1 �
 block_if true h n m e k = omega (arith, k)
 block_if false h n m e k = absurd (cc)
 
-held_within : (e : List Sign) → begins (codes "{") e ≡ true → length (held e) ≤ end_len e
+held_within : (e : List Sign) → begins (codes "{") e ≡ true → length (held e) + 1 ≤ end_len e
 unfolding held end_len begins
-held_within [] b = omega arith
+held_within [] b = absurd (cc)
 held_within (s ∷ ss) b = omega (arith, block_if (is (codes "{") s) s.holds (length ss) (length (take s.holds ss)) b (length-take s.holds ss))
 
 body_within : (kind : ClassKind) (b : List Sign) → length (body_in kind b) ≤ length b
@@ -97,7 +97,7 @@ body_within EnumDecl b = omega (arith, length-drop 1 (drop (up_to (codes ";") 0 
 body_within RecordDecl b = omega arith
 body_within AnnotationDecl b = omega arith
 
-members_within : (kind : ClassKind) (ss : List Sign) → begins (codes "{") (end ss) ≡ true → length (members_of kind ss) ≤ end_len (end ss)
+pub members_within : (kind : ClassKind) (ss : List Sign) → begins (codes "{") (end ss) ≡ true → length (members_of kind ss) + 1 ≤ end_len (end ss)
 unfolding members_of
 members_within kind ss b = omega (arith, body_within kind (held (end ss)), held_within (end ss) b)
 
@@ -129,7 +129,7 @@ and_last : (a b : Bool) → (a && b) ≡ true → b ≡ true
 and_last true b e = e
 and_last false b e = absurd (cc)
 
-class_block : (ss : List Sign) → is_class ss ≡ true → begins (codes "{") (end ss) ≡ true
+pub class_block : (ss : List Sign) → is_class ss ≡ true → begins (codes "{") (end ss) ≡ true
 class_block ss e = and_last (fills (class_len (bare ss)) (bare ss)) (begins (codes "{") (end ss)) (class_form [] ss e).1
 
 -- what the pieces of a class declare of variables
@@ -202,7 +202,7 @@ spelled_none : (kind : ClassKind) (name : List ℕ) (count : ℕ) → spelled ki
 unfolding starts
 spelled_none kind name count = refl
 
-some_signs : (ss : List Sign) → ss ≢ [] → 0 < length ss
+pub some_signs : (ss : List Sign) → ss ≢ [] → 0 < length ss
 some_signs [] z = absurd (z refl)
 some_signs (s ∷ ss) z = omega arith
 

@@ -8,3 +8,4 @@ pub mod Dimensions
 pub mod ClassTypes
 pub mod Bounds
 pub mod FewDims
+pub mod UnitThere

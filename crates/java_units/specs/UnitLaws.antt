@@ -17,3 +17,8 @@ pub record IsNested (classes : List SourceClass) : Type 0 where
 -- The text with these tokens has no other unit.
 abbrev pub IsOnlyUnit : List ℕ → List Token → unit.Unit → Type 0
 IsOnlyUnit text tokens u = (other : unit.Unit) → IsUnit text tokens other → other ≡ u
+
+-- The text with these tokens has a unit.
+pub record HasUnit (text : List ℕ) (tokens : List Token) : Type 0 where
+  pub one : unit.Unit
+  pub is : IsUnit text tokens one
