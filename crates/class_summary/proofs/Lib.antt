@@ -1,7 +1,12 @@
 pub mod Bounds
+pub mod CalledTexts
+pub mod CalledPlaces
 pub mod Dots
 pub mod Greatest
 pub mod Lists
+pub mod Merging
+pub mod MergedLoops
+pub mod MergedPlaces
 pub mod Nested
 pub mod Rows
 pub mod Searches

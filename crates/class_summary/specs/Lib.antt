@@ -1,6 +1,7 @@
 pub mod Flags
 pub mod Summaries
 pub mod Known
+pub mod Merging
 pub mod Sources
 pub mod Variables
 pub mod Outwards

@@ -4,8 +4,10 @@
 // and by canonical name. It stands on `class_shape` and `java_units`.
 #![tactic(auto)]
 
+mod called;
 mod classes;
 mod known;
+mod merged;
 mod naming;
 mod paths;
 mod rules;
@@ -15,6 +17,7 @@ mod summary;
 mod variables;
 
 pub use classes::Classes;
+pub use merged::Merged;
 pub use naming::resolve_name;
 pub use paths::{canonical_name, internal_name};
 pub use shape::from_shape;

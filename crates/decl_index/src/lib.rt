@@ -14,6 +14,8 @@ pub use change::{Change, ChangeFault};
 pub use index::Index;
 
 #[cfg(test)]
+mod merged_tests;
+#[cfg(test)]
 mod names_tests;
 #[cfg(test)]
 mod tests;

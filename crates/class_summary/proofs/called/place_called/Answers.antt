@@ -1,0 +1,25 @@
+use Rattle.std.proofs.Common.{◌≡◌, ◌∙◌, ◌-◌, sym, arith, drop}
+use Rattle.class_summary.specs.Known.{class_called}
+use Rattle.class_summary.proofs.Nested.{best_in}
+use Rattle.class_summary.proofs.CalledPlaces.{called_start, called_past, called_best, called_done}
+use Rattle.class_summary.proofs.called.place_called.Goals as goal
+
+pub loop-left-init : goal.loop-left-init
+loop-left-init g c = called_start c.args.known.now c.args.dotted.now c.size-left.result c.size-left.ensures.size
+
+pub class_at-requires : goal.class_at-requires
+class_at-requires g c = let l = c.loop-left.invariant.within in omega (arith, l)
+
+pub lesser-requires : goal.lesser-requires
+lesser-requires g c =
+    let l = c.loop-left.invariant.within in
+    record { here = omega (arith, l); there = best_in c.args.known.now (class_called c.args.known.now (drop c.loop-left.left c.args.known.now) c.args.dotted.now) c.loop-left.best c.loop-left.invariant.place }
+
+pub loop-left-preserved-then-not-is_called : goal.loop-left-preserved-then-not-is_called
+loop-left-preserved-then-not-is_called g c = called_past c.args.known.now c.args.dotted.now c.loop-left.left (c.loop-left.left - 1) c.class_at.result.now c.loop-left.best (omega arith) c.class_at.ensures (sym c.is_called.ensures ∙ c.if-not-is_called.true) c.loop-left.invariant
+
+pub loop-left-preserved : goal.loop-left-preserved
+loop-left-preserved g c = called_best c.args.known.now c.args.dotted.now c.loop-left.left (c.loop-left.left - 1) c.class_at.result.now c.loop-left.best c.lesser.result (omega arith) c.class_at.ensures (sym c.is_called.ensures ∙ c.if-not-is_called.false) c.lesser.ensures.within c.lesser.ensures.class c.loop-left.invariant
+
+pub returns : goal.returns
+returns g c = called_done c.args.known.now c.args.dotted.now c.loop-left.left c.loop-left.best (omega arith) c.loop-left.invariant
