@@ -1,5 +1,5 @@
 -- Variables, their bounds and their scopes.
-use Rattle.std.proofs.Common.{◌≡◌, ◌∙◌, ap, sym, refl, arith, subst, ℕ, zero, suc, ◌+◌, ◌<◌, ◌≤◌, ◌^◌, Bool, true, false, cond, if◌then◌else◌, List, [], ◌∷◌, ◌++◌, length, take, drop, take_all, get_or, slice_get, slice_set, map, reverse, append-nil, append_assoc, add-one, bytes_eq, Option, Some, None}
+use Rattle.std.proofs.Common.{◌≡◌, ◌∙◌, ap, sym, refl, arith, subst, ℕ, zero, suc, ◌+◌, ◌<◌, ◌≤◌, ◌^◌, Bool, true, false, if◌then◌else◌, List, [], ◌∷◌, ◌++◌, length, take, drop, take_all, get_or, slice_get, slice_set, map, reverse, append-nil, append_assoc, add-one, bytes_eq, Option, Some, None}
 use Rattle.std.proofs.lemmas.List.{drop_all, drop_more, take_more, set_split, reverse-append, reverse-reverse, map-append}
 use Rattle.std.proofs.lemmas.Option.{slice_get_read, get_or_from_slice_get}
 use Rattle.std.proofs.lemmas.Bool.{false_from_ne_true}
@@ -9,7 +9,7 @@ use Rattle.java_units.specs.declared.types.TypeVar.{TypeVar}
 use Rattle.class_summary.specs.declared.variables.Scope.{Scope}
 use Rattle.class_summary.specs.declared.variables.End.{End}
 use Rattle.class_summary.specs.declared.variables.Met.{Met}
-use Rattle.class_summary.specs.Variables.{bound_of, unbounded, without_bound, Found, found_here, variable_in, variable_of, end_at, by_bound, by_variable, through, total, over_vars, over_scopes, one_bound, bound_dims, IsMet, IsPlaceOfVar}
+use Rattle.class_summary.specs.Variables.{bound_of, unbounded, without_bound, Found, found_here, variable_in, variable_of, end_at, by_bound, by_variable, through, over_vars, over_scopes, one_bound, bound_dims, IsMet, IsPlaceOfVar}
 
 bound-hit : (name : List ℕ) (v : TypeVar) (vs : List TypeVar) → name ≡ v.name → bound_of name (v ∷ vs) ≡ Some v.bound
 unfolding bound_of

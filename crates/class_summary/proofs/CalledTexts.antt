@@ -1,5 +1,5 @@
 -- Whether a text is the canonical name of a class, compared from its end along outer classes.
-use Rattle.std.proofs.Common.{◌≡◌, ◌∙◌, ap, sym, refl, arith, subst, ℕ, suc, ◌+◌, ◌-◌, ◌<◌, ◌≤◌, Bool, true, false, if◌then◌else◌, List, [], ◌∷◌, ◌++◌, length, take, get_or, append-nil, append_assoc, bytes_eq, Option, Some, None}
+use Rattle.std.proofs.Common.{◌≡◌, ◌∙◌, ap, sym, refl, arith, ℕ, ◌+◌, ◌-◌, ◌<◌, ◌≤◌, Bool, true, false, if◌then◌else◌, List, [], ◌∷◌, ◌++◌, length, take, get_or, append-nil, append_assoc, bytes_eq, Option, Some, None}
 use Rattle.std.specs.Prelude.{◌==◌}
 use Rattle.std.specs.Option.{option_map, MatchOption}
 use Rattle.std.specs.Borrow.{Bor}
@@ -30,7 +30,7 @@ same-end front name tail =
     (λ e. (bytes_eq-Decides front name).1 (append_cancel_right front name tail ((bytes_eq-Decides (front ++ tail) (name ++ tail)).0 e)))
     (λ e. (bytes_eq-Decides (front ++ tail) (name ++ tail)).1 (ap (λ (r : List ℕ). r ++ tail) ((bytes_eq-Decides front name).0 e)))
 
-one-out : (n k : ℕ) (cs : List ClassSummary) (here outer simple : List ℕ) → k < n → outwards cs here ≡ Some (outer, simple) → canonical_by (n - k) cs here ≡ canonical_by (n - (k + 1)) cs outer ++ (46 ∷ simple)
+pub one-out : (n k : ℕ) (cs : List ClassSummary) (here outer simple : List ℕ) → k < n → outwards cs here ≡ Some (outer, simple) → canonical_by (n - k) cs here ≡ canonical_by (n - (k + 1)) cs outer ++ (46 ∷ simple)
 one-out n k cs here outer simple l o = named_on n k cs (canonical_by (n - k) cs here) here outer simple [] (46 ∷ simple) outer l o (sym (append-nil (46 ∷ simple))) refl (sym (append-nil (canonical_by (n - k) cs here)))
 
 pub called_on : (n k : ℕ) (cs : List ClassSummary) (whole : Bool) (here rest outer simple front : List ℕ) → k < n → outwards cs here ≡ Some (outer, simple) → rest ≡ front ++ (46 ∷ simple) → whole ≡ bytes_eq rest (canonical_by (n - k) cs here) → whole ≡ bytes_eq front (canonical_by (n - (k + 1)) cs outer)

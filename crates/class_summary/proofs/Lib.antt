@@ -1,15 +1,16 @@
 pub mod Bounds
+pub mod CalledEnds
 pub mod CalledTexts
 pub mod CalledPlaces
 pub mod Dots
 pub mod Greatest
 pub mod Lists
 pub mod Merging
-pub mod MergedLoops
 pub mod MergedPlaces
 pub mod Nested
 pub mod Rows
 pub mod Searches
 pub mod Sources
 pub mod Steps
+pub mod Tables
 pub mod Totals

@@ -1,13 +1,26 @@
 -- The places of merged classes.
-use Rattle.std.proofs.Common.{◌≡◌, ◌∙◌, ap, sym, refl, arith, subst, ℕ, zero, suc, ◌+◌, ◌-◌, ◌<◌, ◌≤◌, Bool, true, false, List, [], ◌∷◌, ◌++◌, length, map, get_or, drop, slice_get, bytes_eq, Option, Some, None}
+use Rattle.std.proofs.Common.{◌≡◌, ◌∙◌, ap, sym, refl, arith, subst, ℕ, zero, suc, ◌+◌, ◌-◌, ◌<◌, ◌≤◌, true, false, List, [], ◌∷◌, length, map, get_or, slice_get, Option, Some, None}
 use Rattle.std.specs.Prelude.{unwrap_or, is_some, option_map}
 use Rattle.std.specs.Option.{option_or}
-use Rattle.std.proofs.lemmas.Option.{slice_get_within, slice_get_read, slice_get-get_or, get_or_from_slice_get}
+use Rattle.std.proofs.lemmas.List.{length-map}
+use Rattle.std.proofs.lemmas.Option.{slice_get-map, slice_get_within, slice_get_read}
 use Rattle.class_summary.specs.declared.summary.ClassSummary.{ClassSummary}
 use Rattle.class_summary.specs.Known.{class_named, HasEachOnce, IsPlaceOf}
 use Rattle.class_summary.specs.Merging.{last_named, replaced, added, merged, IsMerging}
-use Rattle.class_summary.proofs.Merging.{class-append, merged-base, merged-added, merged-length, merged-named, merged_once}
-use Rattle.class_summary.proofs.MergedLoops.{picked, picked_length, from_hit, from_on}
+use Rattle.class_summary.proofs.Merging.{merged-base, merged-added, merged-length, merged-named, merged_once}
+
+picked-by : (o p : Option ClassSummary) → option_map Some o ≡ Some p → o ≡ p
+picked-by None p e = absurd cc
+picked-by (Some a) p e = cc
+
+-- the added class at a place is the extra class of the number there
+pub picked : (extra new : List ClassSummary) (numbers : List ℕ) (k i : ℕ) → map (slice_get extra) numbers ≡ map Some new → k < length numbers → i ≡ get_or numbers k i → slice_get new k ≡ slice_get extra i
+picked extra new numbers k i e l g =
+    picked-by (slice_get new k) (slice_get extra i)
+    (sym (slice_get-map Some new k) ∙ ap (λ (r : List (Option ClassSummary)). slice_get r k) (sym e) ∙ slice_get-map (slice_get extra) numbers k ∙ ap (option_map (slice_get extra)) (slice_get_read numbers (length numbers) k i refl l g))
+
+pub picked_length : (extra new : List ClassSummary) (numbers : List ℕ) → map (slice_get extra) numbers ≡ map Some new → length new ≡ length numbers
+picked_length extra new numbers e = sym (length-map new Some) ∙ ap length (sym e) ∙ length-map numbers (slice_get extra)
 
 pub there : {A : Type 0} (xs : List A) (k : ℕ) → k < length xs → (x : A) × (slice_get xs k ≡ Some x)
 there [] k l = absurd (omega (arith, l))
@@ -75,30 +88,11 @@ found_added base extra whole n m k v h e a =
 pub found_none : (base extra whole : List ClassSummary) (n : List ℕ) → merged base extra ≡ whole → class_named base n ≡ None → class_named (added base extra) n ≡ None → class_named whole n ≡ None
 found_none base extra whole n v h a = named-added base extra whole n v h ∙ a
 
--- an item read by a default is the item itself
-pub read_at : (numbers : List ℕ) (k : ℕ) → k < length numbers → get_or numbers k 0 ≡ get_or numbers k (get_or numbers k 0)
-read_at numbers k l = sym (get_or_from_slice_get numbers k (get_or numbers k 0) (get_or numbers k 0) (slice_get-get_or numbers k 0 l))
+-- whether a class was found
+pub base_there : (base : List ClassSummary) (o : Option ClassSummary) (r : Option ℕ) → IsPlaceOf base o r → is_some r ≡ true → (c : ClassSummary) × (o ≡ Some c)
+base_there base o None h e = absurd cc
+base_there base o (Some i) h e = let p = there base i h.0 in (p.0, h.1 ∙ p.1)
 
-pub added_hit : (base extra : List ClassSummary) (numbers n : List ℕ) (k i : ℕ) (x : ClassSummary) → IsMerging base extra numbers → k < length numbers → i ≡ get_or numbers k i → x ≡ get_or extra i x → bytes_eq n x.name ≡ true → class_named (added base extra) n ≡ class_named (drop k (added base extra)) n → IsPlaceOf (added base extra) (class_named (added base extra) n) (Some k)
-added_hit base extra numbers n k i x h l g f t s =
-    let c = picked_class base extra numbers k i x h l g f in
-    let w = slice_get_within (added base extra) k x c in
-    (w, from_hit (added base extra) n (class_named (added base extra) n) k x w (sym (get_or_from_slice_get (added base extra) k x x c)) t s ∙ sym c)
-
-pub added_on : (base extra : List ClassSummary) (numbers n : List ℕ) (k i : ℕ) (x : ClassSummary) → IsMerging base extra numbers → k < length numbers → i ≡ get_or numbers k i → x ≡ get_or extra i x → bytes_eq n x.name ≡ false → class_named (added base extra) n ≡ class_named (drop k (added base extra)) n → class_named (added base extra) n ≡ class_named (drop (k + 1) (added base extra)) n
-added_on base extra numbers n k i x h l g f t s =
-    let c = picked_class base extra numbers k i x h l g f in
-    let w = slice_get_within (added base extra) k x c in
-    from_on (added base extra) n (class_named (added base extra) n) k x w (sym (get_or_from_slice_get (added base extra) k x x c)) t s
-
--- whether a name stands among the base classes or in the rest
-pub known_base : (base rest : List ClassSummary) (m n : List ℕ) (o : Option ℕ) (r : Bool) → m ≡ n → IsPlaceOf base (class_named base m) o → r ≡ is_some o → r ≡ true → r ≡ is_some (class_named (base ++ rest) n)
-known_base base rest m n None r s h e t = absurd cc
-known_base base rest m n (Some i) r s h e t =
-    let p = there base i h.0 in
-    t ∙ sym (ap (λ k. is_some (class_named (base ++ rest) k)) (sym s) ∙ ap is_some (class-append base rest m ∙ ap (λ (o : Option ClassSummary). option_or o (class_named rest m)) (h.1 ∙ p.1)))
-
-pub known_rest : (base rest : List ClassSummary) (m n : List ℕ) (o : Option ℕ) (r q : Bool) → m ≡ n → IsPlaceOf base (class_named base m) o → r ≡ is_some o → r ≡ false → q ≡ is_some (class_named rest m) → q ≡ is_some (class_named (base ++ rest) n)
-known_rest base rest m n (Some i) r q s h e t f = absurd cc
-known_rest base rest m n None r q s h e t f =
-    f ∙ sym (ap (λ k. is_some (class_named (base ++ rest) k)) (sym s) ∙ ap is_some (class-append base rest m ∙ ap (λ (o : Option ClassSummary). option_or o (class_named rest m)) h))
+pub base_none : (base : List ClassSummary) (o : Option ClassSummary) (r : Option ℕ) → IsPlaceOf base o r → is_some r ≡ false → o ≡ None
+base_none base o None h e = h
+base_none base o (Some i) h e = absurd cc

@@ -1,9 +1,9 @@
 -- The class of a name among merged classes, and that each name stands once.
-use Rattle.std.proofs.Common.{◌≡◌, ◌∙◌, ap, sym, refl, arith, subst, ℕ, zero, suc, ◌+◌, ◌-◌, ◌<◌, ◌≤◌, Bool, true, false, cond, List, [], ◌∷◌, ◌++◌, length, length-append, map, slice_get, bytes_eq, Option, Some, None, ◌⊎◌, inl, inr}
+use Rattle.std.proofs.Common.{◌≡◌, ◌∙◌, ap, sym, refl, arith, ℕ, zero, suc, ◌+◌, Bool, true, false, cond, List, [], ◌∷◌, ◌++◌, length, length-append, map, slice_get, bytes_eq, Option, Some, None, ◌⊎◌, inl, inr}
 use Rattle.std.specs.Prelude.{unwrap_or, is_some, option_map}
 use Rattle.std.specs.Option.{option_or}
 use Rattle.std.proofs.lemmas.List.{length-map}
-use Rattle.std.proofs.lemmas.Option.{slice_get-map, slice_get_within}
+use Rattle.std.proofs.lemmas.Option.{slice_get-map}
 use Rattle.std.proofs.lemmas.Slice.Eq.{bytes_eq-Decides}
 use Rattle.class_summary.specs.declared.summary.ClassSummary.{ClassSummary}
 use Rattle.class_summary.specs.Known.{class_named, HasEachOnce}
@@ -295,7 +295,9 @@ once-by base extra i j c d h n (inr a) (inr b) = a.1.1 ∙ ap (λ k. length (map
 
 -- No name stands at two places among the merged classes where none does in the base.
 pub merged_once : (base extra : List ClassSummary) → HasEachOnce base → HasEachOnce (merged base extra)
-merged_once base extra h = record { once = λ i j c d e f n.
-    once-by base extra i j c d h n
-    (split_at (map (replaced extra) base) (added base extra) i c (ap (λ (r : List ClassSummary). slice_get r i) (sym (merged-is base extra)) ∙ e))
-    (split_at (map (replaced extra) base) (added base extra) j d (ap (λ (r : List ClassSummary). slice_get r j) (sym (merged-is base extra)) ∙ f)) }
+merged_once base extra h = record {
+  once = λ i j c d e f n.
+      once-by base extra i j c d h n
+      (split_at (map (replaced extra) base) (added base extra) i c (ap (λ (r : List ClassSummary). slice_get r i) (sym (merged-is base extra)) ∙ e))
+      (split_at (map (replaced extra) base) (added base extra) j d (ap (λ (r : List ClassSummary). slice_get r j) (sym (merged-is base extra)) ∙ f));
+}

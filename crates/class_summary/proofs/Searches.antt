@@ -1,5 +1,5 @@
 -- What stands first, by loops over numbers, classes and imports.
-use Rattle.std.proofs.Common.{◌≡◌, ◌∙◌, ap, sym, refl, arith, subst, ℕ, zero, suc, ◌+◌, ◌-◌, ◌<◌, ◌≤◌, Bool, true, false, cond, if◌then◌else◌, List, [], ◌∷◌, length, drop, get_or, slice_get, add-one, bytes_eq, Option, Some, None}
+use Rattle.std.proofs.Common.{◌≡◌, ◌∙◌, ap, sym, refl, arith, ℕ, zero, suc, ◌+◌, ◌-◌, ◌<◌, ◌≤◌, Bool, true, false, List, [], ◌∷◌, length, drop, get_or, add-one, bytes_eq, Option, Some, None}
 use Rattle.std.specs.Option.{option_or}
 use Rattle.std.proofs.lemmas.List.{drop_all, drop_more}
 use Rattle.java_units.specs.declared.types.SourceClass.{SourceClass}
@@ -7,9 +7,8 @@ use Rattle.java_units.specs.declared.types.Import.{Import}
 use Rattle.java_units.specs.declared.types.Unit as unit
 use Rattle.class_summary.specs.declared.summary.ClassSummary.{ClassSummary}
 use Rattle.class_summary.specs.declared.rules.Denoted.{Denoted}
-use Rattle.class_summary.specs.Known.{lesser, IsPlaceOf}
 use Rattle.class_summary.specs.Sources.{name_at}
-use Rattle.class_summary.specs.Names.{first_from, is_member, member_from, member_named, enclosing, ends_with, imported, is_nested, nested_class, below_star, starred, class_at, IsLesser}
+use Rattle.class_summary.specs.Names.{first_from, is_member, member_from, member_named, enclosing, ends_with, imported, below_star, starred}
 
 number-hit : (n i : ℕ) (test : ℕ → Bool) → test i ≡ true → first_from (suc n) i test ≡ Some i
 unfolding first_from

@@ -1,10 +1,10 @@
 -- The dimensions of all bounds at a place are no more than those of the text.
-use Rattle.std.proofs.Common.{◌≡◌, ◌∙◌, ap, sym, refl, arith, subst, ℕ, zero, suc, ◌+◌, ◌-◌, ◌<◌, ◌≤◌, List, [], ◌∷◌, length, map, slice_get, Option, Some, None}
+use Rattle.std.proofs.Common.{◌≡◌, ◌∙◌, ap, sym, refl, arith, ℕ, zero, suc, ◌+◌, ◌-◌, ◌<◌, ◌≤◌, List, [], ◌∷◌, length, map, slice_get, Option, Some, None}
 use Rattle.java_units.specs.declared.types.SourceMethod.{SourceMethod}
 use Rattle.java_units.specs.declared.types.SourceClass.{SourceClass}
 use Rattle.class_summary.specs.declared.variables.Scope.{Scope}
 use Rattle.class_summary.specs.Sources.{outer_number, around_by}
-use Rattle.class_summary.specs.Variables.{total, over_vars, over_scopes, bound_dims, class_dims, dims_of_bounds, class_vars, method_vars, method_in, class_scope, method_scope, scopes_at, IsNested}
+use Rattle.class_summary.specs.Variables.{total, over_vars, over_scopes, bound_dims, class_dims, dims_of_bounds, class_vars, method_vars, method_in, class_scope, scopes_at, IsNested}
 use Rattle.class_summary.proofs.Sources.{around-none}
 
 -- the sum of the first n

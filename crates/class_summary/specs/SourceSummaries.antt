@@ -1,5 +1,5 @@
 -- What is kept of a class that a source text declares (JLS 8, 9).
-use Rattle.std.specs.Prelude.{◌≡◌, ℕ, zero, suc, ◌+◌, ◌==◌, max, if◌then◌else◌, Bool, true, false, List, [], ◌∷◌, ◌++◌, length, map, drop, slice_get, codes, Option, Some, None, unwrap_or}
+use Rattle.std.specs.Prelude.{◌≡◌, ℕ, suc, ◌==◌, ◌&&◌, max, if◌then◌else◌, Bool, List, [], ◌∷◌, ◌++◌, map, drop, slice_get, codes, Option, Some, None, unwrap_or}
 use Rattle.std.specs.List.{filter_map}
 use Rattle.type_names.specs.declared.kinds.Base.{Base}
 use Rattle.type_names.specs.declared.kinds.Base.TheVariants.{Byte, Char, Double, Float, Int, Long, Short, Boolean, Class}
@@ -12,6 +12,7 @@ use Rattle.java_units.specs.declared.types.SourceClass.{SourceClass}
 use Rattle.java_units.specs.declared.types.ClassKind.{ClassKind}
 use Rattle.java_units.specs.declared.types.ClassKind.TheVariants.{ClassDecl, InterfaceDecl, EnumDecl, RecordDecl, AnnotationDecl}
 use Rattle.java_units.specs.declared.types.Unit as unit
+use Rattle.java_units.specs.Members.{is_plain}
 use Rattle.class_summary.specs.Sources.{internal_name}
 use Rattle.class_summary.specs.Names.{denoted_type}
 use Rattle.class_summary.specs.declared.summary.FieldSummary.{FieldSummary}
@@ -39,7 +40,7 @@ class_of e = if e.dims == 0 then class_in e.base else None
 unfoldable pub super_of : unit.Unit → ℕ → List ClassSummary → TypeText → Option (List ℕ)
 super_of u i known type = class_of (denoted_type u i None type known)
 
--- The first super of a class that names no superclass.
+-- The first super of a class of this kind that names no superclass.
 abbrev pub parent_of : ClassKind → List ℕ
 parent_of ClassDecl = codes "java/lang/Object"
 parent_of InterfaceDecl = codes "java/lang/Object"
@@ -59,10 +60,15 @@ abbrev pub named_parent : unit.Unit → ℕ → List ClassSummary → Option Typ
 named_parent u i known None = None
 named_parent u i known (Some type) = super_of u i known type
 
--- The superclass that a class names, where that is a class; else the one of its kind.
+-- Whether a superclass is named and counts: a class alone may name one (JLS 8.1.4).
+abbrev pub names_super : SourceClass → Bool
+names_super c = is_plain c.kind && c.names_parent
+
+-- The first super goes by the kind: a class has the superclass that it names, where that is a class, and else
+-- `java/lang/Object`; an enum has `java/lang/Enum`, a record `java/lang/Record`, the others `java/lang/Object`.
 unfoldable pub first_super : unit.Unit → ℕ → List ClassSummary → SourceClass → List ℕ
 first_super u i known c =
-    if c.names_parent then unwrap_or (named_parent u i known (slice_get c.supers 0)) (parent_of c.kind) else parent_of c.kind
+    if names_super c then unwrap_or (named_parent u i known (slice_get c.supers 0)) (parent_of c.kind) else parent_of c.kind
 
 -- The interfaces that a class names.
 abbrev pub interfaces : SourceClass → List TypeText

@@ -1,13 +1,14 @@
-ghost use Rattle.std.specs.Prelude.{◌≡◌, ◌<◌, ◌==◌, if◌then◌else◌, ◌∷◌, ◌++◌, ℕ, List, length, bytes_eq, IfSome, MatchOption};
+ghost use Rattle.std.specs.Prelude.{◌≡◌, ◌<◌, ◌==◌, if◌then◌else◌, ◌∷◌, ◌++◌, ℕ, List, Some, false, length, bytes_eq, IfSome, MatchOption};
 ghost use Rattle.std.specs.Option.{option_copied, option_map};
 ghost use Rattle.class_summary.specs.Known.{class_named, class_called, nesting_at, outer_of, simple_in, circles, dotted, canonical, IsPlaceOf};
 ghost use Rattle.class_summary.specs.Outwards.{outwards};
 ghost use Rattle.class_summary.specs.Names.{IsLesser};
+ghost use Rattle.class_summary.specs.declared.summary.ClassSummary.{ClassSummary};
 
 use crate::classes::Classes;
 use crate::merged::Merged;
 use crate::rules::same;
-use crate::summary::Nesting;
+use crate::summary::{ClassSummary, Nesting};
 use lists::Text;
 use std::cmp::Ordering;
 
@@ -133,6 +134,30 @@ fn is_called<C: Classes>(known: &Merged<'_, C>, name: &Text, text: &str) -> bool
     is_dotted(rest, here.as_bytes())
 }
 
+/// The simple name of a nested class, where it has one.
+fn simple_name(class: &ClassSummary) -> Option<&Text>
+    ensures { option_copied result ≡ simple_in class.now.nesting }
+{
+    match class.nesting.as_ref() {
+        Some(nesting) => nesting.simple.as_ref(),
+        None => None,
+    }
+}
+
+/// Whether the text may be the canonical name of a class, by the class alone: most classes are told apart so.
+fn may_be_called(class: &ClassSummary, text: &[u8]) -> bool
+    ensures { result ≡ false → (known : List ClassSummary) → class_named known class.now.name ≡ Some class.now → bytes_eq text.now (canonical known class.now.name) ≡ false }
+{
+    if is_dotted(text, class.name.as_bytes()) {
+        return true;
+    }
+    let Some(simple) = simple_name(class) else {
+        return false;
+    };
+    let front = before(text, simple.as_bytes());
+    front.is_some()
+}
+
 /// Of a class and another that may be missing, the one whose name is less.
 fn lesser<C: Classes>(known: &Merged<'_, C>, place: usize, best: Option<usize>) -> usize
     requires here { place < length known.now }
@@ -143,7 +168,12 @@ fn lesser<C: Classes>(known: &Merged<'_, C>, place: usize, best: Option<usize>) 
     let Some(best) = best else {
         return place;
     };
-    if known.class_at(best).name.compare(&known.class_at(place).name) == Ordering::Less {
+    if known
+        .class_at(best)
+        .name
+        .compare(&known.class_at(place).name)
+        == Ordering::Less
+    {
         return best;
     }
     place
@@ -157,7 +187,11 @@ pub fn place_called<C: Classes>(known: &Merged<'_, C>, dotted: &str) -> Option<u
     let mut left = known.size();
     while left > 0 {
         left -= 1;
-        if !is_called(known, &known.class_at(left).name, dotted) {
+        let class = known.class_at(left);
+        if !may_be_called(class, dotted.as_bytes()) {
+            continue;
+        }
+        if !is_called(known, &class.name, dotted) {
             continue;
         }
         best = Some(lesser(known, left, best));

@@ -1,107 +1,90 @@
-ghost use Rattle.std.specs.Prelude.{◌≡◌, ◌<◌, ◌+◌, ◌++◌, length, drop, map, slice_get, bytes_eq, is_some, Some, IfOk};
+ghost use Rattle.std.specs.Prelude.{◌≡◌, ◌<◌, ℕ, List, if◌then◌else◌, length, map, slice_get, bytes_eq, Some, IfOk, OnOk};
+ghost use Rattle.std.specs.BTreeMap.{get_by_text};
 ghost use Rattle.class_summary.specs.Known.{HasEachOnce, IsPlaceOf, class_named, class_called};
-ghost use Rattle.class_summary.specs.Merging.{last_named, merged, added, IsMerging};
-ghost use Rattle.class_summary.specs.declared.summary.ClassSummary.{ClassSummary};
+ghost use Rattle.class_summary.specs.Merging.{merged, added, IsMerging, IsTable};
 
 use crate::called::place_called;
 use crate::classes::Classes;
 use crate::summary::ClassSummary;
 use lists::Items;
 use std::alloc::{AllocError, Global};
+use std::collections::BTreeMap;
 use std::marker::Model;
 
 /// Known classes with others added: an extra class replaces the base class of its name, and of two extra classes
-/// of one name the later one counts. The base classes keep their places; those that the base lacks follow.
+/// of one name the later one counts. The base classes keep their places; those that the base lacks follow. A class
+/// is found by its name or place in logarithmic time beside that of the base; by its canonical name in linear time.
 #[derive(Drop)]
 pub struct Merged<'a, C: Classes> {
     base: &'a C,
     extra: Items<ClassSummary>,
+    /// The numbers of the extra classes that the base lacks, of each name the last.
     added: Vec<usize>,
+    /// For a name of the base the number of the last extra class of it, for another the place of that class among
+    /// the added ones, counted from the last.
+    by_name: BTreeMap<String, usize>,
 }
 
 impl<'a, C: Classes> Model for Merged<'a, C> {
     ghost use Rattle.class_summary.specs.Known.{KnownClasses};
-    ghost use Rattle.class_summary.specs.Merging.{merged, IsMerging};
+    ghost use Rattle.class_summary.specs.Merging.{merged, IsMerging, IsTable};
+    ghost use Rattle.std.specs.BTreeMap.{get_by_text};
 
     ghost Value = { KnownClasses };
 
     ghost view = { λ m. merged (C.listed m.base.now) m.extra };
 
-    ghost invariant = { λ m. IsMerging (C.listed m.base.now) m.extra m.added.items };
+    ghost invariant = { λ m. IsMerging (C.listed m.base.now) m.extra m.added.items × IsTable (C.listed m.base.now) m.extra m.extra (get_by_text m.by_name) };
 }
 
-/// The place of the last class of this name.
-fn last_place(classes: &[ClassSummary], name: &str) -> Option<usize>
-    ensures { IsPlaceOf classes.now (last_named classes.now name.now) result }
+/// Gives a name a number.
+fn put(
+    alloc: Global,
+    numbers: &mut BTreeMap<String, usize>,
+    name: &str,
+    number: usize,
+) -> Result<(), AllocError>
+    ensures { OnOk result ((other : List ℕ) → get_by_text numbers.new other ≡ (if bytes_eq name.now other then Some number else get_by_text numbers.old other)) }
 {
-    let mut left = classes.len();
-    while left > 0 {
-        left -= 1;
-        if name == classes[left].name.as_str() {
-            return Some(left);
-        }
-    }
-    None
+    let key = String::from_str(alloc, name)?;
+    numbers.insert(key, number)?;
+    Ok(())
 }
 
-/// Whether a class of this name stands at the place or behind it.
-fn comes_from(classes: &[ClassSummary], from: usize, name: &str) -> bool
-    ensures { result ≡ is_some (class_named (drop from classes.now) name.now) }
-{
-    let mut place = from;
-    while place < classes.len() {
-        if name == classes[place].name.as_str() {
-            return true;
-        }
-        place += 1;
-    }
-    false
+/// The numbers of the added classes, and the table of the extra classes by their names.
+#[derive(Drop)]
+struct Numbers {
+    added: Vec<usize>,
+    by_name: BTreeMap<String, usize>,
 }
 
-/// Whether the name of the extra class with this number stands among the base classes or later among the extra
-/// ones.
-fn is_known<C: Classes>(base: &C, extra: &[ClassSummary], number: usize) -> bool
-    requires { number < length extra.now }
-    ensures { (class : ClassSummary) → slice_get extra.now number ≡ Some class → result ≡ is_some (class_named (C.listed base.now ++ drop (number + 1) extra.now) class.name) }
-{
-    let name = extra[number].name.as_str();
-    base.find(name).is_some() || comes_from(extra, number + 1, name)
-}
-
-/// The numbers of the extra classes that the base lacks, of each name the last.
+/// The extra classes that count, found from the last to the first.
 fn numbers_of<C: Classes>(
     alloc: Global,
     base: &C,
     extra: &[ClassSummary],
-) -> Result<Vec<usize>, AllocError>
-    ensures { IfOk result (λ numbers. map (slice_get extra.now) numbers.items ≡ map Some (added (C.listed base.now) extra.now)) }
+) -> Result<Numbers, AllocError>
+    ensures added { IfOk result (λ n. map (slice_get extra.now) n.added.items ≡ map Some (added (C.listed base.now) extra.now)) }
+    ensures table { IfOk result (λ n. IsTable (C.listed base.now) extra.now extra.now (get_by_text n.by_name)) }
 {
-    let mut numbers = Vec::new(alloc);
-    for number in 0..extra.len() {
-        if is_known(base, extra, number) {
+    let mut added = Vec::new(alloc);
+    let mut by_name = BTreeMap::new(alloc);
+    let mut left = extra.len();
+    while left > 0 {
+        left -= 1;
+        let name = extra[left].name.as_str();
+        if by_name.contains_key(name) {
             continue;
         }
-        numbers.push(number)?;
-    }
-    Ok(numbers)
-}
-
-/// The place of the class of this name among the added ones.
-fn added_place<C: Classes>(
-    base: &C,
-    extra: &[ClassSummary],
-    numbers: &[usize],
-    name: &str,
-) -> Option<usize>
-    requires { IsMerging (C.listed base.now) extra.now numbers.now }
-    ensures { IsPlaceOf (added (C.listed base.now) extra.now) (class_named (added (C.listed base.now) extra.now) name.now) result }
-{
-    for place in 0..numbers.len() {
-        if name == extra[numbers[place]].name.as_str() {
-            return Some(place);
+        if base.find(name).is_some() {
+            put(alloc, &mut by_name, name, left)?;
+            continue;
         }
+        put(alloc, &mut by_name, name, added.len())?;
+        added.push(left)?;
     }
-    None
+    added.as_mut_slice().reverse();
+    Ok(Numbers { added, by_name })
 }
 
 impl<'a, C: Classes> Merged<'a, C> {
@@ -113,11 +96,16 @@ impl<'a, C: Classes> Merged<'a, C> {
     ) -> Result<Merged<'a, C>, AllocError>
         ensures { IfOk result (λ classes. classes ≡ merged (C.listed base.now) extra) }
     {
-        let added = numbers_of(alloc, base, extra.as_slice())?;
-        if added.len() > usize::MAX - base.count() {
+        let numbers = numbers_of(alloc, base, extra.as_slice())?;
+        if numbers.added.len() > usize::MAX - base.count() {
             return Err(AllocError);
         }
-        Ok(Merged { base, extra, added })
+        Ok(Merged {
+            base,
+            extra,
+            added: numbers.added,
+            by_name: numbers.by_name,
+        })
     }
 
     /// How many classes there are.
@@ -138,7 +126,7 @@ impl<'a, C: Classes> Merged<'a, C> {
             return &self.extra.as_slice()[self.added[place - kept]];
         }
         let class = self.base.at(place);
-        match last_place(self.extra.as_slice(), class.name.as_str()) {
+        match self.by_name.get(class.name.as_str()).copied() {
             Some(number) => &self.extra.as_slice()[number],
             None => class,
         }
@@ -151,8 +139,10 @@ impl<'a, C: Classes> Merged<'a, C> {
         if let Some(place) = self.base.find(name) {
             return Some(place);
         }
-        let place = added_place(self.base, self.extra.as_slice(), &self.added, name)?;
-        Some(self.base.count() + place)
+        match self.by_name.get(name).copied() {
+            Some(number) => Some(self.base.count() + (self.added.len() - 1 - number)),
+            None => None,
+        }
     }
 }
 

@@ -2,7 +2,7 @@ ghost use Rattle.std.specs.Prelude.{◌≡◌, ◌+◌, ◌<◌, ◌^◌, ◌++�
 ghost use Rattle.std.specs.List.{filter_map};
 ghost use Rattle.class_summary.specs.Variables.{IsNested, dims_of_bounds};
 ghost use Rattle.class_summary.specs.Names.{denoted_type};
-ghost use Rattle.class_summary.specs.SourceSummaries.{class_of, super_of, parent_of, last_supers, first_super, interfaces, supers_of, field_of, param_of, result_of, method_of, methods_from, nesting_of, summary_at, greatest, result_dims, params_dims, method_dims, type_dims, IsSourceSummary};
+ghost use Rattle.class_summary.specs.SourceSummaries.{class_of, super_of, parent_of, last_supers, names_super, first_super, interfaces, supers_of, field_of, param_of, result_of, method_of, methods_from, nesting_of, summary_at, greatest, result_dims, params_dims, method_dims, type_dims, IsSourceSummary};
 
 use crate::classes::Classes;
 use crate::naming::resolve_at;
@@ -197,6 +197,19 @@ fn methods_of<C: Classes>(
     Ok(kept)
 }
 
+/// Whether a superclass is named and counts: a class alone may name one.
+fn names_super(declared: &SourceClass) -> bool
+    ensures { result ≡ names_super declared.now }
+{
+    match declared.kind {
+        ClassKind::ClassDecl => declared.names_parent,
+        ClassKind::InterfaceDecl => false,
+        ClassKind::EnumDecl => false,
+        ClassKind::RecordDecl => false,
+        ClassKind::AnnotationDecl => false,
+    }
+}
+
 /// The superclass that a class names, where that is a class; else the one of its kind.
 #[tactic(auto, unfolding(crate::specs::SourceSummaries::first_super))]
 fn first_super<C: Classes>(
@@ -210,7 +223,7 @@ fn first_super<C: Classes>(
     requires dims { greatest (λ t. t.dims) declared.now.supers + dims_of_bounds unit.now.classes < 2 ^ 64 }
     ensures { IfOk result (λ name. name ≡ first_super unit.now class (C.listed known.now) declared.now) }
 {
-    if !declared.names_parent {
+    if !names_super(declared) {
         return Text::from_str(alloc, parent_of(declared.kind));
     }
     let Some(parent) = declared.supers.get(0) else {

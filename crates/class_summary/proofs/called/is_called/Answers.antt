@@ -1,4 +1,4 @@
-use Rattle.std.proofs.Common.{rules, ◌≡◌, ◌∙◌, ◌-◌, ◌++◌, ◌∷◌, List, ℕ, sym, ap, subst, arith, length, bytes_eq}
+use Rattle.std.proofs.Common.{rules, ◌≡◌, ◌∙◌, ◌-◌, ◌++◌, ◌∷◌, List, ℕ, sym, ap, arith, length, bytes_eq}
 use Rattle.class_summary.specs.Known.{canonical, canonical_by, dotted}
 use Rattle.class_summary.specs.Outwards.{outwards}
 use Rattle.class_summary.proofs.CalledTexts.{called_first, called_none, called_not, called_on, called_end, outward_none, outward_some}

@@ -1,4 +1,4 @@
-use Rattle.std.proofs.Common.{◌≡◌, ◌∙◌, ap, sym, true, false, Some, get_or, rules}
+use Rattle.std.proofs.Common.{◌≡◌, ◌∙◌, ap, true, false, Some, get_or, rules}
 use Rattle.class_summary.specs.Names.{ends_with}
 use Rattle.class_summary.proofs.Searches.{import_hit, import_on, import_end}
 use Rattle.class_summary.proofs.rules.imported.Goals as goal

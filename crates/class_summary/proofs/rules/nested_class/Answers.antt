@@ -1,4 +1,4 @@
-use Rattle.std.proofs.Common.{◌≡◌, ◌∙◌, ◌-◌, sym, arith, drop}
+use Rattle.std.proofs.Common.{◌∙◌, ◌-◌, sym, arith, drop}
 use Rattle.class_summary.specs.Names.{nested_class}
 use Rattle.class_summary.proofs.Nested.{best_first, best_past, best_hit, best_end, best_in}
 use Rattle.class_summary.proofs.rules.nested_class.Goals as goal

@@ -1,4 +1,4 @@
-use Rattle.std.proofs.Common.{ℕ, ◌∙◌, ap, sym, length, bytes_eq, rules}
+use Rattle.std.proofs.Common.{◌∙◌, ap, sym, length, bytes_eq, rules}
 use Rattle.class_summary.specs.Sources.{canonical_name}
 use Rattle.class_summary.proofs.Searches.{number_first, number_hit, number_on, number_end}
 use Rattle.class_summary.proofs.rules.own_called.Goals as goal

@@ -1,4 +1,4 @@
-use Rattle.std.proofs.Common.{◌≡◌, ◌∙◌, ap, [], ◌^◌, get_or, rules}
+use Rattle.std.proofs.Common.{◌∙◌, ap, [], ◌^◌, rules}
 use Rattle.java_units.specs.declared.types.SourceField.{SourceField}
 use Rattle.class_summary.specs.Variables.{dims_of_bounds}
 use Rattle.class_summary.specs.SourceSummaries.{field_of}

@@ -1,6 +1,4 @@
-use Rattle.std.proofs.Common.{◌∙◌, ◌^◌, ap, sym, get_or, rules, List}
-use Rattle.std.proofs.lemmas.Option.{get_or_from_slice_get}
-use Rattle.java_units.specs.declared.types.SourceClass.{SourceClass}
+use Rattle.std.proofs.Common.{◌∙◌, ◌^◌, ap}
 use Rattle.class_summary.specs.Variables.{dims_of_bounds}
 use Rattle.class_summary.specs.SourceSummaries.{type_dims, summary_at}
 use Rattle.class_summary.proofs.Greatest.{class_fits, class_is}

@@ -1,4 +1,4 @@
-use Rattle.std.proofs.Common.{◌≡◌, ◌∙◌, ap, sym, map, reverse, rules}
+use Rattle.std.proofs.Common.{◌∙◌, ap, sym, map, reverse}
 use Rattle.class_summary.specs.Sources.{around}
 use Rattle.class_summary.specs.Variables.{class_scope, method_scope, scopes_at}
 use Rattle.class_summary.proofs.Bounds.{turned, turned_push}
