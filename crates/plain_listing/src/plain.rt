@@ -1,4 +1,4 @@
-ghost use Rattle.std.specs.Prelude.{◌≡◌, ◌+◌, IfOk, IfSome, IfNone, OnErr};
+ghost use Rattle.std.specs.Prelude.{◌≡◌, ◌+◌, ◌-◌, IfOk, IfSome, IfNone, OnErr};
 ghost use Rattle.terms.specs.Listing.{Progress, IsNextLevel, Skipped};
 
 use crate::tables::Tables;
@@ -48,6 +48,8 @@ impl Plain {
 
 impl Levels for Plain {
     ghost progress = { λ p. p };
+
+    ghost reached = { λ p. p.from - 1 };
 
     ghost popped = { λ _. 0 };
 

@@ -5,7 +5,7 @@ use Rattle.std.proofs.lemmas.List.Elements.{All-head, All-tail, All-weaker}
 use Rattle.std.specs.List.Sorted.{IsPermutation}
 use Rattle.terms.specs.Count.{count, once_if, expr_eq}
 use Rattle.terms.specs.Expr.{Expr}
-use Rattle.terms.specs.Listing.{IsNextLevel, Skipped, level_of}
+use Rattle.terms.specs.Listing.{IsNextLevel, Skipped, level_of, IsNextWeight}
 use Rattle.terms.specs.Place.{HasRoom, goal_place, fits_place, weigh}
 use Rattle.terms.specs.View.{expr}
 use Rattle.terms.specs.declared.parts.Parts.{Parts}
@@ -17,7 +17,7 @@ use Rattle.reconstruction.specs.Fronts.{reading}
 use Rattle.reconstruction.specs.Tabled.{front_of}
 use Rattle.reconstruction.specs.Levelled.{AreComplete, IsAt, IsLeastHeld, with_held}
 use Rattle.reconstruction.specs.Built.{IsEnded, IsTermOf, AreTermsOf}
-use Rattle.reconstruction.specs.Rebuilding.{IsOn, HoldsKey, IsBegun, IsNextWeight}
+use Rattle.reconstruction.specs.Rebuilding.{IsOn, HoldsKey, IsBegun}
 use Rattle.reconstruction.specs.declared.item.Arena.{Arena}
 use Rattle.reconstruction.specs.declared.item.Item.{Item}
 use Rattle.reconstruction.specs.declared.tables.Tables.{Tables}

@@ -27,13 +27,6 @@ pub record IsOn (t : Tables) (from level : ℕ) (found : List ℕ) : Type 0 wher
   pub within : level ≤ t.env.limit
   pub begun : found ≢ [] → from ≤ level
 
--- the weight of the next level
-pub record IsNextWeight (g : Parts) (from k : ℕ) : Type 0 where
-  pub after : from ≤ k
-  pub within : k ≤ g.limit
-  pub before : Skipped g from k
-  pub some : (e : Expr) × (level_of g k e ≡ true)
-
 -- the item that is held has this key
 abbrev pub HoldsKey : ℕ → Option (ℕ × Item) → Type 0
 HoldsKey k None = ⊥

@@ -1,10 +1,7 @@
 ghost use Rattle.std.specs.Prelude.{◌≡◌, ◌⊎◌, ◌+◌, ◌≤◌, List, length, IfOk, IfSome, IfNone, OnErr};
-ghost use Rattle.terms.specs.Code.{prefix_code};
-ghost use Rattle.terms.specs.Count.{Stands, total};
 ghost use Rattle.terms.specs.Expr.{Expr};
-ghost use Rattle.terms.specs.Listing.{Progress, IsNextLevel, Skipped};
-ghost use Rattle.terms.specs.Place.{IsInhabitant, total_of};
-ghost use Rattle.reconstruction.specs.Rebuilding.{AreGiven, IsNextWeight};
+ghost use Rattle.terms.specs.Listing.{Progress, AreFew, IsNextLevel, IsNextWeight, Skipped};
+ghost use Rattle.reconstruction.specs.Rebuilding.{AreGiven};
 
 use crate::building::terms_of;
 use crate::chains::Chains;
@@ -120,7 +117,7 @@ impl Rebuild {
     /// There are no fewer of them than terms given: each was popped when it was whole.
     pub fn popped_items(&self) -> u64
         ensures count { result ≡ self.now.pops }
-        ensures few { (es : List Expr) → ((e : Expr) → IsInhabitant self.now.progress.parts e → total_of self.now.progress.parts e ≤ self.now.reached → Stands e es) → result ≤ 1 + total (λ e. length (prefix_code e) + 1) es }
+        ensures few { AreFew self.now.progress.parts self.now.reached result }
         ensures many { (es : List Expr) → AreGiven self.now.progress es → (length es ≤ result) ⊎ (result ≡ 18446744073709551615) }
     {
         self.queue.pops()
@@ -129,6 +126,8 @@ impl Rebuild {
 
 impl Levels for Rebuild {
     ghost progress = { λ r. r.progress };
+
+    ghost reached = { λ r. r.reached };
 
     ghost popped = { λ r. r.pops };
 

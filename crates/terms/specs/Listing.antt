@@ -1,10 +1,11 @@
 -- The list of an environment: its levels, its fronts and the whole of it.
-use Rattle.std.specs.Prelude.{◌≡◌, ℕ, ◌≤◌, ◌<◌, Bool, false, ◌&&◌, ◌==◌, List, [], ◌∷◌, All, map, ◌≢◌}
+use Rattle.std.specs.Prelude.{◌≡◌, ℕ, ◌+◌, ◌≤◌, ◌<◌, Bool, true, false, ◌&&◌, ◌==◌, List, [], ◌∷◌, All, length, map, ◌≢◌}
 use Rattle.terms.specs.Expr.{Expr}
 use Rattle.terms.specs.View.{expr}
 use Rattle.terms.specs.Place.{IsInhabitant, is_inhabitant, total_of}
 use Rattle.terms.specs.Order.{ComesBefore}
-use Rattle.terms.specs.Count.{expr_eq, once_if, count, Stands}
+use Rattle.terms.specs.Code.{prefix_code}
+use Rattle.terms.specs.Count.{expr_eq, once_if, count, total, Stands}
 use Rattle.terms.specs.declared.parts.Parts.{Parts}
 use Rattle.terms.specs.declared.levels.Level.{Level}
 
@@ -31,6 +32,17 @@ level_of g w e = is_inhabitant g e && (total_of g e == w)
 -- no weight from the one up to the other has an inhabitant
 abbrev pub Skipped : Parts → ℕ → ℕ → Type 0
 Skipped g from to = (w : ℕ) → from ≤ w → w < to → (e : Expr) → level_of g w e ≡ false
+
+-- the least weight, from `from` on, of which there is an inhabitant
+pub record IsNextWeight (g : Parts) (from k : ℕ) : Type 0 where
+  pub after : from ≤ k
+  pub within : k ≤ g.limit
+  pub before : Skipped g from k
+  pub some : (e : Expr) × (level_of g k e ≡ true)
+
+-- so many steps are few up to a weight: 1 and, for each inhabitant up to it, its numbers and 1
+abbrev pub AreFew : Parts → ℕ → ℕ → Type 0
+AreFew g w steps = (es : List Expr) → ((e : Expr) → IsInhabitant g e → total_of g e ≤ w → Stands e es) → steps ≤ 1 + total (λ e. length (prefix_code e) + 1) es
 
 -- how far a search has come: the levels of all weights below `from` were given
 pub record Progress : Type 0 where

@@ -1,5 +1,5 @@
-ghost use Rattle.std.specs.Prelude.{◌≡◌, ◌+◌, ◌≤◌, ℕ, IfOk, IfSome, IfNone, OnErr};
-ghost use Rattle.terms.specs.Listing.{Progress, IsNextLevel, Skipped};
+ghost use Rattle.std.specs.Prelude.{◌≡◌, ◌⊎◌, ◌+◌, ◌≤◌, ℕ, IfOk, IfSome, IfNone, OnErr};
+ghost use Rattle.terms.specs.Listing.{Progress, AreFew, IsNextLevel, IsNextWeight, Skipped};
 
 use crate::env::Env;
 use crate::term::Term;
@@ -19,12 +19,15 @@ pub struct Level {
 pub trait Levels: Sized {
     ghost progress: { Self → Progress };
 
+    /// The weight of the level that was begun last, or 0.
+    ghost reached: { Self → ℕ };
+
     ghost popped: { Self → ℕ };
 
     /// A search that has given nothing yet. It owns the environment.
     fn over(alloc: Global, env: Env) -> Result<Self, AllocError>
         ensures start { IfOk result (λ levels. progress levels ≡ record { parts = env; from = 0 }) }
-        ensures fresh { IfOk result (λ levels. popped levels ≡ 0) };
+        ensures fresh { IfOk result (λ levels. (reached levels ≡ 0) × (popped levels ≡ 0)) };
 
     /// The environment that was handed in.
     fn env(&self) -> &Env
@@ -40,9 +43,14 @@ pub trait Levels: Sized {
             Skipped (progress self.old).parts (progress self.old).from ((progress self.old).parts.limit + 1)
             × (progress self.new ≡ progress self.old))) }
         ensures same_level_again { OnErr result (progress self.new ≡ progress self.old) }
+        ensures reached { IfOk result (λ found. IfSome found (λ level. reached self.new ≡ level.weight)) }
+        ensures not_further { IfOk result (λ found. IfNone found (reached self.new ≡ reached self.old)) }
+        ensures being_made { OnErr result ((reached self.new ≡ reached self.old)
+            ⊎ IsNextWeight (progress self.old).parts (progress self.old).from (reached self.new)) }
         ensures pops_rise { popped self.old ≤ popped self.new };
 
     /// How many steps the search has taken, where it counts them, else 0. The count stays at 2^64 - 1.
     fn pops(&self) -> u64
-        ensures { result ≡ popped self.now };
+        ensures count { result ≡ popped self.now }
+        ensures few { AreFew (progress self.now).parts (reached self.now) result };
 }

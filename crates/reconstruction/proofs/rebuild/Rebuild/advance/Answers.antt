@@ -1,10 +1,10 @@
 use Rattle.std.proofs.Common.{◌≡◌, ◌+◌, ◌<◌, max, ℕ, length, List, All, map, refl, sym, subst, ◌∙◌, arith}
-use Rattle.terms.specs.Listing.{Progress, IsNextLevel, Skipped}
+use Rattle.terms.specs.Listing.{Progress, IsNextLevel, Skipped, IsNextWeight}
 use Rattle.terms.specs.View.{expr}
 use Rattle.terms.specs.declared.parts.Parts.{Parts}
 use Rattle.reconstruction.specs.Built.{IsEnded, AreTermsOf}
 use Rattle.reconstruction.specs.Levelled.{with_held}
-use Rattle.reconstruction.specs.Rebuilding.{Rebuilding, IsBegun, IsNextWeight}
+use Rattle.reconstruction.specs.Rebuilding.{Rebuilding, IsBegun}
 use Rattle.reconstruction.specs.Tabled.{front_of}
 use Rattle.reconstruction.proofs.Making.{moved_at}
 use Rattle.reconstruction.proofs.Rounds.{are_ended, begun_by, none_left, on_begun, at_begun, next_weight_of, on_next, next_level, at_after, below_top}
