@@ -30,6 +30,7 @@ pub mod Folds
 pub mod Stacks
 pub mod Unstacking
 pub mod Rounds
+pub mod Partials
 pub mod Remaining
 pub mod Giving
 pub mod Tallies

@@ -51,7 +51,7 @@ weighed g k (f ∷ fs) (e ∷ es) all h =
     let P : List ℕ → Type 0 = λ x. reading g (goal_place g) x ≡ whole k in
     (h.0.coded, h.0.fit, term_weighs g k f e (All-head P f fs all) h.0, weighed g k fs es (All-tail P f fs all) h.1)
 
-one_whole : (g : Parts) (k : ℕ) (f : List ℕ) → HasRoom (goal_place g) → reading g (goal_place g) f ≡ whole k → OneTerm g (goal_place g) k f
+pub one_whole : (g : Parts) (k : ℕ) (f : List ℕ) → HasRoom (goal_place g) → reading g (goal_place g) f ≡ whole k → OneTerm g (goal_place g) k f
 unfolding reading
 one_whole g k f room is = one_read g (goal_place g) k f room is
 

@@ -11,5 +11,6 @@ pub mod Variables
 pub mod Levelled
 pub mod Built
 pub mod Rebuilding
+pub mod Partial
 pub mod Tallied
 pub mod Made

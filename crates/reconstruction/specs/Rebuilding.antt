@@ -4,17 +4,29 @@ use Rattle.terms.specs.Count.{count, expr_eq}
 use Rattle.terms.specs.Expr.{Expr}
 use Rattle.terms.specs.Listing.{Progress, Skipped, level_of}
 use Rattle.terms.specs.Place.{IsInhabitant, total_of}
-use Rattle.terms.specs.declared.parts.Parts.{Parts}
 use Rattle.reconstruction.specs.Levelled.{IsAt}
+use Rattle.reconstruction.specs.Tabled.{front_of}
 use Rattle.reconstruction.specs.declared.item.Item.{Item}
 use Rattle.reconstruction.specs.declared.item.Arena.{Arena}
 use Rattle.reconstruction.specs.declared.tables.Tables.{Tables}
 
--- how far a search has come, the weight of the level that was begun last, or 0, and how often it popped
+-- how far a search has come, the weight of the level that was begun last, or 0, and how often it popped; the keyed
+-- partial terms of its queue, the one that is held, and the whole codes found of the level that is being made
 pub record Rebuilding : Type 0 where
   pub progress : Progress
   pub reached : ℕ
   pub pops : ℕ
+  pub queue : List (ℕ × List ℕ)
+  pub held : Option (ℕ × List ℕ)
+  pub level : List (List ℕ)
+
+-- the key and the front of an item
+abbrev pub shown : Arena → ℕ × Item → ℕ × List ℕ
+shown a q = (q.0, front_of a q.1.front)
+
+abbrev pub held_shown : Arena → Option (ℕ × Item) → Option (ℕ × List ℕ)
+held_shown a None = None
+held_shown a (Some q) = Some (shown a q)
 
 -- different terms that were given: inhabitants of weights below that from which levels are left
 pub record AreGiven (p : Progress) (es : List Expr) : Type 0 where

@@ -1,7 +1,9 @@
-ghost use Rattle.std.specs.Prelude.{◌≡◌, ◌⊎◌, ◌+◌, ◌≤◌, List, length, IfOk, IfSome, IfNone, OnErr};
+ghost use Rattle.std.specs.Prelude.{◌≡◌, ◌⊎◌, ◌+◌, ◌≤◌, ◌++◌, All, List, length, IfOk, IfSome, IfNone, OnErr};
 ghost use Rattle.terms.specs.Expr.{Expr};
-ghost use Rattle.terms.specs.Listing.{Progress, AreFew, IsNextLevel, IsNextWeight, Skipped};
+ghost use Rattle.terms.specs.Listing.{AreFew, IsNextLevel, IsNextWeight, Skipped};
+ghost use Rattle.reconstruction.specs.Partial.{AreDivided, IsCode, least_completion, waiting};
 ghost use Rattle.reconstruction.specs.Rebuilding.{AreGiven};
+ghost use Rattle.reconstruction.specs.Search.{fronts};
 
 use crate::building::terms_of;
 use crate::chains::Chains;
@@ -36,13 +38,21 @@ pub struct Rebuild {
 
 impl Model for Rebuild {
     ghost use Rattle.reconstruction.specs.Levelled.{AreComplete, IsAt, IsLeastHeld, with_held};
-    ghost use Rattle.reconstruction.specs.Rebuilding.{Rebuilding, IsOn};
+    ghost use Rattle.reconstruction.specs.Rebuilding.{Rebuilding, IsOn, held_shown};
+    ghost use Rattle.reconstruction.specs.Tabled.{front_of, seen};
     ghost use Rattle.reconstruction.specs.Tallied.{AreTallied};
-    ghost use Rattle.std.specs.Prelude.{max};
+    ghost use Rattle.std.specs.Prelude.{map, max};
 
     ghost Value = { Rebuilding };
 
-    ghost view = { λ r. record { progress = record { parts = r.tables.env; from = r.from }; reached = r.level; pops = r.queue.pops } };
+    ghost view = { λ r. record {
+      progress = record { parts = r.tables.env; from = r.from };
+      reached = r.level;
+      pops = r.queue.pops;
+      queue = seen r.arena r.queue.items;
+      held = held_shown r.arena r.held;
+      level = map (front_of r.arena) r.found.items;
+    } };
 
     ghost invariant = { λ r. AreComplete r.tables × IsAt r.tables r.arena (max r.from r.level) (with_held r.held r.queue.items) r.found.items × IsLeastHeld r.held r.queue.items × IsOn r.tables r.from r.level r.found.items × AreTallied r.tables r.arena r.level r.held r.queue.items r.queue.pops };
 }
@@ -50,7 +60,8 @@ impl Model for Rebuild {
 impl Rebuild {
     /// A search that has given nothing yet and popped nothing. It owns the environment.
     pub fn new(alloc: Global, env: Env) -> Result<Rebuild, AllocError>
-        ensures start { IfOk result (λ search. search ≡ record { progress = record { parts = env; from = 0 }; reached = 0; pops = 0 }) }
+        ensures start { IfOk result (λ search. search.progress ≡ record { parts = env; from = 0 }) }
+        ensures fresh { IfOk result (λ search. (search.reached ≡ 0) × (search.pops ≡ 0)) }
     {
         let tables = tables_of(alloc, env)?;
         let mut arena = Arena {
@@ -121,6 +132,19 @@ impl Rebuild {
         ensures many { (es : List Expr) → AreGiven self.now.progress es → (length es ≤ result) ⊎ (result ≡ 18446744073709551615) }
     {
         self.queue.pops()
+    }
+
+    /// How many partial terms the queue holds. Each of them, and the one that is held beside it, has a completion,
+    /// and its key is the least total of its completions. Each inhabitant that isn't given yet completes exactly
+    /// one of the queue's items, the item that is held and the terms found of the level that is being made, if
+    /// want of memory has stopped it.
+    pub fn queued_items(&self) -> usize
+        ensures count { result ≡ length self.now.queue }
+        ensures alive { All (λ item. least_completion self.now.progress.parts item.1 item.0) (waiting self.now) }
+        ensures found { All (IsCode self.now.progress.parts self.now.reached) self.now.level }
+        ensures divided { AreDivided self.now.progress (fronts (waiting self.now) ++ self.now.level) }
+    {
+        self.queue.len()
     }
 }
 

@@ -147,7 +147,8 @@ fn rebuilt_levels(alloc: Global, case: &Case<'_>) -> Result<bool, EnvFault> {
     }
     let end = search.next_level(alloc)?.is_none();
     let few = search.pops() <= case.pops && search.pops() >= terms;
-    Ok(end && few && search.env().parts().goal == case.goal)
+    let dry = search.queued_items() == 0;
+    Ok(end && few && dry && search.env().parts().goal == case.goal)
 }
 
 fn plain_levels(alloc: Global, case: &Case<'_>) -> Result<bool, EnvFault> {

@@ -35,7 +35,7 @@ IsSuper known a b = IsOneOf b (supers_of known a)
 abbrev pub IsSuperStep : KnownClasses → List ℕ → List ℕ → Type 0
 IsSuperStep known a b = (a ≢ object) × IsSuper known a b × (Leads (IsSuper known) b a → ⊥)
 
--- A class other than Object to one of its supers, or to Object.
+-- A class other than Object to one of its supers that does not lead back to it, or to Object.
 abbrev pub IsClassStep : KnownClasses → List ℕ → List ℕ → Type 0
 IsClassStep known a b = IsSuperStep known a b ⊎ ((a ≢ object) × (b ≡ object))
 

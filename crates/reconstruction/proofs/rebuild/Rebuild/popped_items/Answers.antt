@@ -11,10 +11,9 @@ pub returns-clause-few : goal.returns-clause-few
 returns-clause-few c = λ es all.
     let t = c.self.inside.tables in
     let P : Rebuilding → Type 0 = λ v. (es : List Expr) → ((e : Expr) → IsInhabitant v.progress.parts e → total_of v.progress.parts e ≤ v.reached → Stands e es) → c.pops.result ≤ 1 + total (λ e. length (prefix_code e) + 1) es in
-    let here : P (record { progress = record { parts = t.env; from = c.self.inside.from }; reached = c.self.inside.level; pops = c.self.inside.queue.pops }) = λ es all.
+    subst P c.self.view_is (λ es all.
     let few = tally_few t c.self.inside.arena c.self.inside.level c.self.inside.held c.self.inside.queue.items c.self.inside.queue.pops c.self.invariant.4 c.self.invariant.3.within es all in
-    omega (arith, few, c.pops.ensures.count) in
-    subst P c.self.view_is here es all
+    omega (arith, few, c.pops.ensures.count)) es all
 
 abbrev many_of : List Expr → ℕ → Type 0
 many_of es n = (length es ≤ n) ⊎ (n ≡ 18446744073709551615)
@@ -23,6 +22,5 @@ pub returns-clause-many : goal.returns-clause-many
 returns-clause-many c = λ es given.
     let t = c.self.inside.tables in
     let P : Rebuilding → Type 0 = λ v. (es : List Expr) → AreGiven v.progress es → (length es ≤ c.pops.result) ⊎ (c.pops.result ≡ 18446744073709551615) in
-    let here : P (record { progress = record { parts = t.env; from = c.self.inside.from }; reached = c.self.inside.level; pops = c.self.inside.queue.pops }) = λ es given.
-    subst (many_of es) (sym c.pops.ensures.count) (tally_many t c.self.inside.arena c.self.inside.from (max c.self.inside.from c.self.inside.level) c.self.inside.level c.self.inside.held c.self.inside.queue.items c.self.inside.found.items c.self.inside.queue.pops c.self.invariant.4 c.self.invariant.1 (omega arith) es given) in
-    subst P c.self.view_is here es given
+    subst P c.self.view_is (λ es given.
+    subst (many_of es) (sym c.pops.ensures.count) (tally_many t c.self.inside.arena c.self.inside.from (max c.self.inside.from c.self.inside.level) c.self.inside.level c.self.inside.held c.self.inside.queue.items c.self.inside.found.items c.self.inside.queue.pops c.self.invariant.4 c.self.invariant.1 (omega arith) es given)) es given
