@@ -132,37 +132,62 @@ fn is_level(level: &Level, weight: u32, codes: &[&[u64]]) -> bool {
     level.weight == weight && level.terms.len() == codes.len()
 }
 
-fn rebuilt_levels(alloc: Global, case: &Case<'_>) -> Result<bool, EnvFault> {
-    let mut search = Rebuild::over(alloc, env(alloc, case)?)?;
-    let mut terms: u64 = 0;
-    for (weight, codes) in case.levels {
-        let is_next = match search.next_level(alloc)? {
-            Some(level) => is_level(&level, *weight, codes),
-            None => false,
-        };
-        if !is_next {
+/// Whether the next level has this weight and these terms.
+fn gives<L: Levels>(
+    alloc: Global,
+    search: &mut L,
+    weight: u32,
+    codes: &[&[u64]],
+) -> Result<bool, AllocError> {
+    match search.next_level(alloc)? {
+        Some(level) => Ok(is_level(&level, weight, codes)),
+        None => Ok(false),
+    }
+}
+
+fn is_at_end<L: Levels>(alloc: Global, search: &mut L) -> Result<bool, AllocError> {
+    Ok(search.next_level(alloc)?.is_none())
+}
+
+/// Whether these levels come next, and then no other.
+fn gives_all<L: Levels>(
+    alloc: Global,
+    search: &mut L,
+    levels: &[(u32, &[&[u64]])],
+) -> Result<bool, AllocError> {
+    for (weight, codes) in levels {
+        if !gives(alloc, search, *weight, codes)? {
             return Ok(false);
         }
+    }
+    is_at_end(alloc, search)
+}
+
+/// How many terms these levels have.
+fn terms_in(levels: &[(u32, &[&[u64]])]) -> u64 {
+    let mut terms: u64 = 0;
+    for (_, codes) in levels {
         terms = terms.saturating_add(codes.len() as u64);
     }
-    let end = search.next_level(alloc)?.is_none();
-    let few = search.pops() <= case.pops && search.pops() >= terms;
-    let dry = search.queued_items() == 0;
-    Ok(end && few && dry && search.env().parts().goal == case.goal)
+    terms
+}
+
+/// Whether the search has popped its number of items, and none is left.
+fn is_spent(search: &Rebuild, case: &Case<'_>) -> bool {
+    search.pops() <= case.pops
+        && search.pops() >= terms_in(case.levels)
+        && search.queued_items() == 0
+}
+
+fn rebuilt_levels(alloc: Global, case: &Case<'_>) -> Result<bool, EnvFault> {
+    let mut search = Rebuild::over(alloc, env(alloc, case)?)?;
+    let all = gives_all(alloc, &mut search, case.levels)?;
+    Ok(all && is_spent(&search, case) && search.env().parts().goal == case.goal)
 }
 
 fn plain_levels(alloc: Global, case: &Case<'_>) -> Result<bool, EnvFault> {
     let mut search = Plain::over(alloc, env(alloc, case)?)?;
-    for (weight, codes) in case.levels {
-        let is_next = match search.next_level(alloc)? {
-            Some(level) => is_level(&level, *weight, codes),
-            None => false,
-        };
-        if !is_next {
-            return Ok(false);
-        }
-    }
-    Ok(search.next_level(alloc)?.is_none())
+    Ok(gives_all(alloc, &mut search, case.levels)?)
 }
 
 /// Both searches give just these levels.
