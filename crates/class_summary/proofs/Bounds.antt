@@ -6,10 +6,11 @@ use Rattle.std.proofs.lemmas.Bool.{false_from_ne_true}
 use Rattle.std.proofs.lemmas.Slice.Eq.{bytes_eq-Decides}
 use Rattle.java_units.specs.declared.types.TypeText.{TypeText}
 use Rattle.java_units.specs.declared.types.TypeVar.{TypeVar}
+use Rattle.java_units.specs.Dimensions.{over_vars, bound_dims}
 use Rattle.class_summary.specs.declared.variables.Scope.{Scope}
 use Rattle.class_summary.specs.declared.variables.End.{End}
 use Rattle.class_summary.specs.declared.variables.Met.{Met}
-use Rattle.class_summary.specs.Variables.{bound_of, unbounded, without_bound, Found, found_here, variable_in, variable_of, end_at, by_bound, by_variable, through, over_vars, over_scopes, one_bound, bound_dims, IsMet, IsPlaceOfVar}
+use Rattle.class_summary.specs.Variables.{bound_of, unbounded, without_bound, Found, found_here, variable_in, variable_of, end_at, by_bound, by_variable, through, over_scopes, one_bound, IsMet, IsPlaceOfVar}
 
 bound-hit : (name : List ℕ) (v : TypeVar) (vs : List TypeVar) → name ≡ v.name → bound_of name (v ∷ vs) ≡ Some v.bound
 unfolding bound_of

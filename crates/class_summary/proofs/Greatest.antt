@@ -4,9 +4,10 @@ use Rattle.std.proofs.lemmas.List.{drop_all, drop_more}
 use Rattle.std.proofs.lemmas.Option.{get_or_from_slice_get}
 use Rattle.java_units.specs.declared.types.SourceMethod.{SourceMethod}
 use Rattle.java_units.specs.declared.types.Unit as unit
+use Rattle.java_units.specs.Dimensions.{greatest}
 use Rattle.class_summary.specs.declared.summary.ClassSummary.{ClassSummary}
 use Rattle.class_summary.specs.declared.summary.MethodSummary.{MethodSummary}
-use Rattle.class_summary.specs.SourceSummaries.{greatest, method_of, methods_from}
+use Rattle.class_summary.specs.SourceSummaries.{method_of, methods_from}
 
 pub greatest_at : {A : Type 0} (f : A → ℕ) (xs : List A) (i : ℕ) (d : A) → i < length xs → f (get_or xs i d) ≤ greatest f xs
 greatest_at f [] i d l = absurd (omega arith)

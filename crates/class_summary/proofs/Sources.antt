@@ -1,8 +1,8 @@
 -- The classes around a class.
 use Rattle.std.proofs.Common.{◌≡◌, ◌∙◌, ap, sym, refl, arith, subst, ℕ, zero, suc, ◌+◌, ◌-◌, ◌<◌, ◌≤◌, List, [], ◌∷◌, ◌++◌, append-nil, append_assoc, slice_get, Option, Some, None}
 use Rattle.java_units.specs.declared.types.SourceClass.{SourceClass}
-use Rattle.class_summary.specs.Sources.{outer_number, around_by}
-use Rattle.class_summary.specs.Variables.{IsNested}
+use Rattle.java_units.specs.UnitLaws.{outer_number, IsNested}
+use Rattle.class_summary.specs.Sources.{around_by}
 
 pub around-none : (n : ℕ) (cs : List SourceClass) → around_by n cs None ≡ []
 unfolding around_by

@@ -2,9 +2,11 @@
 use Rattle.std.proofs.Common.{◌≡◌, ◌∙◌, ap, sym, refl, arith, ℕ, zero, suc, ◌+◌, ◌-◌, ◌<◌, ◌≤◌, List, [], ◌∷◌, length, map, slice_get, Option, Some, None}
 use Rattle.java_units.specs.declared.types.SourceMethod.{SourceMethod}
 use Rattle.java_units.specs.declared.types.SourceClass.{SourceClass}
+use Rattle.java_units.specs.UnitLaws.{outer_number, IsNested}
+use Rattle.java_units.specs.Dimensions.{total, over_vars, bound_dims, class_dims, dims_of_bounds}
 use Rattle.class_summary.specs.declared.variables.Scope.{Scope}
-use Rattle.class_summary.specs.Sources.{outer_number, around_by}
-use Rattle.class_summary.specs.Variables.{total, over_vars, over_scopes, bound_dims, class_dims, dims_of_bounds, class_vars, method_vars, method_in, class_scope, scopes_at, IsNested}
+use Rattle.class_summary.specs.Sources.{around_by}
+use Rattle.class_summary.specs.Variables.{over_scopes, class_vars, method_vars, method_in, class_scope, scopes_at}
 use Rattle.class_summary.proofs.Sources.{around-none}
 
 -- the sum of the first n

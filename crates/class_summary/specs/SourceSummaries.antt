@@ -116,25 +116,6 @@ summary_at u i known c = record {
   methods = methods_from u i known 0 c.methods;
 }
 
--- The greatest of these numbers.
-abbrev pub greatest : {A : Type 0} → (A → ℕ) → List A → ℕ
-greatest f [] = 0
-greatest f (x ∷ xs) = max (f x) (greatest f xs)
-
-abbrev pub result_dims : Option TypeText → ℕ
-result_dims None = 0
-result_dims (Some t) = t.dims
-
-abbrev pub params_dims : List Param → ℕ
-params_dims ps = greatest (λ p. p.kind.dims) ps
-
-abbrev pub method_dims : SourceMethod → ℕ
-method_dims m = max (params_dims m.params) (result_dims m.result)
-
--- The greatest dimensions of a type that a class names.
-abbrev pub type_dims : SourceClass → ℕ
-type_dims c = max (greatest (λ t. t.dims) c.supers) (max (greatest (λ f. f.kind.dims) c.fields) (greatest method_dims c.methods))
-
 -- This is the summary of the class number i.
 abbrev pub IsSourceSummary : unit.Unit → ℕ → List ClassSummary → ClassSummary → Type 0
 IsSourceSummary u i known summary = (c : SourceClass) → slice_get u.classes i ≡ Some c → summary ≡ summary_at u i known c

@@ -3,6 +3,7 @@ use Rattle.std.specs.Prelude.{ℕ, zero, suc, List, [], ◌∷◌, ◌++◌, len
 use Rattle.std.specs.List.{flat_map}
 use Rattle.java_units.specs.declared.types.SourceClass.{SourceClass}
 use Rattle.java_units.specs.declared.types.Unit as unit
+use Rattle.java_units.specs.UnitLaws.{outer_number}
 
 -- Parts, each behind a separator.
 abbrev pub followed : List ℕ → List (List ℕ) → List ℕ
@@ -12,10 +13,6 @@ followed sign parts = flat_map (λ p. sign ++ p) parts
 unfoldable pub joined : List ℕ → List (List ℕ) → List ℕ
 joined sign [] = []
 joined sign (p ∷ ps) = p ++ followed sign ps
-
-abbrev pub outer_number : Option SourceClass → Option ℕ
-outer_number None = None
-outer_number (Some c) = c.outer
 
 abbrev pub own_name : Option SourceClass → List ℕ
 own_name None = []

@@ -4,7 +4,8 @@ use Rattle.java_units.specs.declared.types.TypeText.{TypeText}
 use Rattle.java_units.specs.declared.types.TypeVar.{TypeVar}
 use Rattle.java_units.specs.declared.types.SourceMethod.{SourceMethod}
 use Rattle.java_units.specs.declared.types.SourceClass.{SourceClass}
-use Rattle.class_summary.specs.Sources.{around, outer_number}
+use Rattle.java_units.specs.Dimensions.{total, over_vars}
+use Rattle.class_summary.specs.Sources.{around}
 use Rattle.class_summary.specs.declared.variables.Scope.{Scope}
 use Rattle.class_summary.specs.declared.variables.End.{End}
 use Rattle.class_summary.specs.declared.variables.Met.{Met}
@@ -64,14 +65,7 @@ through zero dims class parts ss = end_at dims class None
 through (suc n) dims class parts ss =
     by_variable dims class parts (variable_of parts ss) (λ f b. through n (dims + b.dims) f.class b.parts f.scopes)
 
-abbrev pub total : {A : Type 0} → (A → ℕ) → List A → ℕ
-total f [] = 0
-total f (x ∷ xs) = f x + total f xs
-
--- A sum over the bounds of variables.
-abbrev pub over_vars : (Option TypeText → ℕ) → List TypeVar → ℕ
-over_vars f vs = total (λ v. f v.bound) vs
-
+-- A sum over the bounds of the variables of scopes.
 abbrev pub over_scopes : (Option TypeText → ℕ) → List Scope → ℕ
 over_scopes f ss = total (λ s. over_vars f s.vars) ss
 
@@ -80,22 +74,9 @@ abbrev pub one_bound : Option TypeText → ℕ
 one_bound None = 0
 one_bound (Some b) = 1
 
--- The dimensions of a bound.
-abbrev pub bound_dims : Option TypeText → ℕ
-bound_dims None = 0
-bound_dims (Some b) = b.dims
-
 -- Where a type ends, through all bounds of its variables. Each step uses up a bound, so they are enough.
 abbrev pub end_of : List Scope → ℕ → TypeText → End
 end_of ss class type = through (suc (over_scopes one_bound ss)) type.dims class type.parts ss
-
--- The dimensions of all bounds of type variables of a class and its methods, added up.
-abbrev pub class_dims : SourceClass → ℕ
-class_dims c = over_vars bound_dims c.vars + total (λ m. over_vars bound_dims m.vars) c.methods
-
--- The dimensions of all bounds of type variables in a text, added up.
-abbrev pub dims_of_bounds : List SourceClass → ℕ
-dims_of_bounds cs = total class_dims cs
 
 abbrev pub class_vars : Option SourceClass → List TypeVar
 class_vars None = []
@@ -122,10 +103,6 @@ method_scope cs i m = record { class = i; vars = method_vars (method_in m (slice
 abbrev pub scopes_at : List SourceClass → ℕ → Option ℕ → List Scope
 scopes_at cs i None = map (class_scope cs) (around cs i)
 scopes_at cs i (Some m) = method_scope cs i m ∷ map (class_scope cs) (around cs i)
-
--- Each class stands after the class around it.
-pub record IsNested (classes : List SourceClass) : Type 0 where
-  pub after : (i o : ℕ) → outer_number (slice_get classes i) ≡ Some o → o < i
 
 -- The answer is the place of the first variable with this name.
 abbrev pub IsPlaceOfVar : List ℕ → List TypeVar → Option ℕ → Type 0

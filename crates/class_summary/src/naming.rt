@@ -1,6 +1,8 @@
 ghost use Rattle.std.specs.Prelude.{◌≡◌, ◌+◌, ◌<◌, ◌^◌, length, IfOk};
+ghost use Rattle.java_units.specs.UnitLaws.{IsNested};
+ghost use Rattle.java_units.specs.Dimensions.{dims_of_bounds};
 ghost use Rattle.class_summary.specs.Names.{internal_of, simple_class, canonical_of, member_class, dotted_class, in_package_else, class_of_name, primitive, primitive_of, base_of, denoted_type};
-ghost use Rattle.class_summary.specs.Variables.{IsNested, IsMethodOf, dims_of_bounds};
+ghost use Rattle.class_summary.specs.Variables.{IsMethodOf};
 
 use crate::classes::Classes;
 use crate::known::canonical;

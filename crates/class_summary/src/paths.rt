@@ -1,5 +1,6 @@
 ghost use Rattle.std.specs.Prelude.{◌≡◌, ◌++◌, map, slice_get, IfOk, OnOk};
-ghost use Rattle.class_summary.specs.Sources.{followed, joined, outer_number, own_name, name_at, around, path, binary, internal_name, canonical_name};
+ghost use Rattle.java_units.specs.UnitLaws.{outer_number};
+ghost use Rattle.class_summary.specs.Sources.{followed, joined, own_name, name_at, around, path, binary, internal_name, canonical_name};
 
 use java_units::{SourceClass, Unit};
 use lists::{Copies, Items, Text, at, copy_all};

@@ -1,8 +1,9 @@
 ghost use Rattle.std.specs.Prelude.{◌≡◌, ◌+◌, ◌<◌, ◌^◌, ◌++◌, length, map, slice_get, Some, None, IfOk};
 ghost use Rattle.std.specs.List.{filter_map};
-ghost use Rattle.class_summary.specs.Variables.{IsNested, dims_of_bounds};
+ghost use Rattle.java_units.specs.UnitLaws.{IsNested};
+ghost use Rattle.java_units.specs.Dimensions.{dims_of_bounds, greatest, bound_dims, params_dims, method_dims, type_dims};
 ghost use Rattle.class_summary.specs.Names.{denoted_type};
-ghost use Rattle.class_summary.specs.SourceSummaries.{class_of, super_of, parent_of, last_supers, names_super, first_super, interfaces, supers_of, field_of, param_of, result_of, method_of, methods_from, nesting_of, summary_at, greatest, result_dims, params_dims, method_dims, type_dims, IsSourceSummary};
+ghost use Rattle.class_summary.specs.SourceSummaries.{class_of, super_of, parent_of, last_supers, names_super, first_super, interfaces, supers_of, field_of, param_of, result_of, method_of, methods_from, nesting_of, summary_at, IsSourceSummary};
 
 use crate::classes::Classes;
 use crate::naming::resolve_at;
@@ -144,7 +145,7 @@ fn result_of<C: Classes>(
     kind: &Option<TypeText>,
 ) -> Result<Option<Erased>, AllocError>
     requires nested { IsNested unit.now.classes }
-    requires dims { result_dims kind.now + dims_of_bounds unit.now.classes < 2 ^ 64 }
+    requires dims { bound_dims kind.now + dims_of_bounds unit.now.classes < 2 ^ 64 }
     ensures { IfOk result (λ found. found ≡ result_of unit.now class method (C.listed known.now) kind.now) }
 {
     let Some(kind) = kind else {

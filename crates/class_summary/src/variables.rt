@@ -1,5 +1,6 @@
 ghost use Rattle.std.specs.Prelude.{◌≡◌, ◌+◌, ◌<◌, ◌^◌, map, reverse, IfOk};
-ghost use Rattle.class_summary.specs.Variables.{bound_of, without_bound, variable_in, variable_of, end_of, over_scopes, bound_dims, class_scope, method_scope, scopes_at, IsPlaceOfVar, IsMet};
+ghost use Rattle.java_units.specs.Dimensions.{bound_dims};
+ghost use Rattle.class_summary.specs.Variables.{bound_of, without_bound, variable_in, variable_of, end_of, over_scopes, class_scope, method_scope, scopes_at, IsPlaceOfVar, IsMet};
 
 use crate::paths::around;
 use java_units::{SourceClass, TypeText, TypeVar};

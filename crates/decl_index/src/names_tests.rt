@@ -1,6 +1,6 @@
+ghost use Rattle.java_units.specs.UnitLaws.{IsNested};
+ghost use Rattle.java_units.specs.Dimensions.{greatest, method_dims, type_dims, class_dims, dims_of_bounds};
 ghost use Rattle.std.specs.Prelude.{◌≡◌, [], length, IfOk};
-ghost use Rattle.class_summary.specs.SourceSummaries.{greatest, method_dims, type_dims};
-ghost use Rattle.class_summary.specs.Variables.{IsNested, class_dims, dims_of_bounds};
 
 use crate::{Change, ChangeFault, Index};
 use class_summary::{ClassSummary, from_unit, resolve_name};

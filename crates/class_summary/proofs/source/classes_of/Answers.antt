@@ -1,6 +1,6 @@
 use Rattle.std.proofs.Common.{◌∙◌, sym, ◌^◌, rules}
 use Rattle.java_units.specs.declared.types.TypeText.{TypeText}
-use Rattle.class_summary.specs.Variables.{dims_of_bounds}
+use Rattle.java_units.specs.Dimensions.{dims_of_bounds}
 use Rattle.class_summary.specs.SourceSummaries.{super_of}
 use Rattle.class_summary.proofs.Greatest.{item_fits}
 use Rattle.class_summary.proofs.Lists.{kept_on, dropped_on, kept_end}

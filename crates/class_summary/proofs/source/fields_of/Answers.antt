@@ -1,6 +1,6 @@
 use Rattle.std.proofs.Common.{◌∙◌, ap, [], ◌^◌, rules}
 use Rattle.java_units.specs.declared.types.SourceField.{SourceField}
-use Rattle.class_summary.specs.Variables.{dims_of_bounds}
+use Rattle.java_units.specs.Dimensions.{dims_of_bounds}
 use Rattle.class_summary.specs.SourceSummaries.{field_of}
 use Rattle.class_summary.proofs.Greatest.{item_fits}
 use Rattle.class_summary.proofs.Lists.{mapped_on, mapped_end}

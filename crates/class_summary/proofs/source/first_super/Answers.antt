@@ -1,7 +1,7 @@
 use Rattle.std.proofs.Common.{◌∙◌, ◌^◌, ap, sym}
 use Rattle.std.specs.Option.{option_copied}
 use Rattle.java_units.specs.declared.types.TypeText.{TypeText}
-use Rattle.class_summary.specs.Variables.{dims_of_bounds}
+use Rattle.java_units.specs.Dimensions.{dims_of_bounds}
 use Rattle.class_summary.proofs.Greatest.{first_fits}
 use Rattle.class_summary.proofs.source.first_super.Goals as goal
 

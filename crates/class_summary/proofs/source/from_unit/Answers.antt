@@ -1,6 +1,6 @@
 use Rattle.std.proofs.Common.{◌∙◌, ◌^◌, ap}
-use Rattle.class_summary.specs.Variables.{dims_of_bounds}
-use Rattle.class_summary.specs.SourceSummaries.{type_dims, summary_at}
+use Rattle.java_units.specs.Dimensions.{dims_of_bounds, type_dims}
+use Rattle.class_summary.specs.SourceSummaries.{summary_at}
 use Rattle.class_summary.proofs.Greatest.{class_fits, class_is}
 use Rattle.class_summary.proofs.source.from_unit.Goals as goal
 

@@ -1,7 +1,6 @@
 use Rattle.std.proofs.Common.{◌^◌, arith}
 use Rattle.java_units.specs.declared.types.Param.{Param}
-use Rattle.class_summary.specs.Variables.{dims_of_bounds}
-use Rattle.class_summary.specs.SourceSummaries.{method_dims}
+use Rattle.java_units.specs.Dimensions.{dims_of_bounds, method_dims}
 use Rattle.class_summary.proofs.Greatest.{same_fits}
 use Rattle.class_summary.proofs.source.method_of.Goals as goal
 

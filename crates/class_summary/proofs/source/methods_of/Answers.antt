@@ -1,6 +1,6 @@
 use Rattle.std.proofs.Common.{◌^◌, rules}
-use Rattle.class_summary.specs.Variables.{dims_of_bounds}
-use Rattle.class_summary.specs.SourceSummaries.{methods_from, method_dims}
+use Rattle.java_units.specs.Dimensions.{dims_of_bounds, method_dims}
+use Rattle.class_summary.specs.SourceSummaries.{methods_from}
 use Rattle.class_summary.proofs.Greatest.{item_fits, methods_on, methods_end}
 use Rattle.class_summary.proofs.source.methods_of.Goals as goal
 

@@ -1,7 +1,6 @@
 use Rattle.std.proofs.Common.{◌^◌, arith}
 use Rattle.java_units.specs.declared.types.SourceField.{SourceField}
-use Rattle.class_summary.specs.Variables.{dims_of_bounds}
-use Rattle.class_summary.specs.SourceSummaries.{type_dims, method_dims}
+use Rattle.java_units.specs.Dimensions.{dims_of_bounds, type_dims, method_dims}
 use Rattle.class_summary.proofs.Greatest.{same_fits}
 use Rattle.class_summary.proofs.source.summary_at.Goals as goal
 

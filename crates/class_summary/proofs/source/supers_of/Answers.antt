@@ -1,7 +1,7 @@
 use Rattle.std.proofs.Common.{◌^◌}
 use Rattle.java_units.specs.declared.types.TypeText.{TypeText}
+use Rattle.java_units.specs.Dimensions.{dims_of_bounds}
 use Rattle.class_summary.specs.SourceSummaries.{supers_of}
-use Rattle.class_summary.specs.Variables.{dims_of_bounds}
 use Rattle.class_summary.proofs.Greatest.{rest_fits, in_order}
 use Rattle.class_summary.proofs.source.supers_of.Goals as goal
 
