@@ -14,7 +14,7 @@ use Rattle.terms.specs.Count.{once_if, count, expr_eq, total}
 use Rattle.terms.specs.Reading.{Reading, and_then, read}
 use Rattle.reconstruction.specs.Leasts.{AreLeast, key}
 use Rattle.reconstruction.specs.Fronts.{begins, reading, IsItem, key_within, IsGrowth}
-use Rattle.reconstruction.specs.Search.{Queue, held, fronts, key_of, children, IsSearch}
+use Rattle.reconstruction.specs.Search.{Queue, times_completed, fronts, key_of, children, IsSearch}
 use Rattle.terms.proofs.Standing.{count-append}
 use Rattle.terms.proofs.Forests.{whole}
 use Rattle.reconstruction.proofs.Keys.{read-end}
@@ -69,10 +69,10 @@ grown g limit Kept least root solved kept from queue rest new level k f r ns s s
       items = All-permutation P (children g least root f ns ++ rest) new next (All-append P (children g least root f ns) rest young items);
       ended = s.ended;
       divided = λ e fit l.
-          let old : held e (fronts ((k, f) ∷ rest)) ≡ held e (fronts queue) = count-permutation (λ x. begins x (prefix_code e)) (fronts queue) (fronts ((k, f) ∷ rest)) (IsPermutation-map (λ i. i.1) queue ((k, f) ∷ rest) same) in
-          let now : held e (fronts new) ≡ held e (fronts (children g least root f ns ++ rest)) = count-permutation (λ x. begins x (prefix_code e)) (fronts (children g least root f ns ++ rest)) (fronts new) (IsPermutation-map (λ i. i.1) (children g least root f ns ++ rest) new next) in
-          let split : held e (fronts (children g least root f ns ++ rest)) ≡ held e (fronts (children g least root f ns)) + held e (fronts rest) = ap (held e) (fronts-append (children g least root f ns) rest) ∙ count-append (λ x. begins x (prefix_code e)) (fronts (children g least root f ns)) (fronts rest) in
-          let parts : held e (fronts (children g least root f ns)) ≡ once_if (begins f (prefix_code e)) = ap (held e) (fronts-children g least root f ns) ∙ divides g limit Kept least root solved kept f r is some ns grows e fit l in
+          let old : times_completed e (fronts ((k, f) ∷ rest)) ≡ times_completed e (fronts queue) = count-permutation (λ x. begins x (prefix_code e)) (fronts queue) (fronts ((k, f) ∷ rest)) (IsPermutation-map (λ i. i.1) queue ((k, f) ∷ rest) same) in
+          let now : times_completed e (fronts new) ≡ times_completed e (fronts (children g least root f ns ++ rest)) = count-permutation (λ x. begins x (prefix_code e)) (fronts (children g least root f ns ++ rest)) (fronts new) (IsPermutation-map (λ i. i.1) (children g least root f ns ++ rest) new next) in
+          let split : times_completed e (fronts (children g least root f ns ++ rest)) ≡ times_completed e (fronts (children g least root f ns)) + times_completed e (fronts rest) = ap (times_completed e) (fronts-append (children g least root f ns) rest) ∙ count-append (λ x. begins x (prefix_code e)) (fronts (children g least root f ns)) (fronts rest) in
+          let parts : times_completed e (fronts (children g least root f ns)) ≡ once_if (begins f (prefix_code e)) = ap (times_completed e) (fronts-children g least root f ns) ∙ divides g limit Kept least root solved kept f r is some ns grows e fit l in
           omega (arith, s.divided e fit l, old, now, split, parts);
     }
 
@@ -111,7 +111,7 @@ AreTerms g root w [] [] = Unit {0}
 AreTerms g root w (f ∷ fs) (x ∷ xs) = (f ≡ prefix_code x) × (fits_place g root x ≡ true) × (weigh g root x ≡ w) × AreTerms g root w fs xs
 AreTerms g root w _ _ = ⊥
 
-count_fit : (g : Parts) (root : Place) (w : ℕ) (fs : List (List ℕ)) (xs : List Expr) → AreTerms g root w fs xs → (e : Expr) → fits_place g root e ≡ true → count (expr_eq e) xs ≡ held e fs
+count_fit : (g : Parts) (root : Place) (w : ℕ) (fs : List (List ℕ)) (xs : List Expr) → AreTerms g root w fs xs → (e : Expr) → fits_place g root e ≡ true → count (expr_eq e) xs ≡ times_completed e fs
 count_fit g root w [] [] t e fit = refl
 count_fit g root w [] (x ∷ xs) t e fit = absurd t
 count_fit g root w (f ∷ fs) [] t e fit = absurd t
@@ -131,12 +131,12 @@ count_apart g root w (f ∷ fs) (x ∷ xs) t e no_fit = go (expr_eq e x) refl (c
 
 -- where all that is left has a greater key, nothing that is left may become a term of this weight
 pub none_held : (g : Parts) (limit : ℕ) (Kept : Place → Type 0) (least : Place → ℕ) (root : Place) → AreLeast g limit Kept least → Kept root → (queue : Queue) (from : ℕ) → All (λ q. IsItem g limit least root q.0 q.1) queue → All (λ q. from < q.0) queue
-    → (e : Expr) → fits_place g root e ≡ true → weigh g root e ≤ limit → weigh g root e ≤ from → held e (fronts queue) ≡ 0
+    → (e : Expr) → fits_place g root e ≡ true → weigh g root e ≤ limit → weigh g root e ≤ from → times_completed e (fronts queue) ≡ 0
 none_held g limit Kept least root s kept [] from items above e fit l m = refl
 none_held g limit Kept least root s kept (q ∷ queue) from items above e fit l m =
     go (begins q.1 (prefix_code e)) refl (none_held g limit Kept least root s kept queue from (All-tail (λ (x : ℕ × List ℕ). IsItem g limit least root x.0 x.1) q queue items) (All-tail (λ (x : ℕ × List ℕ). from < x.0) q queue above) e fit l m)
   where
-    go : (b : Bool) → begins q.1 (prefix_code e) ≡ b → held e (fronts queue) ≡ 0 → once_if b + held e (fronts queue) ≡ 0
+    go : (b : Bool) → begins q.1 (prefix_code e) ≡ b → times_completed e (fronts queue) ≡ 0 → once_if b + times_completed e (fronts queue) ≡ 0
     go false h rest = omega (arith, rest)
     go true h rest =
         let item : IsItem g limit least root q.0 q.1 = All-head (λ (x : ℕ × List ℕ). IsItem g limit least root x.0 x.1) q queue items in
@@ -155,20 +155,20 @@ level_exact g limit Kept least root solved kept from queue level terms l s above
     go false h = count_apart g root from level terms t e (λ f w. false≢true (sym h ∙ f))
     go true h = elim (cases_eq (weigh g root e) from) [
       | inl is ↦
-          let none : held e (fronts queue) ≡ 0 = none_held g limit Kept least root solved kept queue from s.items above e h (omega (arith, is)) (omega (arith, is)) in
-          let one : held e (fronts queue) + held e level ≡ 1 = s.divided e h (omega (arith, is)) ∙ ap once_if (le-leb from (weigh g root e) (omega (arith, is))) in
-          let here : held e level ≡ 1 = omega (arith, none, one) in
+          let none : times_completed e (fronts queue) ≡ 0 = none_held g limit Kept least root solved kept queue from s.items above e h (omega (arith, is)) (omega (arith, is)) in
+          let one : times_completed e (fronts queue) + times_completed e level ≡ 1 = s.divided e h (omega (arith, is)) ∙ ap once_if (le-leb from (weigh g root e) (omega (arith, is))) in
+          let here : times_completed e level ≡ 1 = omega (arith, none, one) in
           rw (eq-eqb (weigh g root e) from is) (count_fit g root from level terms t e h ∙ here)
       | inr apart ↦ rw (ne_eqb (weigh g root e) from apart) (count_apart g root from level terms t e (λ f w. apart w))
     ]
 
 -- a term of another weight completes nothing of the level
-level_apart : (g : Parts) (root : Place) (from : ℕ) (level : List (List ℕ)) → All (λ f. reading g root f ≡ whole from) level → (e : Expr) → fits_place g root e ≡ true → weigh g root e ≢ from → held e level ≡ 0
+level_apart : (g : Parts) (root : Place) (from : ℕ) (level : List (List ℕ)) → All (λ f. reading g root f ≡ whole from) level → (e : Expr) → fits_place g root e ≡ true → weigh g root e ≢ from → times_completed e level ≡ 0
 unfolding reading
 level_apart g root from [] ended e fit apart = refl
 level_apart g root from (f ∷ level) ended e fit apart = go (begins f (prefix_code e)) refl (level_apart g root from level (All-tail (λ (x : List ℕ). reading g root x ≡ whole from) f level ended) e fit apart)
   where
-    go : (b : Bool) → begins f (prefix_code e) ≡ b → held e level ≡ 0 → once_if b + held e level ≡ 0
+    go : (b : Bool) → begins f (prefix_code e) ≡ b → times_completed e level ≡ 0 → once_if b + times_completed e level ≡ 0
     go false h rest = omega (arith, rest)
     go true h rest =
         let r : Rest f (prefix_code e) = rest_of f (prefix_code e) h in
@@ -184,10 +184,10 @@ next_search g limit Kept least root solved kept from queue level s above = recor
   ended = All-from_recursion (λ (f : List ℕ). reading g root f ≡ whole (from + 1)) [] tt;
   divided = λ e fit l. elim (cases_lt from (weigh g root e)) [
     | inl more ↦
-        let apart : held e level ≡ 0 = level_apart g root from level s.ended e fit (λ w. absurd (omega (arith, w, more))) in
+        let apart : times_completed e level ≡ 0 = level_apart g root from level s.ended e fit (λ w. absurd (omega (arith, w, more))) in
         omega (arith, s.divided e fit l, apart, ap once_if (le-leb from (weigh g root e) (omega arith)), ap once_if (le-leb (from + 1) (weigh g root e) (omega arith)))
     | inr less ↦
-        let none : held e (fronts queue) ≡ 0 = none_held g limit Kept least root solved kept queue from s.items above e fit l less in
+        let none : times_completed e (fronts queue) ≡ 0 = none_held g limit Kept least root solved kept queue from s.items above e fit l less in
         omega (arith, none, ap once_if (lt-leb (from + 1) (weigh g root e) (omega arith)))
   ];
 }

@@ -12,8 +12,8 @@ use Rattle.terms.specs.Place.{Place, fits_place, weigh}
 use Rattle.terms.specs.Reading.{Reading, and_then, read}
 use Rattle.reconstruction.specs.Leasts.{AreLeast}
 use Rattle.reconstruction.specs.Fronts.{begins, same, reading, IsItem}
-use Rattle.reconstruction.specs.Search.{Queue, held, fronts, IsSearch}
-use Rattle.reconstruction.specs.Popped.{Completes, IsPopped}
+use Rattle.reconstruction.specs.Search.{Queue, times_completed, fronts, IsSearch}
+use Rattle.reconstruction.specs.Popped.{HasCompletion, IsPopped}
 use Rattle.terms.proofs.Standing.{count-permutation, expr_eq-true}
 use Rattle.terms.proofs.Forests.{whole}
 use Rattle.reconstruction.proofs.Keys.{Reached, reached, OneTerm, one_read}
@@ -95,12 +95,12 @@ popped_more g limit Kept least root s kept from w k f queue rest level popped lo
     let moved = IsPermutation-map (λ i. i.1) queue ((k, f) ∷ rest) same_items in
     let apart = All-permutation (λ q. count (begins q) popped ≡ 0) (fronts queue) (fronts ((k, f) ∷ rest)) moved p.apart in
     let here : count (begins f) popped ≡ 0 = All-head (λ (q : List ℕ). count (begins q) popped ≡ 0) f (fronts rest) apart in
-    let one : held e (fronts queue) + held e level ≡ 1 = search.divided e c.1 (omega (arith, c.2, item.within)) ∙ ap once_if (le-leb from (weigh g root e) (omega (arith, c.2))) in
-    let split : held e (fronts ((k, f) ∷ rest)) ≡ held e (fronts queue) = count-permutation (λ x. begins x (prefix_code e)) (fronts queue) (fronts ((k, f) ∷ rest)) moved in
-    let none : held e (fronts rest) ≡ 0 = omega (arith, one, split, ap once_if c.3) in
+    let one : times_completed e (fronts queue) + times_completed e level ≡ 1 = search.divided e c.1 (omega (arith, c.2, item.within)) ∙ ap once_if (le-leb from (weigh g root e) (omega (arith, c.2))) in
+    let split : times_completed e (fronts ((k, f) ∷ rest)) ≡ times_completed e (fronts queue) = count-permutation (λ x. begins x (prefix_code e)) (fronts queue) (fronts ((k, f) ∷ rest)) moved in
+    let none : times_completed e (fronts rest) ≡ 0 = omega (arith, one, split, ap once_if c.3) in
     record {
       distinct = λ x. once x (same x f) refl here (p.distinct x);
-      each = All-cons (Completes g root w) f popped (record { term = e; fit = c.1; within = omega (arith, c.2); starts = c.3 }) p.each;
+      each = All-cons (HasCompletion g root w) f popped (record { term = e; fit = c.1; within = omega (arith, c.2); starts = c.3 }) p.each;
       apart = apart_rest f (prefix_code e) popped (fronts rest) c.3 none (All-tail (λ (q : List ℕ). count (begins q) popped ≡ 0) f (fronts rest) apart);
     }
   where
@@ -123,11 +123,11 @@ count_codes : (f : List ℕ) (es : List Expr) → count (λ c. begins f c) (map 
 count_codes f [] = refl
 count_codes f (e ∷ es) = ap (λ n. once_if (begins f (prefix_code e)) + n) (count_codes f es)
 
-all_begin : (g : Parts) (root : Place) (w : ℕ) (popped : List (List ℕ)) (es : List Expr) → ((e : Expr) → fits_place g root e ≡ true → weigh g root e ≤ w → 1 ≤ count (expr_eq e) es) → All (Completes g root w) popped → AllBegin popped (map prefix_code es)
+all_begin : (g : Parts) (root : Place) (w : ℕ) (popped : List (List ℕ)) (es : List Expr) → ((e : Expr) → fits_place g root e ≡ true → weigh g root e ≤ w → 1 ≤ count (expr_eq e) es) → All (HasCompletion g root w) popped → AllBegin popped (map prefix_code es)
 all_begin g root w [] es h each = tt
 all_begin g root w (f ∷ popped) es h each =
-    let c : Completes g root w f = All-head (Completes g root w) f popped each in
-    (omega (arith, count_codes f es, count_member c.term (λ e. begins f (prefix_code e)) es c.starts (h c.term c.fit c.within)), all_begin g root w popped es h (All-tail (Completes g root w) f popped each))
+    let c : HasCompletion g root w f = All-head (HasCompletion g root w) f popped each in
+    (omega (arith, count_codes f es, count_member c.term (λ e. begins f (prefix_code e)) es c.starts (h c.term c.fit c.within)), all_begin g root w popped es h (All-tail (HasCompletion g root w) f popped each))
 
 -- of fronts that were popped there are no more than nodes and one each in the terms within the weight
 pub pops_bound : (g : Parts) (root : Place) (w : ℕ) (popped queue : List (List ℕ)) → IsPopped g root w popped queue → (es : List Expr) → ((e : Expr) → fits_place g root e ≡ true → weigh g root e ≤ w → 1 ≤ count (expr_eq e) es) → length popped ≤ total (λ e. length (prefix_code e) + 1) es

@@ -15,7 +15,7 @@ use Rattle.terms.proofs.Standing.{count-permutation, expr_eq-refl}
 use Rattle.reconstruction.specs.Fronts.{begins, same, reading}
 use Rattle.reconstruction.specs.Levelled.{IsAt}
 use Rattle.reconstruction.specs.Popped.{NoneLost}
-use Rattle.reconstruction.specs.Search.{held, fronts}
+use Rattle.reconstruction.specs.Search.{times_completed, fronts}
 use Rattle.reconstruction.specs.Tabled.{places_of, front_of, stack_of, seen, IsHeld, AreHeld, AreGrown}
 use Rattle.reconstruction.specs.declared.item.Arena.{Arena}
 use Rattle.reconstruction.specs.declared.item.Item.{Item}
@@ -40,7 +40,7 @@ pub none_lost_moved : (t : Tables) (a : Arena) (popped : List (List ℕ)) (old n
 none_lost_moved t a popped old new p h e inside =
     let shown : IsPermutation (seen a old) (seen a new) = IsPermutation-map (λ (x : ℕ × Item). (x.0, front_of a x.1.front)) old new p in
     let moved : IsPermutation (fronts (seen a old)) (fronts (seen a new)) = IsPermutation-map (λ (x : ℕ × List ℕ). x.1) (seen a old) (seen a new) shown in
-    let as_many : held e (fronts (seen a new)) ≡ held e (fronts (seen a old)) = count-permutation (λ f. begins f (prefix_code e)) (fronts (seen a old)) (fronts (seen a new)) moved in
+    let as_many : times_completed e (fronts (seen a new)) ≡ times_completed e (fronts (seen a old)) = count-permutation (λ f. begins f (prefix_code e)) (fronts (seen a old)) (fronts (seen a new)) moved in
     omega (arith, h e inside, as_many)
 
 -- what was kept in vain changes nothing
@@ -51,7 +51,7 @@ none_lost_kept t a b popped items s all h = subst (λ l. NoneLost t.env popped (
 pub none_lost_first : (t : Tables) (a : Arena) (items : List (ℕ × Item)) → IsAt t a 0 items [] → NoneLost t.env [] (fronts (seen a items))
 none_lost_first t a items h e inside =
     let g = t.env in
-    let one : held e (fronts (seen a items)) + 0 ≡ once_if (nat_le 0 (weigh g (goal_place g) e)) = h.search.divided e (fits g e inside) (inside_limit g e inside) in
+    let one : times_completed e (fronts (seen a items)) + 0 ≡ once_if (nat_le 0 (weigh g (goal_place g) e)) = h.search.divided e (fits g e inside) (inside_limit g e inside) in
     omega (arith, one, ap once_if (le-leb 0 (weigh g (goal_place g) e) (omega arith)))
 
 -- a whole front that begins the code of a term is that code
@@ -75,8 +75,8 @@ none_lost_taken t a k i rest popped kept none h e inside = go (begins (front_of 
     is : reading t.env (goal_place t.env) (front_of a i.front) ≡ whole kept.weight
     is = kept.is ∙ ap (λ l. Some (record { weight = kept.weight; open_places = places_of t l })) none
 
-    go : (b : Bool) → begins (front_of a i.front) (prefix_code e) ≡ b → 1 ≤ once_if b + held e (fronts (seen a rest)) + count (same (prefix_code e)) popped
-        → 1 ≤ held e (fronts (seen a rest)) + (once_if (same (prefix_code e) (front_of a i.front)) + count (same (prefix_code e)) popped)
+    go : (b : Bool) → begins (front_of a i.front) (prefix_code e) ≡ b → 1 ≤ once_if b + times_completed e (fronts (seen a rest)) + count (same (prefix_code e)) popped
+        → 1 ≤ times_completed e (fronts (seen a rest)) + (once_if (same (prefix_code e) (front_of a i.front)) + count (same (prefix_code e)) popped)
     go false q l = omega (arith, l)
     go true q l =
         let f_is : front_of a i.front ≡ prefix_code e = whole_code t.env (goal_place t.env) kept.weight (front_of a i.front) e is (fits t.env e inside) q in
@@ -89,7 +89,7 @@ pub none_lost_grown : (t : Tables) (a b : Arena) (from : ℕ) (q : ℕ × Item) 
 none_lost_grown t a b from q old new found popped s before after h e inside =
     let one = before.search.divided e (fits t.env e inside) (inside_limit t.env e inside) in
     let two = after.search.divided e (fits t.env e inside) (inside_limit t.env e inside) in
-    let level : held e (map (front_of b) found) ≡ held e (map (front_of a) found) = ap (held e) (same_fronts a b s found before.inside) in
+    let level : times_completed e (map (front_of b) found) ≡ times_completed e (map (front_of a) found) = ap (times_completed e) (same_fronts a b s found before.inside) in
     omega (arith, one, two, level, h e inside)
 
 -- a term of a weight that is left behind completes no front that is left, so its code was popped

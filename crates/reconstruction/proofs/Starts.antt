@@ -9,7 +9,7 @@ use Rattle.terms.specs.Place.{Place, fits_place, weigh}
 use Rattle.terms.specs.Reading.{read}
 use Rattle.reconstruction.specs.Leasts.{AreLeast}
 use Rattle.reconstruction.specs.Fronts.{reading, IsItem}
-use Rattle.reconstruction.specs.Search.{Queue, held, fronts, IsSearch}
+use Rattle.reconstruction.specs.Search.{Queue, times_completed, fronts, IsSearch}
 use Rattle.terms.proofs.Forests.{whole}
 use Rattle.reconstruction.proofs.Levels.{none_held}
 
@@ -34,7 +34,7 @@ empty_search g limit Kept least root s kept l = record {
 pub skipped : (g : Parts) (limit : ℕ) (Kept : Place → Type 0) (least : Place → ℕ) (root : Place) → AreLeast g limit Kept least → Kept root → (from k : ℕ) (queue : Queue) → IsSearch g limit least root from queue [] → All (λ q. k ≤ q.0) queue
     → (e : Expr) → fits_place g root e ≡ true → weigh g root e ≤ limit → from ≤ weigh g root e → weigh g root e < k → ⊥
 skipped g limit Kept least root s kept from k queue search above e fit l low high =
-    let none : held e (fronts queue) ≡ 0 = none_held g limit Kept least root s kept queue (weigh g root e) search.items (All-weaker (λ (q : ℕ × List ℕ). k ≤ q.0) (λ (q : ℕ × List ℕ). weigh g root e < q.0) (λ q m. omega arith) queue above) e fit l (omega arith) in
+    let none : times_completed e (fronts queue) ≡ 0 = none_held g limit Kept least root s kept queue (weigh g root e) search.items (All-weaker (λ (q : ℕ × List ℕ). k ≤ q.0) (λ (q : ℕ × List ℕ). weigh g root e < q.0) (λ q m. omega arith) queue above) e fit l (omega arith) in
     absurd (omega (arith, none, search.divided e fit l, ap once_if (le-leb from (weigh g root e) low)))
 
 -- so the search may go on from there
@@ -44,7 +44,7 @@ skip_search g limit Kept least root s kept from k queue up search above = record
   ended = All-nil (λ (f : List ℕ). reading g root f ≡ whole k);
   divided = λ e fit l. elim (cases_lt (weigh g root e) k) [
     | inl low ↦
-        let none : held e (fronts queue) ≡ 0 = none_held g limit Kept least root s kept queue (weigh g root e) search.items (All-weaker (λ (q : ℕ × List ℕ). k ≤ q.0) (λ (q : ℕ × List ℕ). weigh g root e < q.0) (λ q m. omega arith) queue above) e fit l (omega arith) in
+        let none : times_completed e (fronts queue) ≡ 0 = none_held g limit Kept least root s kept queue (weigh g root e) search.items (All-weaker (λ (q : ℕ × List ℕ). k ≤ q.0) (λ (q : ℕ × List ℕ). weigh g root e < q.0) (λ q m. omega arith) queue above) e fit l (omega arith) in
         omega (arith, none, ap once_if (lt-leb k (weigh g root e) low))
     | inr high ↦ omega (arith, search.divided e fit l, ap once_if (le-leb from (weigh g root e) (omega arith)), ap once_if (le-leb k (weigh g root e) high))
   ];

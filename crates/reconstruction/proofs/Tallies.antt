@@ -11,7 +11,7 @@ use Rattle.terms.specs.Place.{goal_place, fits_place, weigh, IsInhabitant, total
 use Rattle.weight_queue.specs.Queued.{one_more_pop}
 use Rattle.reconstruction.specs.Fronts.{begins}
 use Rattle.reconstruction.specs.Levelled.{AreComplete, IsAt, with_held}
-use Rattle.reconstruction.specs.Popped.{Completes, IsPopped, NoneLost}
+use Rattle.reconstruction.specs.Popped.{HasCompletion, IsPopped, NoneLost}
 use Rattle.reconstruction.specs.Rebuilding.{AreGiven}
 use Rattle.reconstruction.specs.Search.{fronts, children}
 use Rattle.reconstruction.specs.Spots.{IsKept}
@@ -45,7 +45,7 @@ popped_kept t a b w popped items s all h = subst (λ l. IsPopped t.env (goal_pla
 pub popped_within : (t : Tables) (v w : ℕ) (popped queue : List (List ℕ)) → v ≤ w → IsPopped t.env (goal_place t.env) v popped queue → IsPopped t.env (goal_place t.env) w popped queue
 popped_within t v w popped queue l h = record {
   distinct = h.distinct;
-  each = All-weaker (Completes t.env (goal_place t.env) v) (Completes t.env (goal_place t.env) w) (λ f c. (let low = c.within in record { term = c.term; fit = c.fit; within = omega (arith, low, l); starts = c.starts })) popped h.each;
+  each = All-weaker (HasCompletion t.env (goal_place t.env) v) (HasCompletion t.env (goal_place t.env) w) (λ f c. (let low = c.within in record { term = c.term; fit = c.fit; within = omega (arith, low, l); starts = c.starts })) popped h.each;
   apart = h.apart;
 }
 
@@ -132,7 +132,7 @@ pub tally_first : (t : Tables) (a : Arena) (items : List (ℕ × Item)) (pops : 
 tally_first t a items pops at none = record {
   popped = [];
   counted = omega (arith, none);
-  are = record { distinct = λ f. omega arith; each = All-nil (Completes t.env (goal_place t.env) 0); apart = none_apart (fronts (seen a items)) };
+  are = record { distinct = λ f. omega arith; each = All-nil (HasCompletion t.env (goal_place t.env) 0); apart = none_apart (fronts (seen a items)) };
   none_lost = none_lost_first t a items at;
 }
 

@@ -19,6 +19,6 @@ pub record AreLeast (g : Parts) (limit : ℕ) (Kept : Place → Type 0) (least :
   pub low : (p : Place) → Kept p → (e : Expr) → fits_place g p e ≡ true → weigh g p e ≤ limit → least p ≤ weigh g p e
   pub met : (p : Place) → least p ≤ limit → (e : Expr) × (fits_place g p e ≡ true) × (weigh g p e ≡ least p)
 
--- the least weight of what may come of a reading: its own, and the least weights of its open places
+-- the least weight of what may come of a reading, where these are least weights: its own, and those of its open places
 abbrev pub key : (Place → ℕ) → Reading → ℕ
 key least r = r.weight + total least r.open_places

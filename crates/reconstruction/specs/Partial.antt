@@ -1,13 +1,14 @@
 -- Partial terms: fronts of prefix codes, and what may come of them (PLDI 2013, section 5).
 use Rattle.std.specs.Prelude.{◌≡◌, ℕ, ◌≤◌, true, nat_le, List, ◌∷◌, Option, None, Some}
 use Rattle.terms.specs.Code.{prefix_code}
-use Rattle.terms.specs.Count.{count, once_if}
+use Rattle.terms.specs.Count.{once_if}
 use Rattle.terms.specs.Expr.{Expr}
 use Rattle.terms.specs.Listing.{Progress}
 use Rattle.terms.specs.Place.{IsInhabitant, total_of}
 use Rattle.terms.specs.declared.parts.Parts.{Parts}
 use Rattle.reconstruction.specs.Fronts.{begins}
 use Rattle.reconstruction.specs.Rebuilding.{Rebuilding}
+use Rattle.reconstruction.specs.Search.{times_completed}
 
 -- the completions of a partial term: the inhabitants whose prefix code begins with it
 abbrev pub completions_of : Parts → List ℕ → Expr → Type 0
@@ -40,10 +41,7 @@ waiting_with (Some item) queue = item ∷ queue
 abbrev pub waiting : Rebuilding → List (ℕ × List ℕ)
 waiting s = waiting_with s.held s.queue
 
--- in how many places of the lists the term's code begins with what stands there
-abbrev pub times_completed : Expr → List (List ℕ) → ℕ
-times_completed e fs = count (λ f. begins f (prefix_code e)) fs
-
--- each inhabitant that isn't given yet completes exactly one of these partial terms, and one that was given none
+-- Each inhabitant that isn't given yet completes exactly one of these partial terms, and one that was given none. A
+-- whole code is completed by its own term alone.
 abbrev pub AreDivided : Progress → List (List ℕ) → Type 0
 AreDivided p fs = (e : Expr) → IsInhabitant p.parts e → times_completed e fs ≡ once_if (nat_le p.from (total_of p.parts e))

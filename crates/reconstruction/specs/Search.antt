@@ -13,9 +13,9 @@ use Rattle.terms.specs.Count.{once_if, count}
 abbrev pub Queue : Type 0
 Queue = List (ℕ × List ℕ)
 
--- how many of the fronts the term completes
-abbrev pub held : Expr → List (List ℕ) → ℕ
-held e fs = count (λ f. begins f (prefix_code e)) fs
+-- how many of the fronts the term completes: its prefix code begins with them
+abbrev pub times_completed : Expr → List (List ℕ) → ℕ
+times_completed e fs = count (λ f. begins f (prefix_code e)) fs
 
 abbrev pub fronts : Queue → List (List ℕ)
 fronts q = map (λ i. i.1) q
@@ -33,4 +33,4 @@ children g least root f ns = map (λ n. (key_of least (reading g root (f ++ n �
 pub record IsSearch (g : Parts) (limit : ℕ) (least : Place → ℕ) (root : Place) (from : ℕ) (queue : Queue) (level : List (List ℕ)) : Type 0 where
   pub items : All (λ q. IsItem g limit least root q.0 q.1) queue
   pub ended : All (λ f. reading g root f ≡ Some (record { weight = from; open_places = [] })) level
-  pub divided : (e : Expr) → fits_place g root e ≡ true → weigh g root e ≤ limit → held e (fronts queue) + held e level ≡ once_if (nat_le from (weigh g root e))
+  pub divided : (e : Expr) → fits_place g root e ≡ true → weigh g root e ≤ limit → times_completed e (fronts queue) + times_completed e level ≡ once_if (nat_le from (weigh g root e))

@@ -59,7 +59,7 @@ impl Model for Rebuild {
 
 impl Rebuild {
     /// A search that has given nothing yet and popped nothing. It owns the environment.
-    pub fn new(alloc: Global, env: Env) -> Result<Rebuild, AllocError>
+    fn new(alloc: Global, env: Env) -> Result<Rebuild, AllocError>
         ensures start { IfOk result (λ search. search.progress ≡ record { parts = env; from = 0 }) }
         ensures fresh { IfOk result (λ search. (search.reached ≡ 0) × (search.pops ≡ 0)) }
     {
@@ -84,7 +84,7 @@ impl Rebuild {
 
     /// The next level, as `next_level` gives it. What is reached is its weight; after want of memory it is the
     /// weight of the level that was being made.
-    pub fn advance(&mut self, alloc: Global) -> Result<Option<Level>, AllocError>
+    fn advance(&mut self, alloc: Global) -> Result<Option<Level>, AllocError>
         ensures next { IfOk result (λ found. IfSome found (λ level.
             IsNextLevel self.old.progress.parts self.old.progress.from level
             × (self.new.progress ≡ record { parts = self.old.progress.parts; from = level.weight + 1 }))) }
@@ -123,9 +123,9 @@ impl Rebuild {
 
 impl Rebuild {
     /// How many items were popped so far; a count of 2^64 - 1 stands for that many or more. There are no more of
-    /// them than 1 and, for each term up to the weight of the level that was begun last, its nodes and 1: nothing
-    /// that leads nowhere is popped, and nothing twice. The 1 is the item that is held for the next level.
-    /// There are no fewer of them than terms given: each was popped when it was whole.
+    /// them than 1 and, for each term up to the weight of the level that was begun last, its nodes and 1. The 1 is
+    /// the item that is held for the next level. There are no fewer of them than terms given. It is what `pops`
+    /// answers.
     pub fn popped_items(&self) -> u64
         ensures count { result ≡ self.now.pops }
         ensures few { AreFew self.now.progress.parts self.now.reached result }

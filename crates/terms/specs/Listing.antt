@@ -40,7 +40,8 @@ pub record IsNextWeight (g : Parts) (from k : ℕ) : Type 0 where
   pub before : Skipped g from k
   pub some : (e : Expr) × (level_of g k e ≡ true)
 
--- so many steps are few up to a weight: 1 and, for each inhabitant up to it, its numbers and 1
+-- So many steps are few up to a weight: at most 1 and, for each inhabitant up to it, the length of its prefix code
+-- and 1. The sum is over any list in which each of these inhabitants stands.
 abbrev pub AreFew : Parts → ℕ → ℕ → Type 0
 AreFew g w steps = (es : List Expr) → ((e : Expr) → IsInhabitant g e → total_of g e ≤ w → Stands e es) → steps ≤ 1 + total (λ e. length (prefix_code e) + 1) es
 

@@ -17,11 +17,14 @@ pub struct Level {
 
 /// A search of one environment, which gives its inhabitants level by level, each exactly once.
 pub trait Levels: Sized {
+    /// The environment, and the weight from which levels are left.
     ghost progress: { Self → Progress };
 
-    /// The weight of the level that was begun last, or 0.
+    /// The weight up to which the search has gone: that of the level given last, or 0 before the first; after
+    /// want of memory it may be that of the level that was being made.
     ghost reached: { Self → ℕ };
 
+    /// How many steps it has counted.
     ghost popped: { Self → ℕ };
 
     /// A search that has given nothing yet. It owns the environment.
