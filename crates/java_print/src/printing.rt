@@ -11,13 +11,16 @@ use lists::Text;
 use std::alloc::{AllocError, Global};
 use terms::{Arg, Ctx, Decl, Env, Form, Parts, Term, TermArg};
 
+/// The bytes that a text has room for from the start; most texts of calls have about as many.
+const ROOM: usize = 64;
+
 /// The Java text of a term, in UTF-8 (Java Language Specification, chapters 6 and 15). A coercion is
 /// written as a cast only at the places of a declaration that asks for it.
 pub fn text(alloc: Global, env: &Env, term: &Term) -> Result<Text, AllocError>
     requires typed { type_in env.now [] (expr term.now) ≢ None }
     ensures text { IfOk result (λ text. text ≡ text_of env.now (expr term.now)) }
 {
-    let mut out = Text::new(alloc);
+    let mut out = Text::from_string(String::with_capacity(alloc, ROOM)?);
     print_term(alloc, env.parts(), &Ctx::empty(), term, &mut out)?;
     Ok(out)
 }
