@@ -9,10 +9,11 @@ use std::cmp::Ordering;
 fn compare(a: &Keyed, b: &Keyed) -> Ordering
     ensures { result ≡ keyed_cmp a.now b.now }
 {
-    a.item
-        .text
-        .compare(&b.item.text)
-        .then(a.code.as_slice().cmp(b.code.as_slice()))
+    match a.item.text.compare(&b.item.text) {
+        Ordering::Less => Ordering::Less,
+        Ordering::Equal => a.code.as_slice().cmp(b.code.as_slice()),
+        Ordering::Greater => Ordering::Greater,
+    }
 }
 
 /// Puts a level into order. After want of memory the same terms stand there, in some order.
