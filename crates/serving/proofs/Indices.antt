@@ -1,13 +1,15 @@
 -- Places in a list of names, one name further.
 use Rattle.std.proofs.Common.{rules, ◌≡◌, ◌∙◌, sym, ap, ℕ, suc, List, [], ◌∷◌, ◌++◌, length, refl, Bool, true, false, if◌then◌else◌, Option, Some, None, cond}
-use Rattle.std.specs.Prelude.{option_map, bytes_eq, is_some, unwrap_or}
-use Rattle.std.specs.BTreeMap.{BTreeMap, UpdatesBy, get_by_text}
-use Rattle.std.specs.Cmp.Lexicographic.{slice_cmp}
-use Rattle.std.specs.Ordering.{nat_cmp}
-use Rattle.std.specs.Prelude.{String, string_cmp, string_bytes}
+use Rattle.std.specs.Prelude.{option_map, bytes_eq, is_some, unwrap_or, ◌&&◌, map, Result, IfOk, MatchOption}
+use Rattle.std.specs.List.{list_all}
+use Rattle.std.specs.HashMap.{HashMap, UpdatesBy, get_by_text}
+use Rattle.std.specs.Prelude.{String, string_eq, string_bytes}
 use Rattle.std.proofs.lemmas.Cmp.{nat_list_eq_equiv}
-use Rattle.std.proofs.lemmas.Map.Text.{btree_map_updates_text}
+use Rattle.std.proofs.lemmas.Map.Text.{hash_map_updates_text}
 use Rattle.serving.specs.Words.{place_of, has, index_of}
+use Rattle.serving.specs.Sheets.{wanted}
+use Rattle.terms.specs.declared.parts.Arg.{Arg}
+use Rattle.terms.specs.declared.parts.Arg.TheVariants.{Plain}
 
 -- an entry that is found keeps its number, one that isn't gets the new one
 at_once : (b : Bool) (p q : Option ℕ) → (if b then Some 0 else option_map suc p) ≡ None → (b ≡ false) × (p ≡ None)
@@ -52,16 +54,26 @@ pub index-more : (ts more : List (List ℕ)) (t : List ℕ) → has ts t ≡ tru
 index-more ts more t h = ap (λ p. unwrap_or p 0) (place-more ts more t h)
 
 -- an index with no entry, and one with an entry more
-pub index-empty : {Y : Type 0} (m : BTreeMap (String Y) ℕ) (xs : List (List ℕ)) → m.entries ≡ [] → xs ≡ [] → (name : List ℕ) → get_by_text m name ≡ place_of xs name
+pub index-empty : {Y S : Type 0} (m : HashMap (String Y) ℕ S) (xs : List (List ℕ)) → m.entries ≡ [] → xs ≡ [] → (name : List ℕ) → get_by_text m name ≡ place_of xs name
 unfolding place_of
 index-empty m xs e is name = rw (e, is) refl
 
-pub index-added : {Y : Type 0} (m n : BTreeMap (String Y) ℕ) (bs x : List ℕ) (xs ys : List (List ℕ)) (k : ℕ) → UpdatesBy string_cmp (λ t. slice_cmp nat_cmp bs (string_bytes t)) m n (Some k) → bs ≡ x → ys ≡ xs ++ x ∷ [] → k ≡ length xs → place_of xs x ≡ None → ((name : List ℕ) → get_by_text m name ≡ place_of xs name) → (name : List ℕ) → get_by_text n name ≡ place_of ys name
+pub index-added : {Y S : Type 0} (m n : HashMap (String Y) ℕ S) (bs x : List ℕ) (xs ys : List (List ℕ)) (k : ℕ) → UpdatesBy string_eq (λ t. bytes_eq bs (string_bytes t)) m n (Some k) → bs ≡ x → ys ≡ xs ++ x ∷ [] → k ≡ length xs → place_of xs x ≡ None → ((name : List ℕ) → get_by_text m name ≡ place_of xs name) → (name : List ℕ) → get_by_text n name ≡ place_of ys name
 index-added m n bs x xs ys k h bx yx kx e old q =
-    let step : get_by_text n q ≡ cond (bytes_eq bs q) (Some k) (get_by_text m q) = btree_map_updates_text bs m n (Some k) h q in
+    let step : get_by_text n q ≡ cond (bytes_eq bs q) (Some k) (get_by_text m q) = hash_map_updates_text bs m n (Some k) h q in
     step
     ∙ ap (λ b. cond (bytes_eq b q) (Some k) (get_by_text m q)) bx
     ∙ ap (λ j. cond (bytes_eq x q) (Some j) (get_by_text m q)) kx
     ∙ ap (λ p. cond (bytes_eq x q) (Some (length xs)) p) (old q)
     ∙ sym (place-added xs x e q)
     ∙ ap (λ zs. place_of zs q) (sym yx)
+
+-- where there is no body's type, the types of the arguments are all
+without : (b : Bool) → (b && true) ≡ b
+without true = refl
+without false = refl
+
+pub no-body : {E : Type 0} (ts xs args body : List (List ℕ)) (r : Result (Option (List Arg)) E) → xs ≡ args → body ≡ []
+    → IfOk r (λ found. MatchOption found (list_all (has ts) xs ≡ false) (λ all. (list_all (has ts) xs ≡ true) × (all ≡ map (λ w. Plain (index_of ts w)) xs)))
+    → IfOk r (λ found. MatchOption found ((list_all (has ts) args && list_all (has ts) body) ≡ false) (λ all. ((list_all (has ts) args && list_all (has ts) body) ≡ true) × (all ≡ wanted ts args body)))
+no-body ts xs args body r is e h = rw (e, sym is, without (list_all (has ts) xs)) h

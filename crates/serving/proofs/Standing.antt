@@ -3,7 +3,7 @@ use Rattle.std.proofs.Common.{◌≡◌, ◌∙◌, sym, ap, ℕ, ◌+◌, List,
 use Rattle.std.specs.Prelude.{option_map, is_some}
 use Rattle.std.specs.List.{flat_map, list_all}
 use Rattle.std.proofs.lemmas.List.{flat_map_more}
-use Rattle.serving.specs.Words.{place_of, has, index_of, is_number, number}
+use Rattle.serving.specs.Words.{has, index_of, is_number, number}
 use Rattle.serving.specs.SheetLines.{Line, blank, other, type_line, sub_line, decl_line, goal_line, limit_line, depth_line, binder_line, DeclWords}
 use Rattle.serving.specs.Sheets.{types_of, goals_of, limits_of, depths_of, binders_of, type_in, goal_in, limit_in, depth_in, binder_in, pair_in, decl_in, decl_of, wanted, has_all, first, told, Seen, seen_in, cause, cause_after, number_cause, type_cause, once_cause, places_where, is_sub, is_decl, is_limit, is_depth}
 use Rattle.serving.specs.Standing.{Stands, added, seen_by}
@@ -26,15 +26,6 @@ once-none : (n : ℕ) (b : Bool) → once_cause n b ≡ None → b ≡ false
 unfolding once_cause
 once-none n true e = absurd cc
 once-none n false e = refl
-
-no_place : (p : Option ℕ) → is_some p ≡ false → p ≡ None
-no_place None e = refl
-no_place (Some n) e = absurd cc
-
--- a type's line without a cause has a new name
-pub fresh-type : (ts : List (List ℕ)) (seen : Seen) (t : List ℕ) → cause ts seen (type_line t) ≡ None → place_of ts t ≡ None
-unfolding cause
-fresh-type ts seen t e = no_place (place_of ts t) (once-none 6 (has ts t) e)
 
 both : (a b : Bool) → (a && b) ≡ true → (a ≡ true) × (b ≡ true)
 both true true e = (refl, refl)
@@ -304,5 +295,3 @@ stands-more n s ls l at st e =
       limit_lines = added-limit_lines n s l ∙ ap (λ x. x ++ places_where is_limit n (l ∷ [])) st.limit_lines ∙ ap (λ k. places_where is_limit 2 ls ++ places_where is_limit k (l ∷ [])) at ∙ sym (places-more is_limit 2 ls l);
       depth_lines = added-depth_lines n s l ∙ ap (λ x. x ++ places_where is_depth n (l ∷ [])) st.depth_lines ∙ ap (λ k. places_where is_depth 2 ls ++ places_where is_depth k (l ∷ [])) at ∙ sym (places-more is_depth 2 ls l);
     }
-
-pub ruleset fresh = (fresh-type)

@@ -1,9 +1,9 @@
 -- What a reader of a sheet has kept of the lines that it read.
-use Rattle.std.specs.Prelude.{◌≡◌, ℕ, List, [], ◌∷◌, ◌++◌, option_map, Option, Some, None, is_some, unwrap_or, codes}
+use Rattle.std.specs.Prelude.{◌≡◌, MatchResult, Result, ℕ, List, [], ◌∷◌, ◌++◌, option_map, Option, Some, None, is_some, unwrap_or, codes}
 use Rattle.std.specs.List.{flat_map}
 use Rattle.serving.specs.Words.{index_of, number}
 use Rattle.serving.specs.SheetLines.{Line, blank, other, type_line, sub_line, decl_line, goal_line, limit_line, depth_line, binder_line}
-use Rattle.serving.specs.Sheets.{Seen, Fault, types_of, goals_of, limits_of, depths_of, binders_of, pair_in, decl_in, decl_of, first, places_where, is_sub, is_decl, is_limit, is_depth}
+use Rattle.serving.specs.Sheets.{Seen, Fault, cause, types_of, goals_of, limits_of, depths_of, binders_of, pair_in, decl_in, decl_of, first, places_where, is_sub, is_decl, is_limit, is_depth}
 use Rattle.serving.specs.declared.sheet.Sheet.{Sheet}
 use Rattle.serving.specs.declared.reading.SheetFault.{SheetFault}
 use Rattle.serving.specs.declared.reading.SheetFault.TheVariants.{At, OutOfMemory}
@@ -65,6 +65,10 @@ Refuses fault OutOfMemory = Unit {0}
 abbrev pub RefusesAt : ℕ → Option ℕ → SheetFault → Type 0
 RefusesAt n found (At m c) = (m ≡ n) × (found ≡ Some c)
 RefusesAt n found OutOfMemory = Unit {0}
+
+-- a line of number n is taken where it has no cause, else refused
+abbrev pub Takes : {X : Type 0} → ℕ → Sheet → Sheet → Line → Result X SheetFault → Type 0
+Takes n old new l result = MatchResult result (λ _. (cause old.names (seen_by old) l ≡ None) × (new ≡ added n old l)) (λ fault. RefusesAt n (cause old.names (seen_by old) l) fault)
 
 -- the fault of the environment, by the lines that were kept
 unfoldable pub fault_by : Places → EnvFault → Option Fault

@@ -1,4 +1,4 @@
-ghost use Rattle.std.specs.Prelude.{◌≡◌, ◌∷◌, map, IfOk};
+ghost use Rattle.std.specs.Prelude.{◌≡◌, ◌∷◌, ◌&&◌, [], true, false, map, IfOk, MatchOption};
 ghost use Rattle.std.specs.List.{list_all};
 ghost use Rattle.serving.specs.Words.{texts, has, index_of};
 ghost use Rattle.serving.specs.SheetLines.{is_this, is_lambda, args_in, body_in, decl_words};
@@ -42,85 +42,80 @@ fn args_in<'w, 'a>(form: FormWord, words: &'w [&'a str]) -> &'w [&'a str]
     tail(words, 5)
 }
 
-/// Whether each word is a declared type.
-fn has_each(names: &Names, words: &[&str]) -> bool
-    ensures { result ≡ list_all (has names.now) (texts words.now) }
-{
-    for text in words {
-        if names.place(text).is_none() {
-            return false;
-        }
-    }
-    true
-}
-
-/// Whether the type of a lambda's body is declared.
-#[tactic(auto, unfolding(crate::specs::SheetLines::body_in))]
-fn has_body(names: &Names, form: FormWord, words: &[&str]) -> bool
-    ensures { result ≡ list_all (has names.now) (body_in form (texts words.now)) }
-{
-    if is_lambda(form) {
-        return names
-            .place(word(words, words.len().saturating_sub(1)))
-            .is_some();
-    }
-    true
-}
-
-/// Whether all types that a declaration names are declared.
-pub fn has_all(names: &Names, crowded: bool, form: FormWord, words: &[&str]) -> bool
-    ensures { result ≡ has_all names.now (decl_words crowded form (texts words.now)) }
-{
-    if names.place(word(words, 2)).is_none() {
-        return false;
-    }
-    if !has_each(names, args_in(form, words)) {
-        return false;
-    }
-    has_body(names, form, words)
-}
-
-/// The numbers of types.
-fn numbers(alloc: Global, names: &Names, words: &[&str]) -> Result<Items<u32>, AllocError>
-    ensures { IfOk result (λ all. all ≡ map (index_of names.now) (texts words.now)) }
+/// The numbers of types, where each is declared.
+fn numbers(alloc: Global, names: &Names, words: &[&str]) -> Result<Option<Items<u32>>, AllocError>
+    ensures { IfOk result (λ found. MatchOption found
+        (list_all (has names.now) (texts words.now) ≡ false)
+        (λ all. (list_all (has names.now) (texts words.now) ≡ true) × (all ≡ map (index_of names.now) (texts words.now)))) }
 {
     let mut all = Items::new(alloc);
     for text in words {
-        all.push(names.number(text))?;
+        let Some(number) = names.place(text) else {
+            return Ok(None);
+        };
+        all.push(number)?;
     }
-    Ok(all)
+    Ok(Some(all))
 }
 
-/// Places for values of types.
-fn plain(alloc: Global, names: &Names, words: &[&str]) -> Result<Items<Arg>, AllocError>
-    ensures { IfOk result (λ all. all ≡ map (λ w. Plain (index_of names.now w)) (texts words.now)) }
+/// Places for values of types, where each is declared.
+fn plain(alloc: Global, names: &Names, words: &[&str]) -> Result<Option<Items<Arg>>, AllocError>
+    ensures { IfOk result (λ found. MatchOption found
+        (list_all (has names.now) (texts words.now) ≡ false)
+        (λ all. (list_all (has names.now) (texts words.now) ≡ true) × (all ≡ map (λ w. Plain (index_of names.now w)) (texts words.now)))) }
 {
     let mut all = Items::new(alloc);
     for text in words {
-        all.push(Arg::Plain(names.number(text)))?;
+        let Some(number) = names.place(text) else {
+            return Ok(None);
+        };
+        all.push(Arg::Plain(number))?;
     }
-    Ok(all)
+    Ok(Some(all))
 }
 
-/// What a declaration wants.
+/// The place for a lambda, where all its types are declared.
+fn function(
+    alloc: Global,
+    names: &Names,
+    params: &[&str],
+    body: &str,
+) -> Result<Option<Items<Arg>>, AllocError>
+    ensures { IfOk result (λ found. MatchOption found
+        ((list_all (has names.now) (texts params.now) && has names.now body.now) ≡ false)
+        (λ all. ((list_all (has names.now) (texts params.now) && has names.now body.now) ≡ true)
+        × (all ≡ wanted names.now (texts params.now) (body.now ∷ [])))) }
+{
+    let Some(params) = numbers(alloc, names, params)? else {
+        return Ok(None);
+    };
+    let Some(body) = names.place(body) else {
+        return Ok(None);
+    };
+    let mut all = Items::new(alloc);
+    all.push(Arg::Fun(params, body))?;
+    Ok(Some(all))
+}
+
+/// What a declaration wants, where all its types are declared.
 #[tactic(auto, unfolding(crate::specs::SheetLines::body_in))]
 fn wanted(
     alloc: Global,
     names: &Names,
     form: FormWord,
     words: &[&str],
-) -> Result<Items<Arg>, AllocError>
-    ensures { IfOk result (λ all. all ≡ wanted names.now (args_in form (texts words.now)) (body_in form (texts words.now))) }
+) -> Result<Option<Items<Arg>>, AllocError>
+    ensures { IfOk result (λ found. MatchOption found
+        ((list_all (has names.now) (args_in form (texts words.now)) && list_all (has names.now) (body_in form (texts words.now))) ≡ false)
+        (λ all. ((list_all (has names.now) (args_in form (texts words.now)) && list_all (has names.now) (body_in form (texts words.now))) ≡ true)
+        × (all ≡ wanted names.now (args_in form (texts words.now)) (body_in form (texts words.now))))) }
 {
     let args = args_in(form, words);
-    if !is_lambda(form) {
-        return plain(alloc, names, args);
+    if is_lambda(form) {
+        let body = word(words, words.len().saturating_sub(1));
+        return function(alloc, names, args, body);
     }
-    let params = numbers(alloc, names, args)?;
-    let body = names.number(word(words, words.len().saturating_sub(1)));
-    let mut all = Items::new(alloc);
-    all.push(Arg::Fun(params, body))?;
-    Ok(all)
+    plain(alloc, names, args)
 }
 
 /// How a declaration is written in Java.
@@ -140,23 +135,31 @@ fn form_of(alloc: Global, form: FormWord, name: &str) -> Result<Form, AllocError
     }
 }
 
-/// The declaration that the words of a line say.
+/// The declaration that the words of a line say, where all its types are declared.
 pub fn decl_of(
     alloc: Global,
     names: &Names,
     crowded: bool,
     form: FormWord,
     words: &[&str],
-) -> Result<Decl, AllocError>
-    ensures { IfOk result (λ decl. decl ≡ decl_of names.now (decl_words crowded form (texts words.now))) }
+) -> Result<Option<Decl>, AllocError>
+    ensures { IfOk result (λ found. MatchOption found
+        (has_all names.now (decl_words crowded form (texts words.now)) ≡ false)
+        (λ decl. (has_all names.now (decl_words crowded form (texts words.now)) ≡ true)
+        × (decl ≡ decl_of names.now (decl_words crowded form (texts words.now))))) }
 {
-    let args = wanted(alloc, names, form, words)?;
+    let Some(result) = names.place(word(words, 2)) else {
+        return Ok(None);
+    };
+    let Some(args) = wanted(alloc, names, form, words)? else {
+        return Ok(None);
+    };
     let written = form_of(alloc, form, word(words, 4))?;
-    Ok(Decl {
+    Ok(Some(Decl {
         args,
-        result: names.number(word(words, 2)),
+        result,
         weight: number(word(words, 1)),
         crowded,
         form: written,
-    })
+    }))
 }

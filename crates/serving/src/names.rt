@@ -1,21 +1,21 @@
 ghost use Rattle.std.specs.Prelude.{◌≡◌, ◌<◌, ◌^◌, ◌++◌, ◌∷◌, [], None, OnOk, length};
-ghost use Rattle.serving.specs.Words.{place_of, index_of};
+ghost use Rattle.serving.specs.Words.{place_of};
 
 use lists::{Items, Text};
 use std::alloc::{AllocError, Global};
-use std::collections::BTreeMap;
+use std::collections::HashMap;
 use std::marker::Model;
 
-/// Names in their order, with an index: a name is looked up in logarithmic time. Contracts see the list.
+/// Names in their order, with an index: a name is looked up by its hash. Contracts see the list.
 #[derive(Drop)]
 pub struct Names {
     texts: Items<Text>,
-    places: BTreeMap<String, u32>,
+    places: HashMap<String, u32>,
 }
 
 impl Model for Names {
     ghost use Rattle.std.specs.Prelude.{◌≡◌, List, ℕ};
-    ghost use Rattle.std.specs.BTreeMap.{get_by_text};
+    ghost use Rattle.std.specs.HashMap.{get_by_text};
     ghost use Rattle.serving.specs.Words.{place_of};
 
     ghost Value = { List (List ℕ) };
@@ -32,7 +32,7 @@ impl Names {
     {
         Names {
             texts: Items::new(alloc),
-            places: BTreeMap::new(alloc),
+            places: HashMap::new(alloc),
         }
     }
 
@@ -41,13 +41,6 @@ impl Names {
         ensures { result ≡ place_of self.now name.now }
     {
         self.places.get(name).copied()
-    }
-
-    /// The place of a name, 0 where it isn't there.
-    pub fn number(&self, name: &str) -> u32
-        ensures { result ≡ index_of self.now name.now }
-    {
-        self.place(name).unwrap_or(0)
     }
 
     /// Adds a name at the end.

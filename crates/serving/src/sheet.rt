@@ -1,16 +1,16 @@
-ghost use Rattle.std.specs.Prelude.{◌≡◌, ◌<◌, ◌^◌, ◌&&◌, [], None, OnOk, length, MatchResult};
-ghost use Rattle.serving.specs.Words.{texts, words_of, is_number, has};
-ghost use Rattle.serving.specs.SheetLines.{line_by, line_of};
-ghost use Rattle.serving.specs.Sheets.{cause, number_cause, type_cause, once_cause};
-ghost use Rattle.serving.specs.Standing.{added, seen_by, RefusesAt};
+ghost use Rattle.std.specs.Prelude.{◌≡◌, ◌<◌, ◌^◌, [], None, length, MatchResult};
+ghost use Rattle.serving.specs.Words.{texts, word, words_of, is_number};
+ghost use Rattle.serving.specs.SheetLines.{type_line, sub_line, decl_line, goal_line, limit_line, depth_line, binder_line, decl_words, line_by, line_of};
+ghost use Rattle.serving.specs.Sheets.{cause, number_cause, once_cause};
+ghost use Rattle.serving.specs.Standing.{added, seen_by, RefusesAt, Takes};
 
-use crate::declaration::{decl_of, has_all};
-use crate::kind::{Kind, kind_of};
+use crate::declaration::decl_of;
+use crate::kind::{FormWord, Kind, kind_of};
 use crate::names::Names;
 use crate::reading::SheetFault;
 use crate::words::{is_number, number, word, words_of};
 use lists::{Items, Text};
-use std::alloc::{AllocError, Global};
+use std::alloc::Global;
 use terms::Decl;
 
 /// What the lines read so far say. The lines of pairs, declarations, limit and depth are kept by number.
@@ -37,20 +37,22 @@ fn number_cause(word: &str, later: Option<u32>) -> Option<u32>
     if is_number(word) { later } else { Some(4) }
 }
 
-/// The cause 5, unless the types are declared.
-#[tactic(auto, unfolding(crate::specs::Sheets::type_cause))]
-fn type_cause(declared: bool, later: Option<u32>) -> Option<u32>
-    ensures { result ≡ type_cause declared later }
-{
-    if declared { later } else { Some(5) }
-}
-
 /// A cause, where something was there before.
 #[tactic(auto, unfolding(crate::specs::Sheets::once_cause))]
 fn once_cause(number: u32, before: bool) -> Option<u32>
     ensures { result ≡ once_cause number before }
 {
     if before { Some(number) } else { None }
+}
+
+/// Refuses a line of this number where it has a cause.
+fn without_cause(cause: Option<u32>, number_of_line: u32) -> Result<(), SheetFault>
+    ensures { MatchResult result (λ _. cause ≡ None) (λ fault. RefusesAt number_of_line cause fault) }
+{
+    match cause {
+        Some(cause) => Err(SheetFault::At(number_of_line, cause)),
+        None => Ok(()),
+    }
 }
 
 impl Sheet {
@@ -85,90 +87,141 @@ impl Sheet {
         }
     }
 
-    /// Whether two types are declared.
-    fn has_both(&self, left: &str, right: &str) -> bool
-        ensures { result ≡ has self.now.names left.now && has self.now.names right.now }
+    /// Takes the name of a type.
+    #[tactic(auto, unfolding(crate::specs::Sheets::cause, crate::specs::Sheets::once_cause, crate::specs::Standing::added))]
+    fn take_type(
+        &mut self,
+        alloc: Global,
+        name: &str,
+        number_of_line: u32,
+    ) -> Result<(), SheetFault>
+        requires room { length self.old.names < 2 ^ 32 }
+        ensures { Takes number_of_line self.old self.new (type_line name.now) result }
     {
-        if self.names.place(left).is_none() {
-            return false;
+        if self.names.place(name).is_some() {
+            return Err(SheetFault::At(number_of_line, 6));
         }
-        self.names.place(right).is_some()
-    }
-
-    /// The cause at a line, by what was read before it.
-    #[tactic(auto, unfolding(crate::specs::Sheets::cause, crate::specs::SheetLines::line_by))]
-    fn cause(&self, kind: Kind, words: &[&str]) -> Option<u32>
-        ensures { result ≡ cause self.now.names (seen_by self.now) (line_by kind (texts words.now)) }
-    {
-        let name = word(words, 1);
-        match kind {
-            Kind::Blank => None,
-            Kind::Other => Some(3),
-            Kind::Type => once_cause(6, self.names.place(name).is_some()),
-            Kind::Sub => type_cause(self.has_both(name, word(words, 2)), None),
-            Kind::Decl(crowded, form) => {
-                number_cause(
-                    name,
-                    type_cause(has_all(&self.names, crowded, form, words), None),
-                )
-            }
-            Kind::Goal => type_cause(
-                self.names.place(name).is_some(),
-                once_cause(7, self.goal.is_some()),
-            ),
-            Kind::Limit => number_cause(name, once_cause(7, self.limit.is_some())),
-            Kind::Depth => number_cause(name, once_cause(7, self.depth.is_some())),
-            Kind::Binder => once_cause(7, self.binder.is_some()),
-        }
-    }
-
-    /// Adds a pair and its line.
-    #[tactic(auto, unfolding(crate::specs::Standing::added, crate::specs::SheetLines::line_by))]
-    fn add_pair(&mut self, words: &[&str], number: u32) -> Result<(), AllocError>
-        ensures { OnOk result (self.new ≡ added number self.old (line_by Kind.Sub (texts words.now))) }
-    {
-        let lower = self.names.number(word(words, 1));
-        let upper = self.names.number(word(words, 2));
-        self.pairs.push((lower, upper))?;
-        self.pair_lines.push(number)?;
+        self.names.add(alloc, name)?;
         Ok(())
     }
 
-    /// Adds what a line says, of this number, in whose words there is no fault.
-    #[tactic(auto, using(crate::proofs::Standing::fresh), unfolding(crate::specs::Standing::added, crate::specs::SheetLines::line_by))]
-    fn add(
+    /// Takes a pair. Each name is looked up once.
+    #[tactic(auto, unfolding(crate::specs::Sheets::cause, crate::specs::Sheets::type_cause, crate::specs::Standing::added))]
+    fn take_pair(&mut self, lower: &str, upper: &str, number_of_line: u32) -> Result<(), SheetFault>
+        ensures { Takes number_of_line self.old self.new (sub_line lower.now upper.now) result }
+    {
+        let Some(lower) = self.names.place(lower) else {
+            return Err(SheetFault::At(number_of_line, 5));
+        };
+        let Some(upper) = self.names.place(upper) else {
+            return Err(SheetFault::At(number_of_line, 5));
+        };
+        self.pairs.push((lower, upper))?;
+        self.pair_lines.push(number_of_line)?;
+        Ok(())
+    }
+
+    /// Takes a declaration. Each name is looked up once.
+    #[tactic(auto, unfolding(crate::specs::Sheets::cause, crate::specs::Sheets::number_cause, crate::specs::Sheets::type_cause, crate::specs::Standing::added))]
+    fn take_decl(
+        &mut self,
+        alloc: Global,
+        crowded: bool,
+        form: FormWord,
+        words: &[&str],
+        number_of_line: u32,
+    ) -> Result<(), SheetFault>
+        ensures { Takes number_of_line self.old self.new (decl_line (decl_words crowded form (texts words.now))) result }
+    {
+        if !is_number(word(words, 1)) {
+            return Err(SheetFault::At(number_of_line, 4));
+        }
+        let Some(decl) = decl_of(alloc, &self.names, crowded, form, words)? else {
+            return Err(SheetFault::At(number_of_line, 5));
+        };
+        self.decls.push(decl)?;
+        self.decl_lines.push(number_of_line)?;
+        Ok(())
+    }
+
+    /// Takes the goal.
+    #[tactic(auto, unfolding(crate::specs::Sheets::cause, crate::specs::Sheets::type_cause, crate::specs::Standing::added))]
+    fn take_goal(&mut self, name: &str, number_of_line: u32) -> Result<(), SheetFault>
+        ensures { Takes number_of_line self.old self.new (goal_line name.now) result }
+    {
+        let Some(goal) = self.names.place(name) else {
+            return Err(SheetFault::At(number_of_line, 5));
+        };
+        without_cause(once_cause(7, self.goal.is_some()), number_of_line)?;
+        self.goal = Some(goal);
+        Ok(())
+    }
+
+    /// Takes the limit.
+    #[tactic(auto, unfolding(crate::specs::Sheets::cause, crate::specs::Standing::added))]
+    fn take_limit(&mut self, name: &str, number_of_line: u32) -> Result<(), SheetFault>
+        ensures { Takes number_of_line self.old self.new (limit_line name.now) result }
+    {
+        let cause = number_cause(name, once_cause(7, self.limit.is_some()));
+        without_cause(cause, number_of_line)?;
+        self.limit = Some(number(name));
+        self.limit_lines.push(number_of_line)?;
+        Ok(())
+    }
+
+    /// Takes the depth.
+    #[tactic(auto, unfolding(crate::specs::Sheets::cause, crate::specs::Standing::added))]
+    fn take_depth(&mut self, name: &str, number_of_line: u32) -> Result<(), SheetFault>
+        ensures { Takes number_of_line self.old self.new (depth_line name.now) result }
+    {
+        let cause = number_cause(name, once_cause(7, self.depth.is_some()));
+        without_cause(cause, number_of_line)?;
+        self.depth = Some(number(name));
+        self.depth_lines.push(number_of_line)?;
+        Ok(())
+    }
+
+    /// Takes the binder.
+    #[tactic(auto, unfolding(crate::specs::Sheets::cause, crate::specs::Standing::added))]
+    fn take_binder(
+        &mut self,
+        alloc: Global,
+        name: &str,
+        number_of_line: u32,
+    ) -> Result<(), SheetFault>
+        ensures { Takes number_of_line self.old self.new (binder_line name.now) result }
+    {
+        without_cause(once_cause(7, self.binder.is_some()), number_of_line)?;
+        self.binder = Some(Text::from_str(alloc, name)?);
+        Ok(())
+    }
+
+    /// Takes what the words of a line of this number say, or says its cause.
+    #[tactic(auto, unfolding(crate::specs::Sheets::cause, crate::specs::Standing::added, crate::specs::SheetLines::line_by))]
+    fn take_words(
         &mut self,
         alloc: Global,
         kind: Kind,
         words: &[&str],
         number_of_line: u32,
-    ) -> Result<(), AllocError>
+    ) -> Result<(), SheetFault>
         requires room { length self.old.names < 2 ^ 32 }
-        requires faultless { cause self.old.names (seen_by self.old) (line_by kind (texts words.now)) ≡ None }
-        ensures { OnOk result (self.new ≡ added number_of_line self.old (line_by kind (texts words.now))) }
+        ensures { Takes number_of_line self.old self.new (line_by kind (texts words.now)) result }
     {
         let name = word(words, 1);
         match kind {
-            Kind::Blank | Kind::Other => {}
-            Kind::Type => self.names.add(alloc, name)?,
-            Kind::Sub => self.add_pair(words, number_of_line)?,
+            Kind::Blank => Ok(()),
+            Kind::Other => Err(SheetFault::At(number_of_line, 3)),
+            Kind::Type => self.take_type(alloc, name, number_of_line),
+            Kind::Sub => self.take_pair(name, word(words, 2), number_of_line),
             Kind::Decl(crowded, form) => {
-                let decl = decl_of(alloc, &self.names, crowded, form, words)?;
-                self.decls.push(decl)?;
-                self.decl_lines.push(number_of_line)?;
+                self.take_decl(alloc, crowded, form, words, number_of_line)
             }
-            Kind::Goal => self.goal = Some(self.names.number(name)),
-            Kind::Limit => {
-                self.limit = Some(number(name));
-                self.limit_lines.push(number_of_line)?;
-            }
-            Kind::Depth => {
-                self.depth = Some(number(name));
-                self.depth_lines.push(number_of_line)?;
-            }
-            Kind::Binder => self.binder = Some(Text::from_str(alloc, name)?),
+            Kind::Goal => self.take_goal(name, number_of_line),
+            Kind::Limit => self.take_limit(name, number_of_line),
+            Kind::Depth => self.take_depth(name, number_of_line),
+            Kind::Binder => self.take_binder(alloc, name, number_of_line),
         }
-        Ok(())
     }
 
     /// Takes a line of this number, or says its cause.
@@ -181,10 +234,6 @@ impl Sheet {
     {
         let words = words_of(alloc, line)?;
         let kind = kind_of(line, words.as_slice());
-        if let Some(cause) = self.cause(kind, words.as_slice()) {
-            return Err(SheetFault::At(number_of_line, cause));
-        }
-        self.add(alloc, kind, words.as_slice(), number_of_line)?;
-        Ok(())
+        self.take_words(alloc, kind, words.as_slice(), number_of_line)
     }
 }

@@ -6,6 +6,9 @@ ghost use Rattle.serving.specs.Words.{texts, word, words_of, is_word, is_number,
 
 use std::alloc::{AllocError, Global};
 
+/// So many words of a line have room from the start; few lines have more.
+const ROOM: usize = 8;
+
 /// The lines of a text. Each ends at a line feed, and a carriage return before it is dropped; the last
 /// line feed may be missing.
 pub fn lines_of(alloc: Global, text: &str) -> Result<Vec<&str>, AllocError>
@@ -18,7 +21,9 @@ pub fn lines_of(alloc: Global, text: &str) -> Result<Vec<&str>, AllocError>
 pub fn words_of(alloc: Global, line: &str) -> Result<Vec<&str>, AllocError>
     ensures { IfOk result (λ found. texts found.items ≡ words_of line.now) }
 {
-    line.split(' ').collect(alloc)
+    let mut words = Vec::with_capacity(alloc, ROOM)?;
+    words.extend(line.split(' '))?;
+    Ok(words)
 }
 
 /// One of some words, the empty one where there is none.
