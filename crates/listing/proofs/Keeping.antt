@@ -1,6 +1,6 @@
 -- The steps of a listing keep what it stands for.
 use Rattle.std.proofs.Common.{◌≡◌, ◌≢◌, ◌⊎◌, inl, inr, ℕ, zero, suc, ◌+◌, ◌<◌, ◌≤◌, Bool, true, false, ◌&&◌, ◌==◌, nat_le, nat_lt, List, [], ◌∷◌, ◌++◌, length, take, drop, get_or, slice_get, Option, Some, None, ◌-◌, map, All, IsSorted, IsPermutation, refl, sym, ap, subst, ◌∙◌, arith, append-nil, append_assoc}
-use Rattle.std.proofs.lemmas.Bool.{cases_lt, lt-ltb, and_parts, true≢false, false≢true}
+use Rattle.std.proofs.lemmas.Bool.{cases_lt, lt-ltb, and_parts, and_from, eq-eqb, true≢false, false≢true}
 use Rattle.std.proofs.lemmas.List.{map-append, length-map, length-append, take-append-drop, take-append-le, take_all, get_or_push}
 use Rattle.std.proofs.lemmas.Option.{slice_get_within, get_or_from_slice_get}
 use Rattle.std.proofs.lemmas.List.Elements.{All-nil, All-cons, All-append, All-map, All-push}
@@ -10,7 +10,7 @@ use Rattle.terms.specs.View.{expr}
 use Rattle.terms.specs.Place.{IsInhabitant, is_inhabitant, total_of}
 use Rattle.terms.specs.Count.{expr_eq, once_if, count, Stands}
 use Rattle.terms.specs.Order.{ComesBefore}
-use Rattle.terms.specs.Listing.{IsRising, IsFront, IsWhole, level_of, Skipped, IsNextLevel, Progress}
+use Rattle.terms.specs.Listing.{IsRising, IsFront, IsWhole, level_of, Skipped, IsNextLevel, IsNextWeight, Progress}
 use Rattle.terms.specs.declared.parts.Parts.{Parts}
 use Rattle.terms.specs.declared.term.Term.{Term}
 use Rattle.terms.specs.declared.levels.Level.{Level}
@@ -222,12 +222,53 @@ longer_trans xs ys zs a b =
     = split_longer ys zs b ∙ ap (λ us. us ++ drop (length ys) zs) (split_longer xs ys a) ∙ append_assoc xs (drop (length xs) ys) (drop (length ys) zs) in
     subst (IsLonger xs) (sym whole) (longer_append xs (drop (length xs) ys ++ drop (length ys) zs))
 
+-- where no level is held no weight from there on to where levels are left has a term
+none_held : (p : Progress) (found : List Item) (ws : List Term) (ks : List Keyed) (weight below : ℕ) (end : Bool) → ws ≡ [] → ks ≡ [] → IsKept p found ws ks weight below end → Skipped p.parts below p.from
+none_held p found ws ks weight below end ew ek h =
+    let a : IsKept p found [] [] weight below end = subst (λ us. IsKept p found us [] weight below end) ew (subst (λ us. IsKept p found ws us weight below end) ek h) in
+    skipped_none p.parts below p.from a.held_between
+
+-- what is lighter than the level that was begun last is found
+lighter_found : (p : Progress) (found : List Item) (ws : List Term) (ks : List Keyed) (weight below reached : ℕ) (end : Bool) → IsKept p found ws ks weight below end → Skipped p.parts below reached
+    → (e : Expr) → IsInhabitant p.parts e → total_of p.parts e < reached → Stands e (terms_of found)
+lighter_found p found ws ks weight below reached end h skip e inside lighter = elim (cases_lt (total_of p.parts e) below) [
+  | inl under ↦ between_stands p.parts 0 below (terms_of found) h.found_between e inside (omega arith) under
+  | inr over ↦ absurd (true≢false (sym (and_from (is_inhabitant p.parts e) (total_of p.parts e == total_of p.parts e) inside (eq-eqb (total_of p.parts e) (total_of p.parts e) refl)) ∙ skip (total_of p.parts e) over lighter e))
+]
+
+-- a level that was given stands right after what was found
+pub begun_level : (p q : Progress) (found : List Item) (ws : List Term) (ks : List Keyed) (weight below reached : ℕ) (end : Bool) (level : Level) → ws ≡ [] → ks ≡ [] → q ≡ record { parts = p.parts; from = level.weight + 1 } → reached ≡ level.weight
+    → IsNextLevel p.parts p.from level → IsKept p found ws ks weight below end → Skipped q.parts below reached
+begun_level p q found ws ks weight below reached end level ew ek eq er next h =
+    let here : Skipped p.parts below level.weight = skipped_join p.parts below p.from level.weight (none_held p found ws ks weight below end ew ek h) next.before in
+    subst (λ (x : Progress). Skipped x.parts below reached) (sym eq) (subst (λ n. Skipped p.parts below n) (sym er) here)
+
+-- and so does one that was being made
+pub begun_again : (p q : Progress) (found : List Item) (ws : List Term) (ks : List Keyed) (weight below old new : ℕ) (end : Bool) → ws ≡ [] → ks ≡ [] → q ≡ p → IsKept p found ws ks weight below end → Skipped p.parts below old
+    → (new ≡ old) ⊎ IsNextWeight p.parts p.from new → Skipped q.parts below new
+begun_again p q found ws ks weight below old new end ew ek eq h skip made = subst (λ (x : Progress). Skipped x.parts below new) (sym eq) here
+  where
+    here : Skipped p.parts below new
+    here = elim made [
+      | inl same ↦ subst (λ n. Skipped p.parts below n) (sym same) skip
+      | inr next ↦ skipped_join p.parts below p.from new (none_held p found ws ks weight below end ew ek h) next.before
+    ]
+
+-- a level that is found leaves less to be passed over
+pub begun_settled : (p : Progress) (found : List Item) (ws : List Term) (ks : List Keyed) (weight below reached : ℕ) (end : Bool) → ws ≡ [] → 0 < length ks → IsKept p found ws ks weight below end → Skipped p.parts below reached → Skipped p.parts (weight + 1) reached
+begun_settled p found ws ks weight below reached end none some h skip w a b =
+    let start : IsKept p found [] ks weight below end = subst (λ us. IsKept p found us ks weight below end) none h in
+    let low = not_below p found ks weight below end some start in
+    skip w (omega (arith, low, a)) b
+
 -- what is kept is a front of the list, and the whole of it at the end
-pub listed : (p : Progress) (found : List Item) (ws : List Term) (ks : List Keyed) (weight below pops : ℕ) (end : Bool) → IsKept p found ws ks weight below end → IsListed (record { parts = p.parts; found = found; at_end = end; pops = pops })
-listed p found ws ks weight below pops end h = record {
+pub listed : (p : Progress) (found : List Item) (ws : List Term) (ks : List Keyed) (weight below reached pops : ℕ) (end : Bool) → IsKept p found ws ks weight below end → Skipped p.parts below reached
+    → IsListed (record { parts = p.parts; found = found; at_end = end; reached = reached; pops = pops })
+listed p found ws ks weight below reached pops end h skip = record {
   levels = front_between p.parts below (terms_of found) h.rising h.found_between;
   items = h.items;
   whole = λ e. whole_between p.parts below (terms_of found) h.rising h.found_between (h.ended e);
+  no_further = λ e inside lighter. lighter_found p found ws ks weight below reached end h skip e inside lighter;
 }
 
 -- the same, where what is held is known to be nothing

@@ -33,19 +33,21 @@ pub record IsOfWholeLevels (g : Parts) (es : List Expr) : Type 0 where
   pub front : IsFront g es
   pub level : (e f : Expr) → IsInhabitant g e → Stands f es → total_of g e ≡ total_of g f → Stands e es
 
--- what a listing has found
+-- what a listing has found, and the weight up to which its search has gone
 pub record Listed : Type 0 where
   pub parts : Parts
   pub found : List Item
   pub at_end : Bool
+  pub reached : ℕ
   pub pops : ℕ
 
--- what is found is a front made of whole levels, its items say what their terms are, and it is the whole
--- list where the search has met its end
+-- what is found is a front made of whole levels, its items say what their terms are, it is the whole list where
+-- the search has met its end, and the search has gone no further than to the level that follows it
 pub record IsListed (l : Listed) : Type 0 where
   pub levels : IsOfWholeLevels l.parts (terms_of l.found)
   pub items : All (IsItem l.parts) l.found
   pub whole : l.at_end ≡ true → IsWhole l.parts (terms_of l.found)
+  pub no_further : (e : Expr) → IsInhabitant l.parts e → total_of l.parts e < l.reached → Stands e (terms_of l.found)
 
 -- the order within a level: by text, then by prefix code
 abbrev pub keyed_cmp : Keyed → Keyed → Ordering

@@ -4,6 +4,7 @@ ghost use Rattle.terms.specs.Typing.{type_in};
 ghost use Rattle.terms.specs.View.{expr};
 ghost use Rattle.terms.specs.Text.{text_of};
 ghost use Rattle.terms.specs.Code.{prefix_code};
+ghost use Rattle.terms.specs.Listing.{Skipped};
 ghost use Rattle.listing.specs.Found.{IsKept, IsWithin, IsNoFurther, IsLonger};
 
 use crate::coding::code_of;
@@ -57,9 +58,11 @@ impl<E: Levels> Growing<E> {
     /// Takes the next level to hold it, or notes the end.
     fn take_level(&mut self, alloc: Global) -> Result<(), AllocError>
         requires kept { IsKept (E.progress self.old.levels) self.old.found.items self.old.waiting self.old.keyed.items self.old.weight self.old.below self.old.at_end }
+        requires begun { Skipped (E.progress self.old.levels).parts self.old.below (E.reached self.old.levels) }
         requires free { (self.old.waiting ≡ []) × (self.old.keyed.items ≡ []) }
         requires going_on { self.old.at_end ≡ false }
         ensures kept { IsKept (E.progress self.new.levels) self.new.found.items self.new.waiting self.new.keyed.items self.new.weight self.new.below self.new.at_end }
+        ensures begun { Skipped (E.progress self.new.levels).parts self.new.below (E.reached self.new.levels) }
         ensures found { self.new.found.items ≡ self.old.found.items }
         ensures parts { (E.progress self.new.levels).parts ≡ (E.progress self.old.levels).parts }
         ensures next { OnOk result ((self.new.at_end ≡ true) ⊎ ((self.new.at_end ≡ false) × (self.new.waiting ≢ []))) }
@@ -83,8 +86,10 @@ impl<E: Levels> Growing<E> {
     /// Makes the text and the code of one term of the held level.
     fn make_text(&mut self, alloc: Global) -> Result<(), AllocError>
         requires kept { IsKept (E.progress self.old.levels) self.old.found.items self.old.waiting self.old.keyed.items self.old.weight self.old.below self.old.at_end }
+        requires begun { Skipped (E.progress self.old.levels).parts self.old.below (E.reached self.old.levels) }
         requires some { self.old.waiting ≢ [] }
         ensures kept { IsKept (E.progress self.new.levels) self.new.found.items self.new.waiting self.new.keyed.items self.new.weight self.new.below self.new.at_end }
+        ensures begun { Skipped (E.progress self.new.levels).parts self.new.below (E.reached self.new.levels) }
         ensures found { self.new.found.items ≡ self.old.found.items }
         ensures levels { self.new.levels ≡ self.old.levels }
         ensures end { self.new.at_end ≡ self.old.at_end }
@@ -112,7 +117,9 @@ impl<E: Levels> Growing<E> {
     /// Makes the texts of the held level.
     fn make_texts(&mut self, alloc: Global) -> Result<(), AllocError>
         requires kept { IsKept (E.progress self.old.levels) self.old.found.items self.old.waiting self.old.keyed.items self.old.weight self.old.below self.old.at_end }
+        requires begun { Skipped (E.progress self.old.levels).parts self.old.below (E.reached self.old.levels) }
         ensures kept { IsKept (E.progress self.new.levels) self.new.found.items self.new.waiting self.new.keyed.items self.new.weight self.new.below self.new.at_end }
+        ensures begun { Skipped (E.progress self.new.levels).parts self.new.below (E.reached self.new.levels) }
         ensures found { self.new.found.items ≡ self.old.found.items }
         ensures levels { self.new.levels ≡ self.old.levels }
         ensures end { self.new.at_end ≡ self.old.at_end }
@@ -128,9 +135,11 @@ impl<E: Levels> Growing<E> {
     /// Puts the held level into order and moves it behind what was found.
     fn settle(&mut self, alloc: Global) -> Result<(), AllocError>
         requires kept { IsKept (E.progress self.old.levels) self.old.found.items self.old.waiting self.old.keyed.items self.old.weight self.old.below self.old.at_end }
+        requires begun { Skipped (E.progress self.old.levels).parts self.old.below (E.reached self.old.levels) }
         requires made { self.old.waiting ≡ [] }
         requires some { 0 < length self.old.keyed.items }
         ensures kept { IsKept (E.progress self.new.levels) self.new.found.items self.new.waiting self.new.keyed.items self.new.weight self.new.below self.new.at_end }
+        ensures begun { Skipped (E.progress self.new.levels).parts self.new.below (E.reached self.new.levels) }
         ensures levels { self.new.levels ≡ self.old.levels }
         ensures end { self.new.at_end ≡ self.old.at_end }
         ensures longer { IsLonger self.old.found.items self.new.found.items }
@@ -152,8 +161,10 @@ impl<E: Levels> Growing<E> {
     /// Adds the held level to what was found.
     fn add_held(&mut self, alloc: Global) -> Result<(), AllocError>
         requires kept { IsKept (E.progress self.old.levels) self.old.found.items self.old.waiting self.old.keyed.items self.old.weight self.old.below self.old.at_end }
+        requires begun { Skipped (E.progress self.old.levels).parts self.old.below (E.reached self.old.levels) }
         requires some { 0 < length self.old.waiting + length self.old.keyed.items }
         ensures kept { IsKept (E.progress self.new.levels) self.new.found.items self.new.waiting self.new.keyed.items self.new.weight self.new.below self.new.at_end }
+        ensures begun { Skipped (E.progress self.new.levels).parts self.new.below (E.reached self.new.levels) }
         ensures levels { self.new.levels ≡ self.old.levels }
         ensures end { self.new.at_end ≡ self.old.at_end }
         ensures longer { IsLonger self.old.found.items self.new.found.items }
@@ -167,9 +178,11 @@ impl<E: Levels> Growing<E> {
     /// Takes the next level and adds it, or notes the end.
     fn add_next(&mut self, alloc: Global) -> Result<(), AllocError>
         requires kept { IsKept (E.progress self.old.levels) self.old.found.items self.old.waiting self.old.keyed.items self.old.weight self.old.below self.old.at_end }
+        requires begun { Skipped (E.progress self.old.levels).parts self.old.below (E.reached self.old.levels) }
         requires free { (self.old.waiting ≡ []) × (self.old.keyed.items ≡ []) }
         requires going_on { self.old.at_end ≡ false }
         ensures kept { IsKept (E.progress self.new.levels) self.new.found.items self.new.waiting self.new.keyed.items self.new.weight self.new.below self.new.at_end }
+        ensures begun { Skipped (E.progress self.new.levels).parts self.new.below (E.reached self.new.levels) }
         ensures parts { (E.progress self.new.levels).parts ≡ (E.progress self.old.levels).parts }
         ensures longer { IsLonger self.old.found.items self.new.found.items }
         ensures bound { IsWithin (E.progress self.new.levels).parts self.old.found.items self.new.found.items }
@@ -188,8 +201,10 @@ impl<E: Levels> Growing<E> {
     /// Lengthens what was found by one level, the held one first, or notes the end.
     pub fn add_level(&mut self, alloc: Global) -> Result<(), AllocError>
         requires kept { IsKept (E.progress self.old.levels) self.old.found.items self.old.waiting self.old.keyed.items self.old.weight self.old.below self.old.at_end }
+        requires begun { Skipped (E.progress self.old.levels).parts self.old.below (E.reached self.old.levels) }
         requires going_on { self.old.at_end ≡ false }
         ensures kept { IsKept (E.progress self.new.levels) self.new.found.items self.new.waiting self.new.keyed.items self.new.weight self.new.below self.new.at_end }
+        ensures begun { Skipped (E.progress self.new.levels).parts self.new.below (E.reached self.new.levels) }
         ensures parts { (E.progress self.new.levels).parts ≡ (E.progress self.old.levels).parts }
         ensures longer { IsLonger self.old.found.items self.new.found.items }
         ensures bound { IsWithin (E.progress self.new.levels).parts self.old.found.items self.new.found.items }
@@ -221,7 +236,9 @@ impl<E: Levels> Growing<E> {
     /// Lengthens what was found until it holds so many items, or the search has met its end.
     pub fn lengthen(&mut self, alloc: Global, wanted: usize) -> Result<(), AllocError>
         requires kept { IsKept (E.progress self.old.levels) self.old.found.items self.old.waiting self.old.keyed.items self.old.weight self.old.below self.old.at_end }
+        requires begun { Skipped (E.progress self.old.levels).parts self.old.below (E.reached self.old.levels) }
         ensures kept { IsKept (E.progress self.new.levels) self.new.found.items self.new.waiting self.new.keyed.items self.new.weight self.new.below self.new.at_end }
+        ensures begun { Skipped (E.progress self.new.levels).parts self.new.below (E.reached self.new.levels) }
         ensures parts { (E.progress self.new.levels).parts ≡ (E.progress self.old.levels).parts }
         ensures longer { IsLonger self.old.found.items self.new.found.items }
         ensures bound { IsNoFurther (E.progress self.new.levels).parts wanted self.old.found.items self.new.found.items }

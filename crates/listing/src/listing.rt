@@ -1,4 +1,5 @@
 ghost use Rattle.std.specs.Prelude.{◌≡◌, ◌↔◌, ◌<◌, ◌≤◌, ◌+◌, ◌^◌, [], IsTrue, IfOk, OnErr, false, length, take, drop};
+ghost use Rattle.terms.specs.Listing.{AreFew};
 ghost use Rattle.listing.specs.Found.{IsListed, IsLonger};
 ghost use Rattle.listing.specs.Pages.{IsPage, items_of};
 
@@ -22,6 +23,7 @@ impl<E: Levels> Model for Listing<E> {
     ghost use Rattle.terms.specs.contracts.term.Term as term;
     ghost use Rattle.std.specs.Coded.{codes};
     ghost use Rattle.listing.specs.Found.{Listed, IsKept};
+    ghost use Rattle.terms.specs.Listing.{Skipped};
 
     ghost Value = { Listed };
 
@@ -31,16 +33,17 @@ impl<E: Levels> Model for Listing<E> {
       parts = (E.progress l.growing.levels).parts;
       found = l.growing.found.items;
       at_end = l.growing.at_end;
+      reached = E.reached l.growing.levels;
       pops = E.popped l.growing.levels;
     } };
 
-    ghost invariant = { λ l. IsKept (E.progress l.growing.levels) l.growing.found.items l.growing.waiting l.growing.keyed.items l.growing.weight l.growing.below l.growing.at_end };
+    ghost invariant = { λ l. IsKept (E.progress l.growing.levels) l.growing.found.items l.growing.waiting l.growing.keyed.items l.growing.weight l.growing.below l.growing.at_end × Skipped (E.progress l.growing.levels).parts l.growing.below (E.reached l.growing.levels) };
 }
 
 impl<E: Levels> Listing<E> {
     /// A listing that has found nothing yet. It owns the environment.
     pub fn new(alloc: Global, env: Env) -> Result<Listing<E>, AllocError>
-        ensures fresh { IfOk result (λ listing. listing ≡ record { parts = env; found = []; at_end = false; pops = 0 }) }
+        ensures fresh { IfOk result (λ listing. listing ≡ record { parts = env; found = []; at_end = false; reached = 0; pops = 0 }) }
     {
         Ok(Listing {
             growing: Growing {
@@ -96,9 +99,11 @@ impl<E: Levels> Listing<E> {
         self.growing.levels.env().parts().same(env.parts())
     }
 
-    /// How many steps the search has taken, where it counts them. Takes no memory.
+    /// How many steps the search has taken, where it counts them: few for what it has reached, which is no further
+    /// than the level after what is found. Takes no memory.
     pub fn pops(&self) -> u64
         ensures count { result ≡ self.now.pops }
+        ensures few { AreFew self.now.parts self.now.reached result }
     {
         self.growing.levels.pops()
     }

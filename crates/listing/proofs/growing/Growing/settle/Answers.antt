@@ -1,6 +1,6 @@
 use Rattle.std.proofs.Common.{rules, ◌≡◌, ◌<◌, ◌+◌, ◌++◌, [], length, map, refl, ap, arith}
 use Rattle.listing.specs.Found.{item_of}
-use Rattle.listing.proofs.Keeping.{kept_sorted_at, within_same_at, kept_settled_at, within_settled_at, grown_at, longer_at}
+use Rattle.listing.proofs.Keeping.{kept_sorted_at, within_same_at, kept_settled_at, within_settled_at, grown_at, longer_at, begun_settled}
 use Rattle.listing.proofs.growing.Growing.settle.Goals as goal
 
 pub returns-in_err-put_in_order-clause-kept : goal.returns-in_err-put_in_order-clause-kept
@@ -47,3 +47,8 @@ returns-clause-grown g c =
     let ls = c.put_in_order.new.level.items in
     let whole : c.move_items.new.found.items ≡ s.found.items ++ map item_of ls = search rules in
     grown_at s.found.items c.move_items.new.found.items s.keyed.items ls c.put_in_order.ensures.same c.requires.some whole
+
+pub returns-clause-begun : goal.returns-clause-begun
+returns-clause-begun g c =
+    let s = c.args.self.now in
+    begun_settled (g.E.Levels.progress s.levels) s.found.items s.waiting s.keyed.items s.weight s.below (g.E.Levels.reached s.levels) s.at_end c.requires.made c.requires.some c.requires.kept c.requires.begun
