@@ -1,6 +1,6 @@
 // The partial terms that grow from one by the declarations at a state.
 
-ghost use Rattle.std.specs.Prelude.{◌≡◌, ◌≤◌, All, OnOk};
+ghost use Rattle.std.specs.Prelude.{◌≡◌, ◌+◌, ◌≤◌, All, OnOk};
 ghost use Rattle.reconstruction.specs.Tabled.{front_of, IsParent, AreHeld, AreGrown, Grew};
 ghost use Rattle.reconstruction.specs.Moves.{exact_numbers, exact_numbers_of, moves_at, numbers_of, all_numbers, IsExactMove, IsAnyMove};
 
@@ -9,43 +9,66 @@ use crate::item::{Arena, Item, Parent};
 use crate::tables::{Move, Tables};
 use std::alloc::AllocError;
 
-/// Adds what grows by a head that gives just the wanted type; a coercion adds nothing.
+/// What the head of a term within the limit may total with its coercion, at the most.
+fn room_of(tables: &Tables, parent: Parent) -> u32
+    ensures room { tables.now.env.limit ≤ parent.base + result }
+{
+    tables.env.parts().limit.saturating_sub(parent.base)
+}
+
+/// Adds what grows by a head that gives just the wanted type; a coercion adds nothing. Most heads are above the
+/// room, and are passed at once.
+#[inline(always)]
 fn grow_exact(
     tables: &Tables,
     arena: &mut Arena,
     aside: &mut Vec<(u32, Item)>,
     parent: Parent,
+    room: u32,
     step: u32,
     step_to: &Move,
 ) -> Result<(), AllocError>
     requires parent { IsParent tables.now arena.old parent }
     requires aside { AreHeld tables.now arena.old aside.old.items }
+    requires room { tables.now.env.limit ≤ parent.base + room }
     requires step { step ≤ 10 }
     requires turn { IsExactMove tables.now parent.spot step step_to.now }
     ensures grew { OnOk result (Grew tables.now arena.old arena.new (front_of arena.old parent.front) (exact_numbers_of step_to.now) aside.old.items aside.new.items) }
     ensures grown { AreGrown arena.old arena.new }
 {
     match step_to {
-        Move::Head(decl, total, states) => grow_by(
-            tables,
-            arena,
-            aside,
-            parent,
-            2 * *decl + 1,
-            *total + step,
-            parent.spot.row,
-            states.as_slice(),
-        ),
-        Move::Lambda(decl, total, state) => grow_by(
-            tables,
-            arena,
-            aside,
-            parent,
-            2 * *decl + 1,
-            *total + step,
-            *decl + 1,
-            &[*state],
-        ),
+        Move::Head(decl, total, states) => {
+            let whole = *total + step;
+            if whole > room {
+                return Ok(());
+            }
+            grow_by(
+                tables,
+                arena,
+                aside,
+                parent,
+                2 * *decl + 1,
+                whole,
+                parent.spot.row,
+                states.as_slice(),
+            )
+        }
+        Move::Lambda(decl, total, state) => {
+            let whole = *total + step;
+            if whole > room {
+                return Ok(());
+            }
+            grow_by(
+                tables,
+                arena,
+                aside,
+                parent,
+                2 * *decl + 1,
+                whole,
+                *decl + 1,
+                &[*state],
+            )
+        }
         Move::Below(_) => Ok(()),
     }
 }
@@ -66,8 +89,9 @@ fn grow_exacts(
     ensures grew { OnOk result (Grew tables.now arena.old arena.new (front_of arena.old parent.front) (exact_numbers moves.now) aside.old.items aside.new.items) }
     ensures grown { AreGrown arena.old arena.new }
 {
+    let room = room_of(tables, parent);
     for step_to in moves {
-        grow_exact(tables, arena, aside, parent, step, step_to)?;
+        grow_exact(tables, arena, aside, parent, room, step, step_to)?;
     }
     Ok(())
 }
@@ -105,7 +129,10 @@ fn grow_move(
             10,
             moves_at(tables, *state),
         ),
-        _ => grow_exact(tables, arena, aside, parent, 0, step_to),
+        _ => {
+            let room = room_of(tables, parent);
+            grow_exact(tables, arena, aside, parent, room, 0, step_to)
+        }
     }
 }
 
