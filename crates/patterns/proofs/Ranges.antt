@@ -1,6 +1,6 @@
 -- The sets of the states are there.
-use Rattle.std.proofs.Common.{◌≡◌, ◌⊎◌, inl, inr, ℕ, ◌<◌, ◌≤◌, List, length, get_or, slice_get, Some, Result, Ok, Err, OnOk, sym, ap, subst, ◌∙◌, arith}
-use Rattle.std.proofs.lemmas.Option.{slice_get-get_or}
+use Rattle.std.proofs.Common.{◌≡◌, ◌⊎◌, inl, inr, ℕ, ◌<◌, ◌≤◌, List, [], ◌∷◌, length, get_or, slice_get, Some, Result, Ok, Err, OnOk, refl, sym, ap, subst, ◌∙◌, arith}
+use Rattle.std.proofs.lemmas.Option.{slice_get-get_or, slice_get_within}
 use Rattle.patterns.specs.declared.state.State.{State}
 use Rattle.patterns.specs.declared.wanted.Wanted.{Wanted}
 use Rattle.patterns.specs.States.{Space, set_sought, IsListed, AreInRange, AreSetsInRange}
@@ -29,3 +29,15 @@ range-next p first old keys new i d from low same at before step sets start =
 -- the first state alone
 pub range-first : (p : Space) (goal : ℕ) (states : List State) → ((s : State) → IsListed states s → s ≡ record { set = 0; goal = goal }) → AreInRange p states
 range-first p goal states only s listed = (let e : s.set ≡ 0 = ap (λ x. x.set) (only s listed) in omega (arith, e))
+
+-- a state that is listed first is the only one
+pub only-listed : (old new : List State) (s : State) → old ≡ [] → ((x : State) → IsListed new x → IsListed old x ⊎ (x ≡ s)) → (x : State) → IsListed new x → x ≡ s
+only-listed old new s e more x at = elim (more x at) [
+  | inl h ↦ (let w = slice_get_within old h.0 x h.1 in let z = ap length e in absurd (omega (arith, w, z)))
+  | inr same ↦ same
+]
+
+-- and stands in front
+pub first-listed : (states : List State) (s : State) → IsListed states s → ((x : State) → IsListed states x → x ≡ s) → slice_get states 0 ≡ Some s
+first-listed [] s at only = (let w = slice_get_within [] at.0 s at.1 in absurd (omega (arith, w)))
+first-listed (x ∷ xs) s at only = ap (λ y. Some y) (only x (0, refl))

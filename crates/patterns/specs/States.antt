@@ -26,6 +26,10 @@ left_at p set = cond (set == 0) p.depth 0
 abbrev pub set_sought : Space → ℕ → Wanted → Option ℕ
 set_sought p set w = cond w.lambda (cond ((set == 0) && (p.depth == 1)) (Some w.set) None) (Some set)
 
+-- the states, as a table keeps them
+pub record StateTable : Type 0 where
+  pub keys : List State
+
 -- the place of a state among the states
 abbrev pub place_of : List State → State → Option ℕ
 place_of states s = position (λ x. (s.set == x.set) && (s.goal == x.goal)) states

@@ -8,8 +8,7 @@ ghost use Rattle.succinct.specs.Numbering.{IsGrown};
 use crate::ends::Ends;
 use crate::opening::open_state;
 use crate::sets::Sets;
-use crate::state::State;
-use indexmap::IndexSet;
+use crate::states::States;
 use std::alloc::AllocError;
 use succinct::Succinct;
 
@@ -19,7 +18,7 @@ pub fn explore(
     sets: &Sets,
     kinds: &[Succinct],
     ends: &Ends,
-    states: &mut IndexSet<State>,
+    states: &mut States,
 ) -> Result<(), AllocError>
     requires ends { AreEnds kinds.now ends.now }
     ensures open { OnOk result ((s : State) → IsListed states.new.keys s → IsOpenState sets.now kinds.now states.new.keys s (kinds_of kinds.now s.goal)) }

@@ -12,14 +12,14 @@ use crate::listing::{all_met, no_marks};
 use crate::sets::Sets;
 use crate::settling::settle;
 use crate::state::State;
-use indexmap::IndexSet;
+use crate::states::States;
 use std::alloc::{AllocError, Global};
 use succinct::Succinct;
 
 /// The states, and for each the kinds that are met there.
 #[derive(Drop)]
 pub struct Found {
-    pub states: IndexSet<State>,
+    pub states: States,
     pub lists: Vec<Vec<u32>>,
 }
 
@@ -29,7 +29,7 @@ fn lists_of(
     sets: &Sets,
     kinds: &[Succinct],
     ends: &Ends,
-    states: &IndexSet<State>,
+    states: &States,
 ) -> Result<Vec<Vec<u32>>, AllocError>
     requires ends { AreEnds kinds.now ends.now }
     requires closed { (s : State) → IsListed states.now.keys s → IsOpenState sets.now kinds.now states.now.keys s (kinds_of kinds.now s.goal) }
@@ -44,17 +44,25 @@ fn lists_of(
     Ok(lists)
 }
 
+/// An odd number above this goal and those of all needs, but for the last ones of 32 bits.
+fn width_of(sets: &Sets, goal: u32) -> u32 {
+    let mut most = goal;
+    for wanted in sets.wanted.as_slice() {
+        if wanted.goal > most {
+            most = wanted.goal;
+        }
+    }
+    most.wrapping_add(1) | 1
+}
+
 /// The first state alone.
-fn first_state(alloc: Global, goal: u32) -> Result<IndexSet<State>, AllocError>
+fn first_state(alloc: Global, sets: &Sets, goal: u32) -> Result<States, AllocError>
     ensures first { IfOk result (λ states. slice_get states.keys 0 ≡ Some (record { set = 0; goal = goal })) }
     ensures only { IfOk result (λ states. (s : State) → IsListed states.keys s → s ≡ record { set = 0; goal = goal }) }
 {
-    let mut states = IndexSet::new(alloc);
-    let first = State { set: 0, goal };
-    match states.insert(first) {
-        Ok(_) => Ok(states),
-        Err(_) => Err(AllocError),
-    }
+    let mut states = States::new(alloc, width_of(sets, goal));
+    states.list(State { set: 0, goal })?;
+    Ok(states)
 }
 
 /// All states that the goal leads to, with their lists. Want of memory is also answered where the states
@@ -71,7 +79,7 @@ pub fn find(
     ensures in_range { IfOk result (λ f. AreSetsInRange sets.now → AreInRange sets.now f.states.keys) }
     ensures small { IfOk result (λ f. length f.states.keys < 4294967296) }
 {
-    let mut states = first_state(alloc, goal)?;
+    let mut states = first_state(alloc, sets, goal)?;
     explore(sets, kinds, ends, &mut states)?;
     let lists = lists_of(alloc, sets, kinds, ends, &states)?;
     Ok(Found { states, lists })

@@ -6,8 +6,7 @@ ghost use Rattle.patterns.specs.States.{AreEnds, AreLists};
 use crate::ends::Ends;
 use crate::marking::kinds_met;
 use crate::sets::Sets;
-use crate::state::State;
-use indexmap::IndexSet;
+use crate::states::States;
 use std::alloc::{AllocError, Global};
 use succinct::Succinct;
 
@@ -29,7 +28,7 @@ pub fn all_met(
     sets: &Sets,
     kinds: &[Succinct],
     ends: &Ends,
-    states: &IndexSet<State>,
+    states: &States,
     marks: &[bool],
 ) -> Result<Vec<Vec<u32>>, AllocError>
     requires ends { AreEnds kinds.now ends.now }

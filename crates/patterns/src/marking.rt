@@ -7,7 +7,7 @@ ghost use Rattle.patterns.specs.Waiting.{ends_marked};
 
 use crate::sets::Sets;
 use crate::state::State;
-use indexmap::IndexSet;
+use crate::states::States;
 use std::alloc::{AllocError, Global};
 use succinct::Succinct;
 
@@ -22,7 +22,7 @@ pub fn is_marked(marks: &[bool], place: usize) -> bool
 }
 
 /// The place of the state in which a need is sought.
-pub fn need_place(sets: &Sets, states: &IndexSet<State>, from: State, need: u32) -> Option<usize>
+pub fn need_place(sets: &Sets, states: &States, from: State, need: u32) -> Option<usize>
     ensures value { result ≡ place_sought sets.now states.now.keys from (slice_get sets.now.wanted need) }
     ensures within { IfSome result (λ place. place < length states.now.keys) }
 {
@@ -35,17 +35,11 @@ pub fn need_place(sets: &Sets, states: &IndexSet<State>, from: State, need: u32)
         None => return None,
     };
     let goal = wanted.goal;
-    states.get_index_of(&State { set, goal })
+    states.get_index_of(State { set, goal })
 }
 
 /// Whether a need is met.
-fn need_is_met(
-    sets: &Sets,
-    states: &IndexSet<State>,
-    marks: &[bool],
-    from: State,
-    need: u32,
-) -> bool
+fn need_is_met(sets: &Sets, states: &States, marks: &[bool], from: State, need: u32) -> bool
     ensures value { result ≡ need_marked sets.now states.now.keys marks.now from need }
 {
     match need_place(sets, states, from, need) {
@@ -55,13 +49,7 @@ fn need_is_met(
 }
 
 /// Whether all of some needs are met.
-fn needs_are_met(
-    sets: &Sets,
-    states: &IndexSet<State>,
-    marks: &[bool],
-    from: State,
-    needs: &[u32],
-) -> bool
+fn needs_are_met(sets: &Sets, states: &States, marks: &[bool], from: State, needs: &[u32]) -> bool
     ensures value { result ≡ list_all (λ n. need_marked sets.now states.now.keys marks.now from n) needs.now }
 {
     for need in needs {
@@ -76,7 +64,7 @@ fn needs_are_met(
 fn kind_is_met(
     sets: &Sets,
     kinds: &[Succinct],
-    states: &IndexSet<State>,
+    states: &States,
     marks: &[bool],
     from: State,
     kind: u32,
@@ -93,7 +81,7 @@ fn kind_is_met(
 pub fn kind_ends_met(
     sets: &Sets,
     kinds: &[Succinct],
-    states: &IndexSet<State>,
+    states: &States,
     marks: &[bool],
     from: State,
     kind: u32,
@@ -113,7 +101,7 @@ pub fn kind_ends_met(
 pub fn some_kind_is_met(
     sets: &Sets,
     kinds: &[Succinct],
-    states: &IndexSet<State>,
+    states: &States,
     marks: &[bool],
     from: State,
     ending: &[u32],
@@ -133,7 +121,7 @@ pub fn kinds_met(
     alloc: Global,
     sets: &Sets,
     kinds: &[Succinct],
-    states: &IndexSet<State>,
+    states: &States,
     marks: &[bool],
     from: State,
     ending: &[u32],

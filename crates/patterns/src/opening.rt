@@ -8,27 +8,21 @@ ghost use Rattle.patterns.specs.declared.state.State.{State};
 
 use crate::sets::Sets;
 use crate::state::State;
-use indexmap::IndexSet;
+use crate::states::States;
 use std::alloc::AllocError;
-use succinct::{Succinct, number_of};
+use succinct::Succinct;
 
 /// Lists a state.
-pub fn list_state(states: &mut IndexSet<State>, state: State) -> Result<(), AllocError>
+pub fn list_state(states: &mut States, state: State) -> Result<(), AllocError>
     ensures listed { OnOk result (IsListed states.new.keys state) }
     ensures grown { IsGrown states.old.keys states.new.keys }
     ensures only { OnOk result ((s : State) → IsListed states.new.keys s → IsListed states.old.keys s ⊎ (s ≡ state)) }
 {
-    let _ = number_of(states, state)?;
-    Ok(())
+    states.list(state)
 }
 
 /// Lists the state in which a need is sought.
-pub fn open_need(
-    sets: &Sets,
-    states: &mut IndexSet<State>,
-    from: State,
-    need: u32,
-) -> Result<(), AllocError>
+pub fn open_need(sets: &Sets, states: &mut States, from: State, need: u32) -> Result<(), AllocError>
     ensures open { OnOk result (IsOpenNeed sets.now states.new.keys from need) }
     ensures grown { IsGrown states.old.keys states.new.keys }
     ensures in_range { OnOk result (AreSetsInRange sets.now → from.set ≤ length sets.now.bound → AreInRange sets.now states.old.keys → AreInRange sets.now states.new.keys) }
@@ -52,7 +46,7 @@ pub fn open_need(
 /// Lists the states in which the needs of a kind are sought.
 pub fn open_kind(
     sets: &Sets,
-    states: &mut IndexSet<State>,
+    states: &mut States,
     from: State,
     needs: &[u32],
 ) -> Result<(), AllocError>
@@ -69,7 +63,7 @@ pub fn open_kind(
 /// Lists the states in which the needs of a kind are sought, by the kind's number.
 fn open_numbered(
     sets: &Sets,
-    states: &mut IndexSet<State>,
+    states: &mut States,
     from: State,
     kinds: &[Succinct],
     kind: u32,
@@ -87,7 +81,7 @@ fn open_numbered(
 /// Lists the states in which the needs of kinds are sought.
 pub fn open_state(
     sets: &Sets,
-    states: &mut IndexSet<State>,
+    states: &mut States,
     from: State,
     kinds: &[Succinct],
     ending: &[u32],

@@ -11,6 +11,7 @@ use crate::ends::Ends;
 use crate::finding::{Found, find};
 use crate::sets::Sets;
 use crate::state::State;
+use crate::states::States;
 use crate::wanted::Wanted;
 use crate::wanting::all_wanted;
 use indexmap::IndexSet;
@@ -22,7 +23,7 @@ use succinct::Compressed;
 #[derive(Drop)]
 pub struct Patterns {
     sets: Sets,
-    states: IndexSet<State>,
+    states: States,
     lists: Vec<Vec<u32>>,
 }
 
@@ -149,7 +150,7 @@ impl Patterns {
     fn place_of(&self, state: State) -> Option<u32>
         ensures value { result ≡ place_of self.now.states state }
     {
-        match self.states.get_index_of(&state) {
+        match self.states.get_index_of(state) {
             Some(place) => Some(place as u32),
             None => None,
         }

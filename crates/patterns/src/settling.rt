@@ -12,8 +12,8 @@ use crate::ends::{Ends, list_at};
 use crate::marking::{is_marked, kind_ends_met, some_kind_is_met};
 use crate::sets::Sets;
 use crate::state::State;
+use crate::states::States;
 use crate::uses::{Use, all_uses, targets_of};
-use indexmap::IndexSet;
 use std::alloc::{AllocError, Global};
 use succinct::{Succinct, sources_by_kind};
 
@@ -34,7 +34,7 @@ fn is_seen(
     sets: &Sets,
     kinds: &[Succinct],
     ends: &Ends,
-    states: &IndexSet<State>,
+    states: &States,
     marks: &[bool],
     from: State,
 ) -> bool
@@ -63,7 +63,7 @@ fn mark_seen(
     sets: &Sets,
     kinds: &[Succinct],
     ends: &Ends,
-    states: &IndexSet<State>,
+    states: &States,
     marks: &mut Vec<bool>,
     order: &mut Vec<usize>,
     place: usize,
@@ -88,7 +88,7 @@ fn first_round(
     sets: &Sets,
     kinds: &[Succinct],
     ends: &Ends,
-    states: &IndexSet<State>,
+    states: &States,
     marks: &mut Vec<bool>,
     order: &mut Vec<usize>,
 ) -> Result<(), AllocError>
@@ -108,7 +108,7 @@ fn first_round(
 fn try_use(
     sets: &Sets,
     kinds: &[Succinct],
-    states: &IndexSet<State>,
+    states: &States,
     marks: &mut Vec<bool>,
     order: &mut Vec<usize>,
     one: Use,
@@ -145,7 +145,7 @@ fn use_at(uses: &[Use], number: u32) -> Option<Use>
 fn try_numbered(
     sets: &Sets,
     kinds: &[Succinct],
-    states: &IndexSet<State>,
+    states: &States,
     marks: &mut Vec<bool>,
     order: &mut Vec<usize>,
     uses: &[Use],
@@ -167,7 +167,7 @@ fn try_numbered(
 fn wake(
     sets: &Sets,
     kinds: &[Succinct],
-    states: &IndexSet<State>,
+    states: &States,
     marks: &mut Vec<bool>,
     order: &mut Vec<usize>,
     uses: &[Use],
@@ -188,7 +188,7 @@ fn wake(
 fn look(
     sets: &Sets,
     kinds: &[Succinct],
-    states: &IndexSet<State>,
+    states: &States,
     marks: &mut Vec<bool>,
     order: &mut Vec<usize>,
     uses: &[Use],
@@ -226,7 +226,7 @@ pub fn settle(
     sets: &Sets,
     kinds: &[Succinct],
     ends: &Ends,
-    states: &IndexSet<State>,
+    states: &States,
     marks: &mut Vec<bool>,
 ) -> Result<(), AllocError>
     requires ends { AreEnds kinds.now ends.now }

@@ -11,7 +11,7 @@ use crate::ends::Ends;
 use crate::marking::need_place;
 use crate::sets::Sets;
 use crate::state::State;
-use indexmap::IndexSet;
+use crate::states::States;
 use std::alloc::{AllocError, Global};
 use succinct::Succinct;
 
@@ -26,7 +26,7 @@ pub struct Use {
 /// Notes the use of the state in which a need is sought.
 fn add_use(
     sets: &Sets,
-    states: &IndexSet<State>,
+    states: &States,
     uses: &mut Vec<Use>,
     from: State,
     place: usize,
@@ -55,7 +55,7 @@ fn add_use(
 /// Notes the uses by some needs of a kind.
 fn add_kind_uses(
     sets: &Sets,
-    states: &IndexSet<State>,
+    states: &States,
     uses: &mut Vec<Use>,
     from: State,
     place: usize,
@@ -87,7 +87,7 @@ fn needs_of(kinds: &[Succinct], kind: u32) -> &[u32]
 fn add_state_uses(
     sets: &Sets,
     kinds: &[Succinct],
-    states: &IndexSet<State>,
+    states: &States,
     uses: &mut Vec<Use>,
     from: State,
     place: usize,
@@ -111,7 +111,7 @@ pub fn all_uses(
     sets: &Sets,
     kinds: &[Succinct],
     ends: &Ends,
-    states: &IndexSet<State>,
+    states: &States,
 ) -> Result<Vec<Use>, AllocError>
     requires ends { AreEnds kinds.now ends.now }
     requires small { length states.now.keys < 4294967296 }
