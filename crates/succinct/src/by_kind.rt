@@ -5,14 +5,34 @@ ghost use Rattle.succinct.specs.Compression.{places_of};
 
 use std::alloc::{AllocError, Global};
 
-/// As many empty lists.
-fn no_places(alloc: Global, count: usize) -> Result<Vec<Vec<u32>>, AllocError>
+/// How often each number below `count` stands in a list.
+fn counts_of(alloc: Global, count: usize, numbers: &[u32]) -> Result<Vec<usize>, AllocError> {
+    let mut counts = vec![in alloc; 0usize; count]?;
+    for number in numbers {
+        match counts.get_mut(*number as usize) {
+            Some(seen) => *seen = seen.wrapping_add(1),
+            None => {}
+        }
+    }
+    Ok(counts)
+}
+
+/// The count at a place, 0 where there is none.
+fn count_at(counts: &[usize], place: usize) -> usize {
+    match counts.get(place) {
+        Some(count) => *count,
+        None => 0,
+    }
+}
+
+/// As many empty lists, each with room for what is counted.
+fn no_places(alloc: Global, count: usize, counts: &[usize]) -> Result<Vec<Vec<u32>>, AllocError>
     ensures as_many { IfOk result (λ lists. length lists.items ≡ count) }
     ensures empty { IfOk result (λ lists. (k : ℕ) → k < count → slice_get (map (λ l. l.items) lists.items) k ≡ Some []) }
 {
     let mut lists = Vec::new(alloc);
-    for _ in 0..count {
-        lists.push(Vec::new(alloc))?;
+    for i in 0..count {
+        lists.push(Vec::with_capacity(alloc, count_at(counts, i))?)?;
     }
     Ok(lists)
 }
@@ -40,7 +60,8 @@ pub fn sources_by_kind(
     if numbers.len() > 4294967295 {
         return Err(AllocError);
     }
-    let mut lists = no_places(alloc, count)?;
+    let counts = counts_of(alloc, count, numbers)?;
+    let mut lists = no_places(alloc, count, counts.as_slice())?;
     for i in 0..numbers.len() {
         add_place(&mut lists, numbers[i], i as u32)?;
     }
