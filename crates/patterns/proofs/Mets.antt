@@ -1,11 +1,11 @@
 -- Marks are sound, and complete once nothing more can be marked.
-use Rattle.std.proofs.Common.{◌≡◌, inl, inr, ℕ, zero, suc, ◌+◌, ◌<◌, ◌≤◌, Bool, true, false, ◌&&◌, ◌==◌, cond, List, [], ◌∷◌, length, map, get_or, set, slice_get, Option, Some, None, refl, sym, ap, subst, ◌∙◌, arith}
+use Rattle.std.proofs.Common.{◌≡◌, inl, inr, ℕ, zero, suc, ◌+◌, ◌<◌, Bool, true, false, ◌&&◌, ◌==◌, cond, List, [], ◌∷◌, length, map, get_or, set, slice_get, Option, Some, None, refl, sym, ap, subst, ◌∙◌, arith}
 use Rattle.std.specs.List.{list_all, list_any}
 use Rattle.std.proofs.lemmas.Bool.{false≢true, and_parts, and_from, or_cases, or_left, or_right, eqb-true, eq-eqb, cases_eq, cases_lt, lt-ltb}
 use Rattle.std.proofs.lemmas.List.{get_or-set_other}
 use Rattle.std.proofs.lemmas.List.Quantifiers.{position-Some}
 use Rattle.std.proofs.lemmas.List.Sums.{position_or_len_is}
-use Rattle.std.proofs.Common.{nat_lt, ◌-◌}
+use Rattle.std.proofs.Common.{nat_lt}
 use Rattle.std.specs.List.{position_or_len}
 use Rattle.std.proofs.lemmas.Option.{slice_get-get_or, slice_get_within, get_or_from_slice_get}
 use Rattle.succinct.specs.Compression.{places_from, AreDistinct}
@@ -14,7 +14,7 @@ use Rattle.succinct.specs.Sets.{has}
 use Rattle.succinct.specs.declared.kind.Succinct.{Succinct}
 use Rattle.patterns.specs.declared.state.State.{State}
 use Rattle.patterns.specs.declared.wanted.Wanted.{Wanted}
-use Rattle.patterns.specs.States.{Space, types_at, set_sought, place_of, place_in, place_sought, marked_at, need_marked, needs_marked, kind_marked, kinds_of, is_seen, IsSettledAt, IsSettled, IsListed, IsOpenKind, IsOpenState}
+use Rattle.patterns.specs.States.{Space, types_at, set_sought, place_of, place_in, place_sought, marked_at, need_marked, needs_marked, kind_marked, kinds_of, is_seen, IsSettled, IsListed, IsOpenKind, IsOpenState}
 use Rattle.patterns.specs.Met.{IsMet, by_set, by_kind, AreMet, met_none, met_more, AreSound}
 
 same_state : (s t : State) → (s.set == t.set) && (s.goal == t.goal) ≡ true → s ≡ t
