@@ -7,3 +7,6 @@ pub mod RowLemmas
 pub mod Texts
 pub mod CountLemmas
 pub mod Results
+pub mod Searches
+pub mod Kept
+pub mod Outline

@@ -134,11 +134,11 @@ pub same_leaves : (cs : List ClassSummary) (n : Name) (p : ℕ) → Rises cs →
 same_leaves cs n p r at e = subst (Leaves (remove n ∷ []) cs) (cut_none n cs p at.below at.above e) (cut_leaves n cs r)
 
 -- edits one after the other
-or_assoc : (a b : Option (Option ClassSummary)) (c : Option ClassSummary) → told_or (or_else a b) c ≡ told_or a (told_or b c)
+pub or_assoc : (a b : Option (Option ClassSummary)) (c : Option ClassSummary) → told_or (or_else a b) c ≡ told_or a (told_or b c)
 or_assoc (Some x) b c = refl
 or_assoc None b c = refl
 
-told_append : (n : Name) (xs ys : List Edit) (d : Option ClassSummary) → told_or (decided n (xs ++ ys)) d ≡ told_or (decided n ys) (told_or (decided n xs) d)
+pub told_append : (n : Name) (xs ys : List Edit) (d : Option ClassSummary) → told_or (decided n (xs ++ ys)) d ≡ told_or (decided n ys) (told_or (decided n xs) d)
 unfolding decided
 told_append n [] ys d = refl
 told_append n (x ∷ xs) ys d = or_assoc (decided n (xs ++ ys)) (said n x) d ∙ told_append n xs ys (told_or (said n x) d) ∙ ap (told_or (decided n ys)) (sym (or_assoc (decided n xs) (said n x) d))

@@ -13,25 +13,25 @@ use Rattle.decl_index.specs.Refusals.{IsOneOf}
 use Rattle.decl_index.specs.Rows.{IsRow, IsGraph}
 use Rattle.decl_index.proofs.Circles.{named_at, place_named, once_at, got_within}
 
-oneof-left : (n : Name) (xs ys : List Name) → IsOneOf n xs → IsOneOf n (xs ++ ys)
+pub oneof-left : (n : Name) (xs ys : List Name) → IsOneOf n xs → IsOneOf n (xs ++ ys)
 unfolding IsOneOf
 oneof-left n [] ys h = absurd h
 oneof-left n (x ∷ xs) ys (inl e) = inl e
 oneof-left n (x ∷ xs) ys (inr h) = inr (oneof-left n xs ys h)
 
-oneof-last : (n : Name) (xs : List Name) → IsOneOf n (xs ++ n ∷ [])
+pub oneof-last : (n : Name) (xs : List Name) → IsOneOf n (xs ++ n ∷ [])
 unfolding IsOneOf
 oneof-last n [] = inl refl
 oneof-last n (x ∷ xs) = inr (oneof-last n xs)
 
-oneof-either : (n m : Name) (xs : List Name) → IsOneOf n (xs ++ m ∷ []) → IsOneOf n xs ⊎ (m ≡ n)
+pub oneof-either : (n m : Name) (xs : List Name) → IsOneOf n (xs ++ m ∷ []) → IsOneOf n xs ⊎ (m ≡ n)
 unfolding IsOneOf
 oneof-either n m [] (inl e) = inr e
 oneof-either n m [] (inr h) = absurd h
 oneof-either n m (x ∷ xs) (inl e) = inl (inl e)
 oneof-either n m (x ∷ xs) (inr h) = elim (oneof-either n m xs h) [ inl k ↦ inl (inr k) | inr e ↦ inr e ]
 
-oneof-none : {P : Type 0} (n : Name) → IsOneOf n [] → P
+pub oneof-none : {P : Type 0} (n : Name) → IsOneOf n [] → P
 unfolding IsOneOf
 oneof-none n h = absurd h
 
@@ -65,7 +65,7 @@ row_miss cs xs row n r none is = record {
   ];
 }
 
-next_names : (xs : List Name) (i : ℕ) (n : Name) → i < length xs → n ≡ get_or xs i n → take i xs ++ n ∷ [] ≡ take (i + 1) xs
+pub next_names : (xs : List Name) (i : ℕ) (n : Name) → i < length xs → n ≡ get_or xs i n → take i xs ++ n ∷ [] ≡ take (i + 1) xs
 next_names xs i n l e = ap (λ x. take i xs ++ x ∷ []) e ∙ sym (take_more xs i n l)
 
 pub row_found : (cs : List ClassSummary) (xs : List Name) (i : ℕ) (row next : List ℕ) (n : Name) (p : ℕ) → i < length xs → n ≡ get_or xs i n → next ≡ row ++ p ∷ [] → Rises cs → IsPlaceOf cs (class_named cs n) (Some p) → IsRow cs (take i xs) row → IsRow cs (take (i + 1) xs) next
@@ -96,7 +96,7 @@ get_last [] row (suc a) l = absurd (omega (arith, l))
 get_last (x ∷ rows) row zero l = absurd (omega (arith, l))
 get_last (x ∷ rows) row (suc a) l = get_last rows row a (omega arith)
 
-below_or : (a i : ℕ) → a < i + 1 → (a < i) ⊎ (a ≡ i)
+pub below_or : (a i : ℕ) → a < i + 1 → (a < i) ⊎ (a ≡ i)
 below_or zero zero l = inr refl
 below_or zero (suc i) l = inl (omega arith)
 below_or (suc a) zero l = absurd (omega (arith, l))

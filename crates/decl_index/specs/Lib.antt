@@ -3,3 +3,4 @@ pub mod Refusals
 pub mod Places
 pub mod Rows
 pub mod Steps
+pub mod Changed

@@ -1,13 +1,17 @@
 ghost use Rattle.std.specs.Prelude.{◌≡◌, ◌++◌, List, ℕ, None, Some, IfOk, IfSome, IfNone, OnOk, map, if◌then◌else◌, bytes_eq, reverse};
 ghost use Rattle.std.specs.Arc.{arc_value};
 ghost use Rattle.class_summary.specs.Known.{class_named, outer_of, nesting_at, simple_in, nested_name, dotted, canonical};
-ghost use Rattle.decl_index.specs.History.{Name, Rises, or_else};
+ghost use Rattle.decl_index.specs.History.{Name, Rises, or_else, remove, put};
 ghost use Rattle.decl_index.specs.Refusals.{HasNoCircle, outers_of};
-ghost use Rattle.decl_index.specs.Places.{called_place, place_among, canonical_names};
+ghost use Rattle.decl_index.specs.Places.{Leaves, called_place, place_among, canonical_names};
 
+use crate::changed::all_keep_nesting;
 use crate::table::{Shared, find};
+use class_summary::ClassSummary;
+use lists::Text;
 use std::alloc::{AllocError, Global};
 use std::collections::BTreeMap;
+use std::sync::Arc;
 
 /// The places of classes by their canonical names.
 pub type Called = BTreeMap<Vec<u8>, usize>;
@@ -107,4 +111,27 @@ pub fn called(alloc: Global, classes: &[Shared]) -> Result<Called, AllocError>
         add(&mut called, name, place)?;
     }
     Ok(called)
+}
+
+/// The places by canonical names after these removes and puts. Where each put has the name and the nesting
+/// of a class before it and nothing is removed, they are those before it, which are shared.
+pub fn called_after(
+    alloc: Global,
+    called_before: &Arc<Called, Global>,
+    old: &[Shared],
+    classes: &[Shared],
+    removes: &[Text],
+    puts: &[ClassSummary],
+) -> Result<Arc<Called, Global>, AllocError>
+    requires rises { Rises (map arc_value old.now) }
+    requires free { HasNoCircle outers_of None (map arc_value classes.now) }
+    requires leaves { Leaves (map remove removes.now ++ map put puts.now) (map arc_value old.now) (map arc_value classes.now) }
+    requires called { (text : Name) → called_place (arc_value called_before.now) text ≡ place_among (canonical_names (map arc_value old.now)) text }
+    ensures { IfOk result (λ called. (text : Name) → called_place (arc_value called) text ≡ place_among (canonical_names (map arc_value classes.now)) text) }
+{
+    if removes.is_empty() && all_keep_nesting(old, puts) {
+        return Arc::try_clone(called_before);
+    }
+    let places = called(alloc, classes)?;
+    Ok(Arc::new(alloc, places).map_err(|_| AllocError)?)
 }

@@ -1,11 +1,14 @@
-ghost use Rattle.std.specs.Prelude.{◌≡◌, ◌⊎◌, ◌≤◌, IfOk, IfSome, OnOk, IfErr, MatchOption, Some, None, map, sum_by, option_map};
+ghost use Rattle.std.specs.Prelude.{◌≡◌, ◌⊎◌, ◌≤◌, ◌++◌, IfOk, IfSome, OnOk, IfErr, MatchOption, Some, None, map, sum_by, option_map};
 ghost use Rattle.std.specs.Arc.{arc_value};
 ghost use Rattle.decl_index.specs.declared.change.ChangeFault.TheVariants.{OutOfMemory};
-ghost use Rattle.decl_index.specs.History.{Rises};
+ghost use Rattle.decl_index.specs.History.{Rises, remove, put};
+ghost use Rattle.decl_index.specs.Places.{Leaves};
+ghost use Rattle.decl_index.specs.Changed.{IsFree};
 ghost use Rattle.decl_index.specs.Refusals.{supers_of, outers_of, object_name, method_parts, parts_of, parts_in, HasNoCircle, IsLeastCircle, IsFaultOf, IsSound};
 ghost use Rattle.decl_index.specs.Rows.{IsRow, IsGraph};
 
 use crate::change::ChangeFault;
+use crate::changed::one_may_come_back;
 use crate::table::{Shared, find};
 use class_summary::{ClassSummary, MethodSummary};
 use graphs::least_cycle;
@@ -34,7 +37,7 @@ fn row(alloc: Global, classes: &[Shared], names: &[Text]) -> Result<Items<usize>
 }
 
 /// The name of the class around a class, as a list.
-fn outer_names(class: &ClassSummary) -> &[Text]
+pub(crate) fn outer_names(class: &ClassSummary) -> &[Text]
     ensures { result.now ≡ outers_of class.now }
 {
     match &class.nesting {
@@ -125,10 +128,10 @@ fn parts_in(classes: &[Shared]) -> Option<u64>
     Some(parts)
 }
 
-/// Whether the classes may be published. More parts than 64 bits count don't fit in memory.
-pub fn check(alloc: Global, classes: &[Shared]) -> Result<(), ChangeFault>
+/// Whether no class but `java/lang/Object` reaches itself: all classes are looked at.
+fn check_circles(alloc: Global, classes: &[Shared]) -> Result<(), ChangeFault>
     requires { Rises (map arc_value classes.now) }
-    ensures sound { OnOk result (IsSound (map arc_value classes.now)) }
+    ensures free { OnOk result (IsFree (map arc_value classes.now)) }
     ensures refused { IfErr result (λ fault. (fault ≡ OutOfMemory) ⊎ IsFaultOf (map arc_value classes.now) fault) }
 {
     if let Some(name) = super_circle(alloc, classes)? {
@@ -137,6 +140,44 @@ pub fn check(alloc: Global, classes: &[Shared]) -> Result<(), ChangeFault>
     if let Some(name) = outer_circle(alloc, classes)? {
         return Err(ChangeFault::NestCycle(name));
     }
+    Ok(())
+}
+
+/// The same where the classes were free of circles before these puts: a circle then passes through one of
+/// them, and all classes are looked at only where one may reach itself.
+fn check_changed(
+    alloc: Global,
+    old: &[Shared],
+    classes: &[Shared],
+    removes: &[Text],
+    puts: &[ClassSummary],
+) -> Result<(), ChangeFault>
+    requires free { IsFree (map arc_value old.now) }
+    requires leaves { Leaves (map remove removes.now ++ map put puts.now) (map arc_value old.now) (map arc_value classes.now) }
+    ensures free { OnOk result (IsFree (map arc_value classes.now)) }
+    ensures refused { IfErr result (λ fault. (fault ≡ OutOfMemory) ⊎ IsFaultOf (map arc_value classes.now) fault) }
+{
+    if one_may_come_back(alloc, classes, puts)? {
+        return check_circles(alloc, classes);
+    }
+    Ok(())
+}
+
+/// Whether the classes may be published, which these removes and puts made of classes free of circles. More
+/// parts than 64 bits count don't fit in memory.
+pub fn check(
+    alloc: Global,
+    old: &[Shared],
+    classes: &[Shared],
+    removes: &[Text],
+    puts: &[ClassSummary],
+) -> Result<(), ChangeFault>
+    requires free { IsFree (map arc_value old.now) }
+    requires leaves { Leaves (map remove removes.now ++ map put puts.now) (map arc_value old.now) (map arc_value classes.now) }
+    ensures sound { OnOk result (IsSound (map arc_value classes.now)) }
+    ensures refused { IfErr result (λ fault. (fault ≡ OutOfMemory) ⊎ IsFaultOf (map arc_value classes.now) fault) }
+{
+    check_changed(alloc, old, classes, removes, puts)?;
     let Some(parts) = parts_in(classes) else {
         return Err(ChangeFault::OutOfMemory);
     };

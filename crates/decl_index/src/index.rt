@@ -6,7 +6,7 @@ ghost use Rattle.decl_index.specs.History.{IsState, use_of};
 ghost use Rattle.decl_index.specs.Refusals.{Refuses, IsTooHigh};
 ghost use Rattle.decl_index.specs.Steps.{IsPublished, IsPublishFault, IsWithdrawn};
 
-use crate::called::{Called, called};
+use crate::called::{Called, called_after};
 use crate::change::{Change, ChangeFault};
 use crate::checks::check;
 use crate::counts::{Counts, with_counts};
@@ -33,12 +33,13 @@ impl Model for Index {
     ghost use Rattle.std.specs.Arc.{arc_value};
     ghost use Rattle.decl_index.specs.History.{State, Name, Rises};
     ghost use Rattle.decl_index.specs.Places.{called_place, place_among, canonical_names, count_pairs};
+    ghost use Rattle.decl_index.specs.Changed.{IsFree};
 
     ghost Value = { State };
 
     ghost view = { λ i. record { classes = map arc_value i.classes.items; counts = count_pairs (arc_value i.counts); number = i.number } };
 
-    ghost invariant = { λ i. Rises (map arc_value i.classes.items) × ((text : Name) → called_place (arc_value i.called) text ≡ place_among (canonical_names (map arc_value i.classes.items)) text) };
+    ghost invariant = { λ i. Rises (map arc_value i.classes.items) × ((text : Name) → called_place (arc_value i.called) text ≡ place_among (canonical_names (map arc_value i.classes.items)) text) × IsFree (map arc_value i.classes.items) };
 }
 
 impl Index {
@@ -83,8 +84,8 @@ impl Index {
         let mut classes = share(alloc, &self.classes)?;
         take_all(&mut classes, removes);
         put_all(alloc, &mut classes, puts)?;
-        check(alloc, &classes)?;
-        let called = Arc::new(alloc, called(alloc, &classes)?).map_err(|_| AllocError)?;
+        check(alloc, &self.classes, &classes, removes, puts)?;
+        let called = called_after(alloc, &self.called, &self.classes, &classes, removes, puts)?;
         Ok(Index {
             classes,
             counts: with_counts(alloc, &self.counts, counts)?,

@@ -5,6 +5,7 @@
 
 mod called;
 mod change;
+mod changed;
 mod checks;
 mod counts;
 mod index;

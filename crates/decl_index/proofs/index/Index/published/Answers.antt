@@ -1,4 +1,4 @@
-use Rattle.std.proofs.Common.{rules, ◌≡◌, ◌⊎◌, sym, subst, map, List, ℕ}
+use Rattle.std.proofs.Common.{rules, ◌≡◌, ◌⊎◌, ◌++◌, sym, subst, map, List, ℕ}
 use Rattle.std.specs.Prelude.{unwrap_or, IfErr}
 use Rattle.decl_index.specs.declared.change.ChangeFault.{ChangeFault}
 use Rattle.decl_index.specs.declared.change.ChangeFault.TheVariants.{OutOfMemory}
@@ -11,6 +11,24 @@ use Rattle.decl_index.proofs.Places.{leaves-then}
 use Rattle.decl_index.proofs.CountLemmas.{counted-use}
 use Rattle.decl_index.proofs.Results.{or_then, err_then}
 use Rattle.decl_index.proofs.index.Index.published.Goals as goal
+
+pub check-requires-clause-leaves : goal.check-requires-clause-leaves
+check-requires-clause-leaves c =
+    let first : Leaves (map remove c.args.removes.now) c.args.self.now.classes (map arc_value c.take_all.new.classes.items) = search rules in
+    let second : Leaves (map put c.args.puts.now) (map arc_value c.take_all.new.classes.items) (map arc_value c.put_all.new.classes.items) = search rules in
+    let whole : Leaves (map remove c.args.removes.now ++ map put c.args.puts.now) c.args.self.now.classes (map arc_value c.put_all.new.classes.items) = leaves-then _ _ _ _ _ first second in
+    let old : c.args.self.now.classes ≡ map arc_value c.deref-2.result.now = search rules in
+    let new : map arc_value c.put_all.new.classes.items ≡ map arc_value c.deref-3.result.now = search rules in
+    subst (Leaves (map remove c.args.removes.now ++ map put c.args.puts.now) (map arc_value c.deref-2.result.now)) new (subst (λ cs. Leaves (map remove c.args.removes.now ++ map put c.args.puts.now) cs (map arc_value c.put_all.new.classes.items)) old whole)
+
+pub called_after-requires-clause-leaves : goal.called_after-requires-clause-leaves
+called_after-requires-clause-leaves c =
+    let first : Leaves (map remove c.args.removes.now) c.args.self.now.classes (map arc_value c.take_all.new.classes.items) = search rules in
+    let second : Leaves (map put c.args.puts.now) (map arc_value c.take_all.new.classes.items) (map arc_value c.put_all.new.classes.items) = search rules in
+    let whole : Leaves (map remove c.args.removes.now ++ map put c.args.puts.now) c.args.self.now.classes (map arc_value c.put_all.new.classes.items) = leaves-then _ _ _ _ _ first second in
+    let old : c.args.self.now.classes ≡ map arc_value c.deref-4.result.now = search rules in
+    let new : map arc_value c.put_all.new.classes.items ≡ map arc_value c.deref-5.result.now = search rules in
+    subst (Leaves (map remove c.args.removes.now ++ map put c.args.puts.now) (map arc_value c.deref-4.result.now)) new (subst (λ cs. Leaves (map remove c.args.removes.now ++ map put c.args.puts.now) cs (map arc_value c.put_all.new.classes.items)) old whole)
 
 pub returns : goal.returns
 returns c =
@@ -34,7 +52,7 @@ returns-in_err-check-clause-refused c =
     let second : Leaves (map put c.args.puts.now) (map arc_value c.take_all.new.classes.items) (map arc_value c.put_all.new.classes.items) = search rules in
     let Q : ChangeFault → Type 0 = λ fault. (fault ≡ OutOfMemory) ⊎ IsPublishFault c.args.puts.now c.args.removes.now c.args.self.now fault in
     let left = map arc_value c.put_all.new.classes.items in
-    let handed : c.deref-2.result.now ≡ c.put_all.new.classes.items = search rules in
+    let handed : c.deref-3.result.now ≡ c.put_all.new.classes.items = search rules in
     let refused : (c.in_err-check.field-0.0 ≡ OutOfMemory) ⊎ IsFaultOf left c.in_err-check.field-0.0 = subst (λ xs. (c.in_err-check.field-0.0 ≡ OutOfMemory) ⊎ IsFaultOf (map arc_value xs) c.in_err-check.field-0.0) handed c.in_err-check.ensures.refused in
     let why : Q c.in_err-check.field-0.0 = or_then refused (λ f. record { left = left; classes = leaves-then _ _ _ _ _ first second; fault = f }) in
     let same : IfErr c.from_residual-in_err-check.result (λ fault. fault ≡ c.in_err-check.field-0.0) = search rules in

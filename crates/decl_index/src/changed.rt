@@ -1,0 +1,160 @@
+ghost use Rattle.std.specs.Prelude.{◌≡◌, true, false, IfOk, IfSome, OnOk, map};
+ghost use Rattle.std.specs.Arc.{arc_value};
+ghost use Rattle.decl_index.specs.History.{Rises};
+ghost use Rattle.decl_index.specs.Refusals.{IsOneOf};
+ghost use Rattle.decl_index.specs.Changed.{Each, Meets, Follows, IsReached, AvoidsItself, KeepsNesting};
+
+use crate::checks::outer_names;
+use crate::table::{Shared, find};
+use class_summary::{ClassSummary, Nesting};
+use lists::{Copies, Items, Text};
+use std::alloc::{AllocError, Global};
+
+/// The most classes that are searched from.
+const MOST_SEARCHES: usize = 32;
+
+/// The most names that one search follows.
+const MOST_FOLLOWED: usize = 256;
+
+/// Whether the name is one of the names.
+fn is_one_of(names: &[Text], name: &str) -> bool
+    ensures sound { result ≡ true → IsOneOf name.now names.now }
+    ensures complete { IsOneOf name.now names.now → result ≡ true }
+{
+    for one in names {
+        if name == one.as_str() {
+            return true;
+        }
+    }
+    false
+}
+
+/// Adds the names that aren't there.
+fn meet(alloc: Global, found: &mut Items<Text>, names: &[Text]) -> Result<(), AllocError>
+    ensures { OnOk result (Meets names.now found.old found.new) }
+{
+    for name in names {
+        if is_one_of(found.as_slice(), name.as_str()) {
+            continue;
+        }
+        found.push(name.copy(alloc)?)?;
+    }
+    Ok(())
+}
+
+/// Adds the supers of a class and the class around it.
+fn follow(alloc: Global, found: &mut Items<Text>, class: &ClassSummary) -> Result<(), AllocError>
+    ensures { OnOk result (Follows class.now found.old found.new) }
+{
+    meet(alloc, found, class.supers.as_slice())?;
+    meet(alloc, found, outer_names(class))?;
+    Ok(())
+}
+
+/// The names that a class leads to by supers and outer classes; None where they are many.
+fn reached(
+    alloc: Global,
+    classes: &[Shared],
+    from: &ClassSummary,
+) -> Result<Option<Items<Text>>, AllocError>
+    requires { Rises (map arc_value classes.now) }
+    ensures { IfOk result (λ found. IfSome found (λ names. IsReached (map arc_value classes.now) from.now names)) }
+{
+    let mut found = Items::new(alloc);
+    follow(alloc, &mut found, from)?;
+    for next in 0..MOST_FOLLOWED {
+        let Some(name) = found.as_slice().get(next) else {
+            return Ok(Some(found));
+        };
+        let Some(place) = find(classes, name.as_str()) else {
+            continue;
+        };
+        follow(alloc, &mut found, &*classes[place])?;
+    }
+    Ok(None)
+}
+
+/// Whether the class of this name may reach itself by supers and outer classes. It surely doesn't where the
+/// answer is false.
+fn may_come_back(alloc: Global, classes: &[Shared], name: &str) -> Result<bool, AllocError>
+    requires { Rises (map arc_value classes.now) }
+    ensures { IfOk result (λ may. may ≡ false → AvoidsItself (map arc_value classes.now) name.now) }
+{
+    let Some(place) = find(classes, name) else {
+        return Ok(false);
+    };
+    match reached(alloc, classes, &*classes[place])? {
+        Some(found) => Ok(is_one_of(found.as_slice(), name)),
+        None => Ok(true),
+    }
+}
+
+/// Whether one of the classes with the names of these may reach itself. None does where the answer is false.
+pub fn one_may_come_back(
+    alloc: Global,
+    classes: &[Shared],
+    puts: &[ClassSummary],
+) -> Result<bool, AllocError>
+    requires { Rises (map arc_value classes.now) }
+    ensures { IfOk result (λ may. may ≡ false → Each (λ c. AvoidsItself (map arc_value classes.now) c.name) puts.now) }
+{
+    if puts.len() > MOST_SEARCHES {
+        return Ok(true);
+    }
+    for class in puts {
+        if may_come_back(alloc, classes, class.name.as_str())? {
+            return Ok(true);
+        }
+    }
+    Ok(false)
+}
+
+/// Whether both are the same text, or both are none.
+fn same_text(text: &Option<Text>, other: &Option<Text>) -> bool
+    ensures { result ≡ true → text.now ≡ other.now }
+{
+    match (text, other) {
+        (Some(text), Some(other)) => text.same(other),
+        (None, None) => true,
+        _ => false,
+    }
+}
+
+/// Whether both classes stand in the same class under the same name.
+fn same_nesting(nesting: &Option<Nesting>, other: &Option<Nesting>) -> bool
+    ensures { result ≡ true → nesting.now ≡ other.now }
+{
+    match (nesting, other) {
+        (Some(nesting), Some(other)) => {
+            nesting.flags == other.flags
+                && same_text(&nesting.outer, &other.outer)
+                && same_text(&nesting.simple, &other.simple)
+        }
+        (None, None) => true,
+        _ => false,
+    }
+}
+
+/// Whether a class of the same name and nesting is there.
+fn keeps_nesting(classes: &[Shared], class: &ClassSummary) -> bool
+    requires { Rises (map arc_value classes.now) }
+    ensures { result ≡ true → KeepsNesting (map arc_value classes.now) class.now }
+{
+    let Some(place) = find(classes, class.name.as_str()) else {
+        return false;
+    };
+    same_nesting(&classes[place].nesting, &class.nesting)
+}
+
+/// Whether for each of these a class of the same name and nesting is there.
+pub fn all_keep_nesting(classes: &[Shared], puts: &[ClassSummary]) -> bool
+    requires { Rises (map arc_value classes.now) }
+    ensures { result ≡ true → Each (KeepsNesting (map arc_value classes.now)) puts.now }
+{
+    for class in puts {
+        if !keeps_nesting(classes, class) {
+            return false;
+        }
+    }
+    true
+}
