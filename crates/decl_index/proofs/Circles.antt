@@ -1,5 +1,5 @@
 -- From paths of places to ways of names, and back.
-use Rattle.std.proofs.Common.{◌≡◌, ℕ, zero, suc, ◌<◌, ◌≤◌, Bool, true, false, cond, List, [], ◌∷◌, length, get_or, Option, Some, None, Less, refl, sym, ap, subst, ◌∙◌, arith, ◌⊎◌, inl, inr}
+use Rattle.std.proofs.Common.{◌≡◌, ℕ, zero, suc, ◌<◌, ◌≤◌, Bool, true, false, cond, List, [], ◌∷◌, length, get_or, drop, Option, Some, None, Less, refl, sym, ap, subst, ◌∙◌, arith, ◌⊎◌, inl, inr}
 use Rattle.std.specs.Prelude.{unwrap_or}
 use Rattle.std.specs.List.{slice_get}
 use Rattle.std.proofs.lemmas.Option.{slice_get_within}
@@ -10,6 +10,7 @@ use Rattle.graphs.proofs.Ranks.{first_edge, from_node}
 use Rattle.decl_index.specs.History.{Name, order, Rises}
 use Rattle.decl_index.specs.Refusals.{IsOneOf, Steps, IsWay, ReachesItself, IsLeastCircle, HasNoCircle}
 use Rattle.decl_index.specs.Rows.{IsGraph}
+use Rattle.decl_index.specs.Places.{heads}
 use Rattle.decl_index.proofs.Names.{same, same-true, same-of, less_differs, less_back, apart}
 use Rattle.decl_index.proofs.Sorted.{Above}
 
@@ -201,3 +202,15 @@ least_circle to but cs rows skip a c r g k e least = record {
       let o : order d.0.name c.name ≡ Less = subst (λ x. order x c.name ≡ Less) (sym p.1.1) l in
       least.2 p.0 (less_at cs p.0 a d.0 c r p.1.0 e o) (λ s. h (ap Some (sym p.1.1) ∙ k.named p.0 d.0 p.1.0 s)) (circle_back to cs rows r g p.0 d.0 m p.1.0 p.1.1 w);
 }
+
+-- Where a class stands whose name was looked at.
+heads_get : (cs : List ClassSummary) (n : Name) (p : ℕ) → heads n (drop p cs) ≡ true → (d : ClassSummary) × ((slice_get cs p ≡ Some d) × (d.name ≡ n))
+heads_get [] n zero e = absurd cc
+heads_get [] n (suc p) e = absurd cc
+heads_get (c ∷ cs) n zero e = (c, (refl, same-true c.name n e))
+heads_get (c ∷ cs) n (suc p) e = heads_get cs n p e
+
+pub heads_found : (cs : List ClassSummary) (n : Name) (p : ℕ) → Rises cs → heads n (drop p cs) ≡ true → IsPlaceOf cs (class_named cs n) (Some p)
+heads_found cs n p r e =
+    let g = heads_get cs n p e in
+    (slice_get_within cs p g.0 g.1.0, subst (λ m. class_named cs m ≡ slice_get cs p) g.1.1 (named_at cs p g.0 r g.1.0 ∙ sym g.1.0))

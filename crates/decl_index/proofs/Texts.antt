@@ -8,7 +8,7 @@ use Rattle.std.proofs.lemmas.Cmp.{nat_list_cmp_total, nat_list_eq_equiv, eq_by_c
 use Rattle.std.specs.Cmp.Lexicographic.{slice_cmp}
 use Rattle.std.specs.Ordering.{nat_cmp, is_lt, is_eq, eq_by_cmp}
 use Rattle.std.specs.List.{slice_get}
-use Rattle.std.proofs.lemmas.List.{take_more, take_all, length-map, length-take-le, reverse-append, reverse-reverse}
+use Rattle.std.proofs.lemmas.List.{drop_all, length-map, reverse-append, reverse-reverse}
 use Rattle.std.proofs.lemmas.Option.{slice_get_within}
 use Rattle.class_summary.specs.declared.summary.ClassSummary.{ClassSummary}
 use Rattle.class_summary.specs.Known.{class_named, class_called, lesser, canonical, canonical_by, circles, comes_to, outer_of, outer_in, nesting_at, simple_in, nested_name, dotted, IsPlaceOf}
@@ -59,24 +59,6 @@ nested_both (Some a) (Some b) f own outer simple e h = let x : a ≡ outer = cc 
 pub canonical_on : (k : ℕ) (cs : List ClassSummary) (n outer simple : Name) → HasNoCircle outers_of None cs → outer_of cs n ≡ Some outer → simple_in (nesting_at (class_named cs n)) ≡ Some simple → canonical_by (suc k) cs n ≡ canonical_by k cs outer ++ 46 ∷ simple
 unfolding canonical_by
 canonical_on k cs n outer simple free e h = ap (λ b. cond b (dotted n) (nested_name (outer_of cs n) (simple_in (nesting_at (class_named cs n))) (λ o. canonical_by k cs o) (dotted n))) (circles_not cs n free) ∙ nested_both (outer_of cs n) (simple_in (nesting_at (class_named cs n))) (λ o. canonical_by k cs o) (dotted n) outer simple e h
-
--- The first place of a text.
-first_or : (b : Bool) (p q : Option ℕ) (n : ℕ) → option_map suc (or_else p (cond b (Some n) None)) ≡ or_else (option_map suc p) (cond b (Some (suc n)) None)
-first_or b (Some x) q n = refl
-first_or true None q n = refl
-first_or false None q n = refl
-
-front_or : (b : Bool) (p q : Option ℕ) → cond b (Some 0) (or_else p q) ≡ or_else (cond b (Some 0) p) q
-front_or true p q = refl
-front_or false p q = refl
-
-pub place-push : (xs : List Name) (x n : Name) → place_among (xs ++ x ∷ []) n ≡ or_else (place_among xs n) (cond (bytes_eq x n) (Some (length xs)) None)
-unfolding place_among
-place-push [] x n = refl
-place-push (y ∷ ys) x n =
-    ap (λ p. cond (bytes_eq y n) (Some 0) (option_map suc p)) (place-push ys x n)
-    ∙ ap (cond (bytes_eq y n) (Some 0)) (first_or (bytes_eq x n) (place_among ys n) None (length ys))
-    ∙ front_or (bytes_eq y n) (option_map suc (place_among ys n)) (cond (bytes_eq x n) (Some (suc (length ys))) None)
 
 -- The first class of a canonical name has the least name.
 not_lt : (a b : Name) (o : Ordering) → order a b ≡ Less → order b a ≡ o → is_lt o ≡ false
@@ -174,51 +156,50 @@ pub out-spent : (cs : List ClassSummary) (k : ℕ) (around whole text all : List
 unfolding canonical_by
 out-spent cs k around whole text all z a h = a ∙ sym (h ∙ ap (λ j. canonical_by j cs around ++ reverse text) z)
 
--- The places by canonical names, one class further.
-there_or : (b : Bool) (p q : Option ℕ) → (b ≡ true → is_some p ≡ true) → p ≡ or_else p (cond b q None)
-there_or b (Some x) q h = refl
-there_or true None q h = let k : false ≡ true = h refl in absurd cc
-there_or false None q h = refl
+-- The first place of a text, counted from k.
+unfoldable pub place_from : ℕ → List Name → Name → Option ℕ
+place_from k [] n = None
+place_from k (m ∷ ms) n = cond (bytes_eq m n) (Some k) (place_from (suc k) ms n)
 
-pub add-there : {Y : Type 0} (m : BTreeMap (Vec ℕ Y) ℕ) (name : Name) (place : ℕ) → is_some (called_place m name) ≡ true → (text : Name) → called_place m text ≡ or_else (called_place m text) (cond (bytes_eq name text) (Some place) None)
-add-there m name place h text = there_or (bytes_eq name text) (called_place m text) (Some place) (λ e. subst (λ t. is_some (called_place m t) ≡ true) (sym (same-true text name e)) h)
+suc_by : (b : Bool) (k : ℕ) (p : Option ℕ) → cond b (Some (suc k)) (option_map suc p) ≡ option_map suc (cond b (Some k) p)
+suc_by true k p = refl
+suc_by false k p = refl
 
-new_or : (b : Bool) (p : Option ℕ) (x : ℕ) → (b ≡ true → p ≡ None) → cond b (Some x) p ≡ or_else p (cond b (Some x) None)
-new_or true p x h = ap (λ q. or_else q (Some x)) (sym (h refl))
-new_or false None x h = refl
-new_or false (Some y) x h = refl
+from_suc : (k : ℕ) (ms : List Name) (n : Name) → place_from (suc k) ms n ≡ option_map suc (place_from k ms n)
+unfolding place_from
+from_suc k [] n = refl
+from_suc k (m ∷ ms) n = ap (cond (bytes_eq m n) (Some (suc k))) (from_suc (suc k) ms n) ∙ suc_by (bytes_eq m n) k (place_from (suc k) ms n)
 
-not_some : (p : Option ℕ) → is_some p ≡ false → p ≡ None
-not_some None e = refl
-not_some (Some x) e = absurd cc
+from_zero : (ms : List Name) (n : Name) → place_from 0 ms n ≡ place_among ms n
+unfolding place_from place_among
+from_zero [] n = refl
+from_zero (m ∷ ms) n = ap (cond (bytes_eq m n) (Some 0)) (from_suc 0 ms n ∙ ap (option_map suc) (from_zero ms n))
 
-pub add-new : {Y : Type 0} (m n : BTreeMap (Vec ℕ Y) ℕ) (name : Name) (place : ℕ) → is_some (called_place m name) ≡ false → UpdatesBy (λ x y. slice_cmp nat_cmp x.items y.items) (λ k. slice_cmp nat_cmp name k.items) m n (Some place) → (text : Name) → called_place n text ≡ or_else (called_place m text) (cond (bytes_eq name text) (Some place) None)
-add-new m n name place h u text = inserted name m n (Some place) u text ∙ new_or (bytes_eq name text) (called_place m text) place (λ e. subst (λ t. called_place m t ≡ None) (sym (same-true text name e)) (not_some (called_place m name) h))
-
+-- The places by canonical names, with one class more before the others.
 got_mapped : {A B : Type 0} (f : A → B) (xs : List A) (i : ℕ) (x : A) (d : B) → slice_get xs i ≡ Some x → get_or (map f xs) i d ≡ f x
 got_mapped f [] i x d e = absurd cc
 got_mapped f (y ∷ ys) zero x d e = let s : y ≡ x = cc in ap f s
 got_mapped f (y ∷ ys) (suc i) x d e = got_mapped f ys i x d e
 
-pub called-next : {Y : Type 0} (m n : BTreeMap (Vec ℕ Y) ℕ) (cs : List ClassSummary) (i : ℕ) (name : Name) (c : ClassSummary) → slice_get cs i ≡ Some c → name ≡ canonical cs c.name → ((text : Name) → called_place n text ≡ or_else (called_place m text) (cond (bytes_eq name text) (Some i) None)) → ((text : Name) → called_place m text ≡ place_among (take i (canonical_names cs)) text) → (text : Name) → called_place n text ≡ place_among (take (i + 1) (canonical_names cs)) text
-called-next m n cs i name c at e u old text =
+pub called-none : {Y : Type 0} (m : BTreeMap (Vec ℕ Y) ℕ) (cs : List ClassSummary) (i : ℕ) → length cs ≤ i → m.entries ≡ [] → (text : Name) → called_place m text ≡ place_from i (drop i (canonical_names cs)) text
+unfolding place_from
+called-none m cs i l e text =
+    let none : drop i (canonical_names cs) ≡ [] = drop_all i (canonical_names cs) (omega (arith, l, length-map cs (λ (d : ClassSummary). canonical cs d.name))) in
+    rw e (ap (λ ts. place_from i ts text) (sym none))
+
+pub called-back : {Y : Type 0} (m n : BTreeMap (Vec ℕ Y) ℕ) (cs : List ClassSummary) (i j : ℕ) (name : Name) (c : ClassSummary) → j ≡ i + 1 → slice_get cs i ≡ Some c → name ≡ canonical cs c.name → UpdatesBy (λ x y. slice_cmp nat_cmp x.items y.items) (λ k. slice_cmp nat_cmp name k.items) m n (Some i) → ((text : Name) → called_place m text ≡ place_from j (drop j (canonical_names cs)) text) → (text : Name) → called_place n text ≡ place_from i (drop i (canonical_names cs)) text
+unfolding place_from
+called-back m n cs i j name c s at e u old text =
     let l : i < length cs = slice_get_within cs i c at in
     let there : get_or (canonical_names cs) i name ≡ name = got_mapped (λ d. canonical cs d.name) cs i c name at ∙ sym e in
     let long : i < length (canonical_names cs) = omega (arith, l, length-map cs (λ (d : ClassSummary). canonical cs d.name)) in
-    let more : take (i + 1) (canonical_names cs) ≡ take i (canonical_names cs) ++ name ∷ [] = take_more (canonical_names cs) i name long ∙ ap (λ t. take i (canonical_names cs) ++ t ∷ []) there in
-    let size : length (take i (canonical_names cs)) ≡ i = length-take-le i (canonical_names cs) (omega (arith, long)) in
-    u text
-    ∙ ap (λ p. or_else p (cond (bytes_eq name text) (Some i) None)) (old text)
-    ∙ ap (λ k. or_else (place_among (take i (canonical_names cs)) text) (cond (bytes_eq name text) (Some k) None)) (sym size)
-    ∙ sym (place-push (take i (canonical_names cs)) name text)
-    ∙ ap (λ ts. place_among ts text) (sym more)
+    let names : drop i (canonical_names cs) ≡ name ∷ drop (suc i) (canonical_names cs) = drop-cons (canonical_names cs) i name long ∙ ap (λ x. x ∷ drop (suc i) (canonical_names cs)) there in
+    inserted name m n (Some i) u text
+    ∙ ap (cond (bytes_eq name text) (Some i)) (old text ∙ ap (λ k. place_from k (drop k (canonical_names cs)) text) (s ∙ add-one i))
+    ∙ sym (ap (λ ts. place_from i ts text) names)
 
-pub called-none : {Y : Type 0} (m : BTreeMap (Vec ℕ Y) ℕ) (names : List Name) → m.entries ≡ [] → (text : Name) → called_place m text ≡ place_among (take 0 names) text
-unfolding place_among
-called-none m names e text = rw e refl
-
-pub called-all : {Y : Type 0} (m : BTreeMap (Vec ℕ Y) ℕ) (names : List Name) (i : ℕ) → length names ≤ i → ((text : Name) → called_place m text ≡ place_among (take i names) text) → (text : Name) → called_place m text ≡ place_among names text
-called-all m names i l h text = h text ∙ ap (λ ts. place_among ts text) (take_all i names l)
+pub called-all : {Y : Type 0} (m : BTreeMap (Vec ℕ Y) ℕ) (names : List Name) (i : ℕ) → i ≡ 0 → ((text : Name) → called_place m text ≡ place_from i (drop i names) text) → (text : Name) → called_place m text ≡ place_among names text
+called-all m names i z h text = h text ∙ ap (λ k. place_from k (drop k names) text) z ∙ from_zero names text
 
 pub called-found : (cs : List ClassSummary) (n : Name) (found : Option ℕ) → Rises cs → found ≡ place_among (canonical_names cs) n → IsPlaceOf cs (class_called cs cs n) found
 called-found cs n found r e = subst (IsPlaceOf cs (class_called cs cs n)) (sym e) (called_is cs cs n r)

@@ -6,7 +6,7 @@ ghost use Rattle.decl_index.specs.Refusals.{HasNoCircle, outers_of};
 ghost use Rattle.decl_index.specs.Places.{Leaves, called_place, place_among, canonical_names};
 
 use crate::changed::all_keep_nesting;
-use crate::table::{Shared, find};
+use crate::table::{Shared, find_near};
 use class_summary::ClassSummary;
 use lists::Text;
 use std::alloc::{AllocError, Global};
@@ -17,12 +17,12 @@ use std::sync::Arc;
 pub type Called = BTreeMap<Vec<u8>, usize>;
 
 /// The names of the class around the class of this name and the simple name that it has in it, where there are both.
-fn names_in<'a>(classes: &'a [Shared], name: &str) -> Option<(&'a str, &'a str)>
+fn names_in<'a>(classes: &'a [Shared], near: usize, name: &str) -> Option<(&'a str, &'a str)>
     requires { Rises (map arc_value classes.now) }
     ensures both { IfSome result (λ names. (outer_of (map arc_value classes.now) name.now ≡ Some names.0.now) × (simple_in (nesting_at (class_named (map arc_value classes.now) name.now)) ≡ Some names.1.now)) }
     ensures none { IfNone result ((outer : Name → Name) (own : Name) → nested_name (outer_of (map arc_value classes.now) name.now) (simple_in (nesting_at (class_named (map arc_value classes.now) name.now))) outer own ≡ own) }
 {
-    let place = find(classes, name)?;
+    let place = find_near(classes, near, name)?;
     let nesting = classes[place].nesting.as_ref()?;
     let outer = nesting.outer.as_ref()?;
     let simple = nesting.simple.as_ref()?;
@@ -63,10 +63,12 @@ fn turned(text: Vec<u8>, name: &[u8]) -> Result<Vec<u8>, AllocError>
     Ok(whole)
 }
 
-/// The canonical name of the class of this name.
+/// The canonical name of the class of this name. The place is where it, and the classes around it, are
+/// looked for first.
 fn canonical_name<'a>(
     alloc: Global,
     classes: &'a [Shared],
+    near: usize,
     name: &'a str,
 ) -> Result<Vec<u8>, AllocError>
     requires rises { Rises (map arc_value classes.now) }
@@ -77,7 +79,7 @@ fn canonical_name<'a>(
     let mut around = name;
     let mut left = classes.len();
     while left > 0 {
-        let Some((outer, simple)) = names_in(classes, around) else {
+        let Some((outer, simple)) = names_in(classes, near, around) else {
             return turned(backwards, around.as_bytes());
         };
         left -= 1;
@@ -88,27 +90,19 @@ fn canonical_name<'a>(
     turned(backwards, around.as_bytes())
 }
 
-/// Adds the place of a class by its canonical name, if that name has none.
-fn add(called: &mut Called, name: Vec<u8>, place: usize) -> Result<(), AllocError>
-    ensures { OnOk result ((text : Name) → called_place called.new text ≡ or_else (called_place called.old text) (if bytes_eq name.items text then Some place else None)) }
-{
-    if called.contains_key(name.as_slice()) {
-        return Ok(());
-    }
-    called.insert(name, place)?;
-    Ok(())
-}
-
-/// The places of the classes by their canonical names; the first class of a name counts.
+/// The places of the classes by their canonical names; the first class of a name counts, since it is the
+/// last that is added.
 pub fn called(alloc: Global, classes: &[Shared]) -> Result<Called, AllocError>
     requires rises { Rises (map arc_value classes.now) }
     requires free { HasNoCircle outers_of None (map arc_value classes.now) }
     ensures { IfOk result (λ called. (text : Name) → called_place called text ≡ place_among (canonical_names (map arc_value classes.now)) text) }
 {
     let mut called = BTreeMap::new(alloc);
-    for place in 0..classes.len() {
-        let name = canonical_name(alloc, classes, classes[place].name.as_str())?;
-        add(&mut called, name, place)?;
+    let mut place = classes.len();
+    while place > 0 {
+        place -= 1;
+        let name = canonical_name(alloc, classes, place, classes[place].name.as_str())?;
+        called.insert(name, place)?;
     }
     Ok(called)
 }

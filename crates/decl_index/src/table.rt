@@ -13,6 +13,9 @@ use std::sync::Arc;
 /// A class that several indexes may hold.
 pub type Shared = Arc<ClassSummary, Global>;
 
+/// How many places are looked at before all are searched.
+const NEAR: usize = 16;
+
 /// Another list of the same classes.
 pub fn share(alloc: Global, classes: &[Shared]) -> Result<Vec<Shared>, AllocError>
     ensures { IfOk result (λ all. map arc_value all.items ≡ map arc_value classes.now) }
@@ -70,6 +73,20 @@ pub fn find(classes: &[Shared], name: &str) -> Option<usize>
         return Some(at);
     }
     None
+}
+
+/// The same, which is looked for at the place and shortly before it first.
+pub fn find_near(classes: &[Shared], near: usize, name: &str) -> Option<usize>
+    requires { Rises (map arc_value classes.now) }
+    ensures { IsPlaceOf (map arc_value classes.now) (class_named (map arc_value classes.now) name.now) result }
+{
+    for back in 0..NEAR {
+        let at = near.saturating_sub(back);
+        if stands_at(classes, at, name) {
+            return Some(at);
+        }
+    }
+    find(classes, name)
 }
 
 /// Puts a class in, in place of the one of its name.
