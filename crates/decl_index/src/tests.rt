@@ -176,3 +176,128 @@ fn the_last_count_of_a_key_counts(rt: HostRuntime) -> Result<(), Fail> {
     assert_eq!(rt; later.usage("A.m:()V"), 9);
     Ok(())
 }
+
+/// A publication of these classes after the removes, with a count for one key where it isn't empty.
+fn whole_change(
+    alloc: Global,
+    classes: &[(&str, &str, &str, &str)],
+    removed: &str,
+    key: &str,
+    count: u32,
+) -> Result<Change, AllocError> {
+    let mut removes = Items::new(alloc);
+    if !removed.is_empty() {
+        removes.push(Text::from_str(alloc, removed)?)?;
+    }
+    let mut counts = Items::new(alloc);
+    if !key.is_empty() {
+        counts.push((Text::from_str(alloc, key)?, count))?;
+    }
+    match publication(alloc, classes)? {
+        Change::Publish { puts, .. } => Ok(Change::Publish {
+            puts,
+            removes,
+            counts,
+        }),
+        other => Ok(other),
+    }
+}
+
+/// The first super of the class of a name, and `none` where there is none.
+fn parent_of<'a>(index: &'a Index, name: &str) -> &'a str {
+    match index.find(name) {
+        Some(place) => match index.at(place).supers.as_slice().first() {
+            Some(parent) => parent.as_str(),
+            None => "none",
+        },
+        None => "none",
+    }
+}
+
+const FIRST: [(&str, &str, &str, &str); 3] = [
+    ("p/A", OBJECT, "", ""),
+    ("p/A$B", "p/A", "p/A", "B"),
+    ("p/C", OBJECT, "", ""),
+];
+
+#[test]
+fn a_class_is_replaced(rt: HostRuntime) -> Result<(), Fail> {
+    let first = publication(rt.alloc(), &FIRST)?;
+    let old = applied(rt.alloc(), &Index::empty(rt.alloc())?, &first)?;
+    let more = publication(rt.alloc(), &[("p/A$B", "p/C", "p/A", "B")])?;
+    let next = applied(rt.alloc(), &old, &more)?;
+    assert_eq!(rt; parent_of(&next, "p/A$B"), "p/C");
+    assert_eq!(rt; next.count(), 3);
+    assert_eq!(rt; next.by_canonical("p.A.B"), Some(1));
+    assert_eq!(rt; parent_of(&old, "p/A$B"), "p/A");
+    assert_eq!(rt; old.number(), 1);
+    Ok(())
+}
+
+#[test]
+fn a_class_is_nested_elsewhere(rt: HostRuntime) -> Result<(), Fail> {
+    let first = publication(rt.alloc(), &FIRST)?;
+    let old = applied(rt.alloc(), &Index::empty(rt.alloc())?, &first)?;
+    let more = publication(rt.alloc(), &[("p/A$B", "p/A", "p/C", "D")])?;
+    let next = applied(rt.alloc(), &old, &more)?;
+    assert_eq!(rt; next.by_canonical("p.A.B"), None);
+    assert_eq!(rt; next.by_canonical("p.C.D"), Some(1));
+    assert_eq!(rt; old.by_canonical("p.A.B"), Some(1));
+    Ok(())
+}
+
+#[test]
+fn a_change_removes_then_puts_then_counts(rt: HostRuntime) -> Result<(), Fail> {
+    let first = whole_change(rt.alloc(), &FIRST, "", "p/A.m:()V", 3)?;
+    let old = applied(rt.alloc(), &Index::empty(rt.alloc())?, &first)?;
+    let puts = [("p/0", "p/A", "", ""), ("p/0", "p/C", "", "")];
+    let more = whole_change(rt.alloc(), &puts, "p/A$B", "p/A.m:()V", 5)?;
+    let next = applied(rt.alloc(), &old, &more)?;
+    assert_eq!(rt; next.find("p/A$B"), None);
+    assert_eq!(rt; parent_of(&next, "p/0"), "p/C");
+    assert_eq!(rt; next.by_canonical("p.C"), Some(2));
+    assert_eq!(rt; next.usage("p/A.m:()V"), 5);
+    assert_eq!(rt; old.usage("p/A.m:()V"), 3);
+    assert_eq!(rt; old.find("p/A$B"), Some(1));
+    Ok(())
+}
+
+/// Publications on an index of `FIRST`, and what is answered.
+const LATER: [([(&str, &str, &str, &str); 2], &str); 6] = [
+    (
+        [("p/A", "p/A$B", "", ""), ("p/Z", OBJECT, "", "")],
+        "supers p/A",
+    ),
+    (
+        [("p/C", OBJECT, "p/D", "C"), ("p/D", OBJECT, "p/C", "D")],
+        "outers p/C",
+    ),
+    (
+        [("p/A", OBJECT, "p/A$B", "A"), ("p/C", "p/C", "", "")],
+        "supers p/C",
+    ),
+    (
+        [("p/A", OBJECT, "p/A$B", "A"), ("p/Z", OBJECT, "", "")],
+        "outers p/A",
+    ),
+    (
+        [(OBJECT, OBJECT, "", ""), ("p/Z", OBJECT, "", "")],
+        "accepted",
+    ),
+    (
+        [(OBJECT, "p/C", "", ""), ("p/Z", OBJECT, "", "")],
+        "supers p/C",
+    ),
+];
+
+#[test]
+fn later_circles_are_refused(rt: HostRuntime) -> Result<(), Fail> {
+    let first = publication(rt.alloc(), &FIRST)?;
+    let old = applied(rt.alloc(), &Index::empty(rt.alloc())?, &first)?;
+    for row in &LATER {
+        let change = publication(rt.alloc(), &row.0)?;
+        let answer = fault_of(rt.alloc(), &applied(rt.alloc(), &old, &change))?;
+        assert_eq!(rt; answer.as_str(), row.1);
+    }
+    Ok(())
+}
