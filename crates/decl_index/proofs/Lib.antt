@@ -5,6 +5,7 @@ pub mod State
 pub mod Circles
 pub mod RowLemmas
 pub mod Texts
+pub mod TextClasses
 pub mod CountLemmas
 pub mod Results
 pub mod Searches

@@ -19,4 +19,6 @@ mod merged_tests;
 #[cfg(test)]
 mod names_tests;
 #[cfg(test)]
+mod scopes_tests;
+#[cfg(test)]
 mod tests;

@@ -3,7 +3,7 @@ ghost use Rattle.java_units.specs.Dimensions.{greatest, method_dims, type_dims, 
 ghost use Rattle.std.specs.Prelude.{◌≡◌, [], length, IfOk};
 
 use crate::{Change, ChangeFault, Index};
-use class_summary::{ClassSummary, from_unit, resolve_name};
+use class_summary::{ClassSummary, Nesting, from_unit, resolve_name};
 use java_units::{ClassKind, Import, SourceClass, SourceField, SourceMethod, TypeText, Unit};
 use lists::{Items, Text};
 use std::alloc::{AllocError, Global};
@@ -11,7 +11,7 @@ use std::test::Fail;
 use type_names::{Base, Erased};
 
 /// `NAME[]`.
-fn array_of(alloc: Global, name: &str) -> Result<TypeText, AllocError>
+pub fn array_of(alloc: Global, name: &str) -> Result<TypeText, AllocError>
     ensures { IfOk result (λ t. t.dims ≡ 1) }
 {
     let mut parts = Items::new(alloc);
@@ -19,7 +19,7 @@ fn array_of(alloc: Global, name: &str) -> Result<TypeText, AllocError>
     Ok(TypeText { parts, dims: 1 })
 }
 
-fn is_class(kind: &Erased, dims: u64, name: &str) -> bool {
+pub fn is_class(kind: &Erased, dims: u64, name: &str) -> bool {
     match &kind.base {
         Base::Class(own) => own.as_str() == name && kind.dims == dims,
         _ => false,
@@ -162,14 +162,18 @@ fn import_of(alloc: Global, first: &str, last: &str) -> Result<Import, AllocErro
     })
 }
 
-/// `import a.B; import z.B; import c.*;`
-fn imports(alloc: Global) -> Result<Items<Import>, AllocError> {
+/// `import a.B; import z.B; import c.*; import c.O.*;`
+pub fn imports(alloc: Global) -> Result<Items<Import>, AllocError> {
     let mut parts = Items::new(alloc);
     parts.push(Text::from_str(alloc, "c")?)?;
     let mut imports = Items::new(alloc);
     imports.push(import_of(alloc, "a", "B")?)?;
     imports.push(import_of(alloc, "z", "B")?)?;
     imports.push(Import { parts, star: true })?;
+    imports.push(Import {
+        parts: two_parts(alloc, "c", "O")?,
+        star: true,
+    })?;
     Ok(imports)
 }
 
@@ -205,13 +209,31 @@ fn known_class(alloc: Global, name: &str) -> Result<ClassSummary, AllocError> {
     })
 }
 
-const KNOWN: [&str; 6] = ["a/B", "c/K", "c/S", "java/lang/Math", "p/K", "z/B"];
+const KNOWN: [&str; 7] = ["a/B", "c/K", "c/O", "c/S", "java/lang/Math", "p/K", "z/B"];
+
+/// Simple names of known classes nested in `c/O`.
+const WITHIN: [&str; 2] = ["I", "S"];
+
+/// A class `c/O$NAME`, nested in `c/O`.
+fn class_within(alloc: Global, name: &str) -> Result<ClassSummary, AllocError> {
+    let mut class = known_class(alloc, "c/O$")?;
+    class.name.push_str(name)?;
+    class.nesting = Some(Nesting {
+        outer: Some(Text::from_str(alloc, "c/O")?),
+        simple: Some(Text::from_str(alloc, name)?),
+        flags: 9,
+    });
+    Ok(class)
+}
 
 /// The index of these classes.
-fn known_classes(alloc: Global) -> Result<Index, ChangeFault> {
+pub fn known_classes(alloc: Global) -> Result<Index, ChangeFault> {
     let mut puts = Items::new(alloc);
     for name in KNOWN {
         puts.push(known_class(alloc, name)?)?;
+    }
+    for name in WITHIN {
+        puts.push(class_within(alloc, name)?)?;
     }
     let change = Change::Publish {
         puts,
@@ -226,9 +248,11 @@ fn known_classes(alloc: Global) -> Result<Index, ChangeFault> {
 }
 
 /// Names at the class `A` of package `p`, and the classes that they denote.
-const NAMES: [(&str, &str); 7] = [
+const NAMES: [(&str, &str); 9] = [
     ("A", "p/A"),
     ("B", "a/B"),
+    ("I", "c/O$I"),
+    ("O", "c/O"),
     ("K", "p/K"),
     ("S", "c/S"),
     ("Math", "java/lang/Math"),
