@@ -1,6 +1,6 @@
 -- A sum over a list with one item more.
+use Rattle.java_units.specs.Dimensions.{total}
 use Rattle.std.proofs.Common.{◌≡◌, ◌∙◌, ap, arith, ℕ, List, [], ◌∷◌, ◌++◌}
-use Rattle.class_summary.specs.Variables.{total}
 
 more : {A : Type 0} (f : A → ℕ) (xs : List A) (x : A) → f x ≡ 0 → total f xs ≡ 0 → total f (xs ++ x ∷ []) ≡ 0
 more f [] x h t = omega (arith, h)

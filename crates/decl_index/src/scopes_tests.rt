@@ -1,5 +1,7 @@
 ghost use Rattle.std.specs.Prelude.{◌≡◌, ◌∷◌, [], length, Some, IfOk, OnOk};
-ghost use Rattle.class_summary.specs.Variables.{IsNested, IsMethodOf, bound_dims, class_dims, dims_of_bounds, over_vars, total};
+ghost use Rattle.java_units.specs.UnitLaws.{IsNested};
+ghost use Rattle.java_units.specs.Dimensions.{bound_dims, class_dims, dims_of_bounds, over_vars, total};
+ghost use Rattle.class_summary.specs.Variables.{IsMethodOf};
 
 use crate::Index;
 use crate::names_tests::{array_of, imports, is_class, known_classes};

@@ -1,4 +1,4 @@
-use Rattle.class_summary.specs.Variables.{class_dims}
+use Rattle.java_units.specs.Dimensions.{class_dims}
 use Rattle.decl_index.proofs.TextClasses.{total_more}
 use Rattle.decl_index.proofs.scopes_tests.add_class.Goals as goal
 

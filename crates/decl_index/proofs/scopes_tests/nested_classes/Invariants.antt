@@ -1,4 +1,5 @@
-use Rattle.class_summary.specs.Variables.{IsNested, dims_of_bounds}
+use Rattle.java_units.specs.UnitLaws.{IsNested}
+use Rattle.java_units.specs.Dimensions.{dims_of_bounds}
 use Rattle.std.proofs.Common.{◌≡◌}
 use Rattle.decl_index.proofs.scopes_tests.nested_classes.Given as goal
 

@@ -1,5 +1,5 @@
+use Rattle.java_units.specs.Dimensions.{bound_dims}
 use Rattle.java_units.specs.declared.types.TypeVar.{TypeVar}
-use Rattle.class_summary.specs.Variables.{bound_dims}
 use Rattle.decl_index.proofs.TextClasses.{total_more}
 use Rattle.decl_index.proofs.scopes_tests.vars_of.Goals as goal
 

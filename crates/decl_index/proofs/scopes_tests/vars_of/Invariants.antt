@@ -1,5 +1,5 @@
+use Rattle.java_units.specs.Dimensions.{bound_dims, over_vars}
 use Rattle.std.proofs.Common.{◌≡◌}
-use Rattle.class_summary.specs.Variables.{bound_dims, over_vars}
 use Rattle.decl_index.proofs.scopes_tests.vars_of.Given as goal
 
 abbrev pub invariant-loop-row : goal.invariant-loop-row
