@@ -1,5 +1,5 @@
 use crate::Subtypes;
-use class_summary::ClassSummary;
+use class_summary::{ClassSummary, Merged};
 use decl_index::{Change, ChangeFault, Index};
 use lists::{Items, Text};
 use std::alloc::{AllocError, Global};
@@ -125,6 +125,41 @@ fn known_classes_are_below_what_stands_above_them(rt: HostRuntime) -> Result<(),
     let known = index_of_three(rt.alloc()).ok().ok_or("an index")?;
     let subtypes = Subtypes::new(rt.alloc(), &known)?;
     for (a, b, is_sub) in WITH_CLASSES {
+        assert_eq!(rt; holds(rt.alloc(), &subtypes, a, b)?, is_sub, "{a} {b}");
+    }
+    Ok(())
+}
+
+/// `q/C` and `D`, each below `A`; with the three classes above, `A`, `p/B` and `q/C` stand on a circle.
+fn below_a(alloc: Global) -> Result<Items<ClassSummary>, AllocError> {
+    let mut extra = Items::new(alloc);
+    extra.push(class(alloc, "q/C", "A")?)?;
+    extra.push(class(alloc, "D", "A")?)?;
+    Ok(extra)
+}
+
+/// Two descriptors, and whether the first type is a strict subtype of the second among these five classes. A step
+/// from a class to a super that reaches the class again is left out.
+const WITH_A_CIRCLE: [(&str, &str, bool); 11] = [
+    ("LA;", "Ljava/lang/Object;", true),
+    ("LA;", "LA;", false),
+    ("LA;", "Lp/B;", false),
+    ("LA;", "Lq/C;", false),
+    ("Lp/B;", "Lq/C;", false),
+    ("Lq/C;", "LA;", false),
+    ("LD;", "LA;", true),
+    ("LD;", "Lp/B;", false),
+    ("Ljava/lang/Cloneable;", "Lp/B;", true),
+    ("Ljava/lang/Cloneable;", "Lq/C;", false),
+    ("[LA;", "Lp/B;", true),
+];
+
+#[test]
+fn a_step_that_leads_back_to_the_class_is_left_out(rt: HostRuntime) -> Result<(), Fail> {
+    let three = index_of_three(rt.alloc()).ok().ok_or("an index")?;
+    let known = Merged::new(rt.alloc(), &three, below_a(rt.alloc())?)?;
+    let subtypes = Subtypes::new(rt.alloc(), &known)?;
+    for (a, b, is_sub) in WITH_A_CIRCLE {
         assert_eq!(rt; holds(rt.alloc(), &subtypes, a, b)?, is_sub, "{a} {b}");
     }
     Ok(())
