@@ -35,7 +35,7 @@ use Rattle.reconstruction.specs.Levelled.{AreComplete}
 use Rattle.reconstruction.specs.Spots.{rows_at, at_state, IsSpot}
 use Rattle.reconstruction.specs.Tabled as tabled
 use Rattle.reconstruction.specs.Tabled.{least_of}
-use Rattle.reconstruction.specs.Moves.{exact_numbers, exact_numbers_of, moves_at, numbers_of, all_numbers, IsAnyMove}
+use Rattle.reconstruction.specs.Moves.{exact_numbers, exact_numbers_of, moves_at, numbers_of, all_numbers, IsAnyMove, AreLightest}
 use Rattle.reconstruction.specs.Variables.{variables, bound_at, numbers_at}
 use Rattle.reconstruction.specs.Made.{least_total, IsHead, IsMoveOf, IsHeavy, needs_in, needs_of, goal_in, lower_of, lowers, is_lower, often, sources_in, AreAllMade}
 use Rattle.reconstruction.specs.declared.spot.Spot.{Spot}
@@ -150,7 +150,7 @@ single [] h = absurd (omega (arith, h))
 single (b ∷ []) h = (b, refl)
 single (b ∷ x ∷ ts) h = absurd (omega (arith, h))
 
-module _ (t : Tables) (c : Compression) (valid : IsValid t.env) (lengths : HasLengths t.env) (comp : IsCompression t.env c) (made : ArePatterns c t.env.goal t.env.depth t.patterns) (right : AreLeastWeights t.env t.patterns t.least) (all : AreAllMade t.env c t.patterns t.least t.moves) where
+module _ (t : Tables) (c : Compression) (valid : IsValid t.env) (lengths : HasLengths t.env) (comp : IsCompression t.env c) (made : ArePatterns c t.env.goal t.env.depth t.patterns) (right : AreLeastWeights t.env t.patterns t.least) (all : AreAllMade t.env c t.patterns t.least t.moves) (light : AreLightest t.moves t.lightest) where
   abbrev kinds_at : ℕ → List ℕ
   kinds_at i = get_or t.patterns.lists i []
 
@@ -477,6 +477,7 @@ module _ (t : Tables) (c : Compression) (valid : IsValid t.env) (lengths : HasLe
         start = record { state = record { set = 0; goal = t.env.goal }; is = made.found.first; types = no_types; depth = omega (arith, same) };
         start_is = ap (λ o. at_state d o []) made.found.first ∙ ap (λ n. record { ctx = []; left = n; wanted = t.env.goal }) made.depth_is;
         moves = λ p sp. All-weaker (Each t c p.state sp.state.goal) (IsAnyMove t p) (λ m e. any-move t c valid lengths made right (λ i s is. (all i s is).each) p sp e.0 m sp.state.goal sp refl e.1) (moves_at t p.state) (all p.state sp.state sp.is).each;
+        light = light;
         once = numbers-once;
         complete = numbers-there;
       }

@@ -11,6 +11,7 @@ pub mod Opens
 pub mod Children
 pub mod Growths
 pub mod Steps
+pub mod Passing
 pub mod Bound
 pub mod Making
 pub mod Seeking

@@ -30,6 +30,16 @@ unfoldable pub all_numbers : Tables → List Move → List ℕ
 all_numbers t [] = []
 all_numbers t (m ∷ ms) = numbers_of t m ++ all_numbers t ms
 
+-- a head totals no less
+abbrev pub IsNoLighter : ℕ → Move → Type 0
+IsNoLighter least (Head k w ts) = least ≤ w
+IsNoLighter least (Lambda k w s) = least ≤ w
+IsNoLighter least (Below s) = Unit {0}
+
+-- at each state no head totals less than its number
+abbrev pub AreLightest : List (List Move) → List ℕ → Type 0
+AreLightest moves totals = (s : ℕ) → All (IsNoLighter (slice_index_or totals s 0)) (slice_index_or moves s [])
+
 -- a declaration's turn at a spot, where a coercion weighs so much
 pub record Turns (t : Tables) (p : Spot) (step k w : ℕ) (spots : List Spot) : Type 0 where
   pub number : k < 2147483648

@@ -9,6 +9,7 @@ mod chains;
 mod growing;
 mod heads;
 mod item;
+mod lightest;
 mod making_level;
 mod moves;
 mod moving;

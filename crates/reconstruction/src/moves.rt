@@ -4,10 +4,12 @@ ghost use Rattle.std.specs.Prelude.{◌≡◌, ◌<◌, ◌++◌, ◌∷◌, [],
 ghost use Rattle.succinct.specs.Compression.{IsCompression};
 ghost use Rattle.patterns.specs.Patterned.{ArePatterns};
 ghost use Rattle.least_weights.specs.LeastWeight.{AreLeastWeights};
+ghost use Rattle.reconstruction.specs.Moves.{AreLightest};
 ghost use Rattle.reconstruction.specs.Levelled.{AreComplete};
 ghost use Rattle.reconstruction.specs.Made.{needs_of, AreMade, AreAllMade, sources_in};
 
 use crate::heads::source_move;
+use crate::lightest::all_lightest;
 use crate::tables::{Move, Tables};
 use least_weights::Least;
 use lists::Items;
@@ -160,11 +162,13 @@ fn complete_tables(
     patterns: Patterns,
     least: Least,
     moves: Items<Items<Move>>,
+    lightest: Items<u32>,
 ) -> Tables
     requires compressed { IsCompression env compressed.now }
     requires patterns { ArePatterns compressed.now env.goal env.depth patterns }
     requires least { AreLeastWeights env patterns least }
     requires moves { AreAllMade env compressed.now patterns least moves }
+    requires light { AreLightest moves lightest }
     ensures complete { AreComplete result }
     ensures env { result.env ≡ env }
 {
@@ -174,6 +178,7 @@ fn complete_tables(
         patterns,
         least,
         moves,
+        lightest,
     }
 }
 
@@ -193,7 +198,8 @@ fn tables_with_least(
     ensures env { IfOk result (λ t. t.env ≡ env) }
 {
     let moves = all_moves(alloc, &env, compressed, &patterns, &least)?;
-    Ok(complete_tables(env, compressed, patterns, least, moves))
+    let lightest = all_lightest(alloc, moves.as_slice())?;
+    Ok(complete_tables(env, compressed, patterns, least, moves, lightest))
 }
 
 /// The tables of an environment whose patterns are known.

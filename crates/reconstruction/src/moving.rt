@@ -1,8 +1,8 @@
 // The partial terms that grow from one by the declarations at a state.
 
-ghost use Rattle.std.specs.Prelude.{◌≡◌, ◌+◌, ◌≤◌, All, OnOk};
+ghost use Rattle.std.specs.Prelude.{◌≡◌, ◌+◌, ◌≤◌, All, OnOk, slice_index_or};
 ghost use Rattle.reconstruction.specs.Tabled.{front_of, IsParent, AreHeld, AreGrown, Grew};
-ghost use Rattle.reconstruction.specs.Moves.{exact_numbers, exact_numbers_of, moves_at, numbers_of, all_numbers, IsExactMove, IsAnyMove};
+ghost use Rattle.reconstruction.specs.Moves.{exact_numbers, exact_numbers_of, moves_at, numbers_of, all_numbers, AreLightest, IsExactMove, IsAnyMove};
 
 use crate::growing::grow_by;
 use crate::item::{Arena, Item, Parent};
@@ -106,7 +106,18 @@ fn moves_at(tables: &Tables, state: u32) -> &[Move]
     }
 }
 
-/// Adds what grows by a move, under a coercion where it is one.
+/// A total that no head at a state is below.
+fn lightest_at(tables: &Tables, state: u32) -> u32
+    ensures value { result ≡ slice_index_or tables.now.lightest state 0 }
+{
+    match tables.lightest.as_slice().get(state as usize) {
+        Some(total) => *total,
+        None => 0,
+    }
+}
+
+/// Adds what grows by a move, under a coercion where it is one. Where the heads of the lower type are all above the
+/// room, they are passed as a whole.
 fn grow_move(
     tables: &Tables,
     arena: &mut Arena,
@@ -117,18 +128,17 @@ fn grow_move(
     requires parent { IsParent tables.now arena.old parent }
     requires aside { AreHeld tables.now arena.old aside.old.items }
     requires turn { IsAnyMove tables.now parent.spot step_to.now }
+    requires light { AreLightest tables.now.moves tables.now.lightest }
     ensures grew { OnOk result (Grew tables.now arena.old arena.new (front_of arena.old parent.front) (numbers_of tables.now step_to.now) aside.old.items aside.new.items) }
     ensures grown { AreGrown arena.old arena.new }
 {
     match step_to {
-        Move::Below(state) => grow_exacts(
-            tables,
-            arena,
-            aside,
-            parent,
-            10,
-            moves_at(tables, *state),
-        ),
+        Move::Below(state) => {
+            if lightest_at(tables, *state).saturating_add(10) > room_of(tables, parent) {
+                return Ok(());
+            }
+            grow_exacts(tables, arena, aside, parent, 10, moves_at(tables, *state))
+        }
         _ => {
             let room = room_of(tables, parent);
             grow_exact(tables, arena, aside, parent, room, 0, step_to)
@@ -146,6 +156,7 @@ pub fn grow_moves(
     requires parent { IsParent tables.now arena.old parent }
     requires aside { AreHeld tables.now arena.old aside.old.items }
     requires turns { All (IsAnyMove tables.now parent.spot) (moves_at tables.now parent.spot.state) }
+    requires light { AreLightest tables.now.moves tables.now.lightest }
     ensures grew { OnOk result (Grew tables.now arena.old arena.new (front_of arena.old parent.front) (all_numbers tables.now (moves_at tables.now parent.spot.state)) aside.old.items aside.new.items) }
     ensures grown { AreGrown arena.old arena.new }
 {

@@ -25,4 +25,6 @@ pub struct Tables {
     pub least: Least,
     /// The moves at each state.
     pub moves: Items<Items<Move>>,
+    /// A total for each state, which no head at it is below.
+    pub lightest: Items<u32>,
 }

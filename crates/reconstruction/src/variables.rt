@@ -5,7 +5,7 @@ ghost use Rattle.terms.specs.Typing.{joined};
 ghost use Rattle.terms.specs.Weights.{step};
 ghost use Rattle.reconstruction.specs.Spots.{row_of_args, rows_at};
 ghost use Rattle.reconstruction.specs.Tabled.{place_of, front_of, IsParent, AreHeld, AreGrown, Grew};
-ghost use Rattle.reconstruction.specs.Moves.{moves_at, IsAnyMove};
+ghost use Rattle.reconstruction.specs.Moves.{moves_at, IsAnyMove, AreLightest};
 ghost use Rattle.reconstruction.specs.Variables.{variables, bound_at, numbers_at};
 
 use crate::growing::grow_by;
@@ -117,6 +117,7 @@ pub fn grow(
     requires parent { IsParent tables.now arena.old parent }
     requires aside { AreHeld tables.now arena.old aside.old.items }
     requires turns { All (IsAnyMove tables.now parent.spot) (moves_at tables.now parent.spot.state) }
+    requires light { AreLightest tables.now.moves tables.now.lightest }
     ensures grew { OnOk result (Grew tables.now arena.old arena.new (front_of arena.old parent.front) (numbers_at tables.now parent.spot) aside.old.items aside.new.items) }
     ensures grown { AreGrown arena.old arena.new }
 {

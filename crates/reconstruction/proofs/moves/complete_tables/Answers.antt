@@ -7,7 +7,7 @@ use Rattle.reconstruction.proofs.moves.complete_tables.Goals as goal
 
 pub returns-clause-complete : goal.returns-clause-complete
 returns-clause-complete c =
-    let t : Tables = record { env = c.args.env; patterns = c.args.patterns; least = c.args.least; moves = c.args.moves } in
+    let t : Tables = record { env = c.args.env; patterns = c.args.patterns; least = c.args.least; moves = c.args.moves; lightest = c.args.lightest } in
     let valid : IsValid c.args.env = subst (λ (x : Parts). IsValid x) c.parts.ensures.value c.parts.ensures.valid in
     let lengths : HasLengths c.args.env = subst (λ (x : Parts). HasLengths x) c.parts.ensures.value c.parts.ensures.lengths in
-    are-complete t c.args.compressed.now valid lengths c.requires.compressed c.requires.patterns c.requires.least c.requires.moves
+    are-complete t c.args.compressed.now valid lengths c.requires.compressed c.requires.patterns c.requires.least c.requires.moves c.requires.light
