@@ -13,6 +13,7 @@ fn texts_are_made_compared_and_copied(rt: HostRuntime) -> Result<(), std::alloc:
     assert!(rt; Text::new(rt.alloc()).is_empty());
     let later = Text::from_string(String::from_str(rt.alloc(), "z")?);
     assert!(rt; copy.compare(&later) == Ordering::Less);
+    assert_eq!(rt; later.into_string().as_str(), "z");
     Ok(())
 }
 

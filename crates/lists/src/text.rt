@@ -47,6 +47,13 @@ impl Text {
         Text { inner: text }
     }
 
+    /// The same text as a `String`, without a copy.
+    pub fn into_string(self) -> String
+        ensures { string_bytes result ≡ self }
+    {
+        self.inner
+    }
+
     /// The text, borrowed.
     pub fn as_str(&self) -> &str
         ensures { result.now ≡ self.now }
