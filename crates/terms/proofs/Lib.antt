@@ -17,3 +17,6 @@ pub mod Lists
 pub mod Halves
 pub mod Readings
 pub mod Forests
+pub mod Making
+pub mod Sorting
+pub mod Told

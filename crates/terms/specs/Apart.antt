@@ -1,6 +1,7 @@
--- When Java texts tell terms apart: a condition on the declarations alone, for environments whose texts can be
--- read back. Overloads, names that hide one another and texts with dots are what can make two terms look alike.
-use Rattle.std.specs.Prelude.{◌≡◌, ◌≢◌, ◌⊎◌, ℕ, ◌<◌, Bool, true, false, List, [], ◌∷◌, ◌++◌, length, slice_get, Some}
+-- When Java texts tell terms apart (Java Language Specification 6.4, 6.5 and 15.12): a condition on the
+-- declarations alone, for environments whose texts can be read back. Overloads, names that hide one another and
+-- texts with dots are what can make two terms look alike.
+use Rattle.std.specs.Prelude.{◌≡◌, ◌≢◌, ◌⊎◌, ℕ, ◌<◌, Bool, true, false, List, [], ◌∷◌, ◌++◌, length, slice_get, Some, codes}
 use Rattle.terms.specs.Typing.{is_below}
 use Rattle.terms.specs.Text.{type_text}
 use Rattle.terms.specs.declared.parts.Arg.{Arg}
@@ -67,8 +68,9 @@ abbrev pub AreTold : Parts → Decl → Decl → Type 0
 AreTold g c d = ((c.crowded ≡ true) × (d.crowded ≡ true) × (c.args ≢ d.args))
     ⊎ (HasReceiver c.form × ((a b t : ℕ) → IsOf c.args a → IsOf d.args b → t < length g.types → is_below g t a ≡ true → is_below g t b ≡ true → ⊥))
 
--- the condition
-pub record IsApart (g : Parts) : Type 0 where
+-- The declarations are told apart by their texts. That each text can be read back is not said here: that names are
+-- identifiers or literals, and types have texts of types.
+pub record IsToldApart (g : Parts) : Type 0 where
   pub one_this : (i j : ℕ) (c d : Decl) → Declares g i c → Declares g j d → c.form ≡ This → d.form ≡ This → i ≡ j
   pub names : (i j : ℕ) (c d : Decl) (s : List ℕ) → Declares g i c → Declares g j d → c.form ≡ Name s → d.form ≡ Name s → i ≡ j
   pub lambdas : (i j : ℕ) (c d : Decl) (s : List ℕ) → Declares g i c → Declares g j d → c.form ≡ Lambda s → d.form ≡ Lambda s → i ≡ j
@@ -78,3 +80,11 @@ pub record IsApart (g : Parts) : Type 0 where
   pub no_field_before_a_dot : (i j : ℕ) (c d : Decl) (front rest : List ℕ) (hidden : Bool) → Declares g i c → Declares g j d → IsDotted c.form (front ++ 46 ∷ rest) → IsOwnField g d front hidden → ⊥
   pub calls_have_dots : (i j : ℕ) (c d : Decl) (s : List ℕ) → Declares g i c → Declares g j d → c.form ≡ This → d.form ≡ Call s → HasDot s
   pub fields_are_no_names : (i j : ℕ) (c d : Decl) (s : List ℕ) → Declares g i c → Declares g j d → c.form ≡ Name s → IsOwnField g d s false → ⊥
+
+-- a call `f` of one argument, which has this type
+abbrev pub call_over : ℕ → Bool → Decl
+call_over a crowded = record { args = Plain a ∷ []; result = 0; weight = 20; crowded = crowded; form = Call (codes "f") }
+
+-- two methods with one name: `f` over an `A` and `f` over a `B`, with casts where they are crowded
+abbrev pub two_calls : Bool → Parts
+two_calls crowded = record { types = codes "A" ∷ codes "B" ∷ []; pairs = []; decls = call_over 0 crowded ∷ call_over 1 crowded ∷ []; goal = 0; limit = 100; depth = 0; binder = codes "p" }

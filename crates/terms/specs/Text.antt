@@ -1,7 +1,7 @@
 -- The Java text of a term, as bytes in UTF-8. It is a function on terms with a type. The text of each form
 -- follows the Java Language Specification: names 6.5, calls 15.12, creation 15.9, fields 15.11, casts 15.16,
 -- lambdas 15.27, `this` 15.8.3.
-use Rattle.std.specs.Prelude.{ℕ, Bool, true, false, ◌&&◌, ◌||◌, not, if◌then◌else◌, ◌==◌, List, [], ◌∷◌, ◌++◌, length, map, get_or, slice_get, Option, Some, None, is_some, decimal}
+use Rattle.std.specs.Prelude.{ℕ, Bool, true, false, ◌&&◌, ◌||◌, not, if◌then◌else◌, ◌==◌, List, [], ◌∷◌, ◌++◌, length, map, get_or, slice_get, Option, Some, None, is_some, codes, decimal}
 use Rattle.std.specs.List.{range_with_len}
 use Rattle.terms.specs.Expr.{Expr, var, head, Args, plain, lam}
 use Rattle.terms.specs.Typing.{type_in, joined, args_wanted}
@@ -16,15 +16,15 @@ use Rattle.terms.specs.declared.parts.Parts.{Parts}
 unfoldable pub listed : List (List ℕ) → List ℕ
 listed [] = []
 listed (t ∷ []) = t
-listed (t ∷ u ∷ more) = t ++ 44 ∷ 32 ∷ [] ++ listed (u ∷ more)
+listed (t ∷ u ∷ more) = t ++ codes ", " ++ listed (u ∷ more)
 
 -- `(`, the text, `)`
 abbrev pub bracketed : List ℕ → List ℕ
-bracketed t = 40 ∷ t ++ 41 ∷ []
+bracketed t = codes "(" ++ t ++ codes ")"
 
 -- `this`
 abbrev pub this_text : List ℕ
-this_text = 116 ∷ 104 ∷ 105 ∷ 115 ∷ []
+this_text = codes "this"
 
 -- a variable: the binder's text and the variable's number in decimal
 abbrev pub variable_text : Parts → ℕ → List ℕ
@@ -82,7 +82,7 @@ cast_of g crowded t b = if crowded && differs t b then Some (type_text g b) else
 -- an argument with its cast, `(T) ` before the term
 abbrev pub with_cast : Option (List ℕ) → List ℕ → List ℕ
 with_cast None t = t
-with_cast (Some c) t = bracketed c ++ 32 ∷ t
+with_cast (Some c) t = bracketed c ++ (codes " " ++ t)
 
 -- the text of an argument
 abbrev pub argument_text : Printed → List ℕ
@@ -116,24 +116,24 @@ parameters _ = 0
 -- `RECEIVER.s(ARGS)`, and `s(ARGS)` where the receiver is a bare `this`
 abbrev pub method_text : List ℕ → List Printed → List ℕ
 method_text s [] = []
-method_text s (p ∷ ps) = (if is_bare_this p then [] else receiver_text p ++ 46 ∷ []) ++ s ++ call_text ps
+method_text s (p ∷ ps) = (if is_bare_this p then [] else receiver_text p ++ codes ".") ++ s ++ call_text ps
 
 -- `RECEIVER.s`, and where the receiver is a bare `this` `s`, or `this.s` if a local name hides the field
 abbrev pub field_text : List ℕ → Bool → List Printed → List ℕ
 field_text s hidden [] = []
-field_text s hidden (p ∷ ps) = (if is_bare_this p && not hidden then [] else receiver_text p ++ 46 ∷ []) ++ s
+field_text s hidden (p ∷ ps) = (if is_bare_this p && not hidden then [] else receiver_text p ++ codes ".") ++ s
 
 -- `(s) (BINDERS) -> BODY`
 abbrev pub lambda_text : List ℕ → List ℕ → List Printed → List ℕ
 lambda_text s names [] = []
-lambda_text s names (p ∷ ps) = bracketed s ++ 32 ∷ bracketed names ++ 32 ∷ 45 ∷ 62 ∷ 32 ∷ argument_text p
+lambda_text s names (p ∷ ps) = bracketed s ++ (codes " " ++ bracketed names) ++ (codes " -> " ++ argument_text p)
 
 -- a form over its printed arguments; `names` are the binders, where it is a lambda
 abbrev pub form_text : Form → List ℕ → List Printed → List ℕ
 form_text (Name s) names ps = s
 form_text This names ps = this_text
 form_text (Call s) names ps = s ++ call_text ps
-form_text (New s) names ps = 110 ∷ 101 ∷ 119 ∷ 32 ∷ s ++ call_text ps
+form_text (New s) names ps = codes "new " ++ s ++ call_text ps
 form_text (Method s) names ps = method_text s ps
 form_text (Field s hidden) names ps = field_text s hidden ps
 form_text (Lambda s) names ps = lambda_text s names ps

@@ -44,7 +44,6 @@ impl Model for Env {
 impl Env {
     /// The environment of these parts, or the first thing that is wrong with them. Time is about linear in
     /// the parts, and in the types above the upper sides of all pairs.
-
     pub fn checked(alloc: Global, parts: Parts) -> Result<Env, EnvFault>
         requires lengths { HasLengths parts }
         ensures very_parts { IfOk result (λ env. env ≡ parts) }
@@ -86,6 +85,16 @@ impl Env {
             Some(fault) => Err(fault),
             None => Ok(Env { parts, above }),
         }
+    }
+
+    /// An equal environment in memory of its own.
+    pub fn copy(&self, alloc: Global) -> Result<Env, AllocError>
+        ensures equal { IfOk result (λ copy. copy ≡ self.now) }
+    {
+        Ok(Env {
+            parts: self.parts.copy(alloc)?,
+            above: above::copy_rows(alloc, &self.above)?,
+        })
     }
 
     /// The parts, as they were given.
@@ -166,10 +175,7 @@ impl Env {
 
 impl Copies for Env {
     fn copy(&self, alloc: Global) -> Result<Env, AllocError> {
-        Ok(Env {
-            parts: self.parts.copy(alloc)?,
-            above: above::copy_rows(alloc, &self.above)?,
-        })
+        Env::copy(self, alloc)
     }
 }
 

@@ -19,7 +19,7 @@ mod term;
 pub use context::Ctx;
 pub use env::Env;
 pub use fault::EnvFault;
-pub use laws::{list_laws, pair_laws};
+pub use laws::{list_laws, pair_laws, text_laws};
 pub use levels::{Level, Levels};
 pub use parts::{Arg, Decl, Form, Parts};
 pub use term::{Term, TermArg};
