@@ -6,8 +6,11 @@ use Rattle.outside.specs.Causes.{Rose}
 use Rattle.outside.specs.Gathered.{WroteFront}
 use Rattle.terms.specs.Expr.{Expr}
 use Rattle.terms.specs.Listing.{IsWhole}
+use Rattle.terms.specs.Faults.{IsValid}
 use Rattle.terms.specs.declared.parts.Parts.{Parts}
-use Rattle.serving.specs.Sheets.{Fault, IsSheet, sheet_fault, text_fault, fault_or}
+use Rattle.terms.proofs.Sorting.{has_whole}
+use Rattle.terms.proofs.Valid.{valid-heavy}
+use Rattle.sheets.specs.Sheets.{Fault, IsSheet, sheet_fault, text_fault, fault_or}
 use Rattle.serving.specs.Runs.{ReadAll, HasListed, HasRefused, HasBegun, HasWritten, EndsBy, status_of, list_text}
 use Rattle.serving.specs.declared.status.Ending.{Ending}
 use Rattle.serving.specs.declared.status.Ending.TheVariants.{Whole, NotSheet, ReadFault, WriteFault, OutOfMemory}
@@ -46,14 +49,18 @@ listed l l' w w' bs g read ended sheet written = record {
   wrote = written.wrote;
 }
 
-pub begun : (l l' w w' : Option (List ℕ)) (bs : List ℕ) (g : Parts) → Consumes l l' bs → (length bs < 16777217 → IsAtEnd l') → IsSheet bs g → ((list : List Expr) → IsWhole g list → WroteFront w w' (list_text g list)) → HasBegun l l' w w'
-begun l l' w w' bs g read ended sheet front = record {
-  bytes = bs;
-  input = read-all l l' bs read ended sheet.faultless;
-  parts = g;
-  sheet = sheet;
-  front = front;
-}
+pub begun : (l l' w w' : Option (List ℕ)) (bs : List ℕ) (g : Parts) → Consumes l l' bs → (length bs < 16777217 → IsAtEnd l') → IsSheet bs g → IsValid g → ((list : List Expr) → IsWhole g list → WroteFront w w' (list_text g list)) → HasBegun l l' w w'
+begun l l' w w' bs g read ended sheet valid front =
+    let whole = has_whole g (valid-heavy g valid) in
+    record {
+      bytes = bs;
+      input = read-all l l' bs read ended sheet.faultless;
+      parts = g;
+      sheet = sheet;
+      list = whole.0;
+      front = whole.1.front;
+      wrote = front whole.0 whole.1;
+    }
 
 pub refused : (l l' w : Option (List ℕ)) (bs : List ℕ) (line cause : ℕ) → Consumes l l' bs → (length bs < 16777217 → IsAtEnd l') → sheet_fault bs ≡ Some (record { line = line; cause = cause }) → HasRefused l l' w w line cause
 refused l l' w bs line cause read ended fault = record {
@@ -90,3 +97,12 @@ complete (NotSheet line cause) bs g l l' w w' s s' k k' told sheet source sink h
 complete ReadFault bs g l l' w w' s s' k k' told sheet source sink h = absurd (source h.0)
 complete WriteFault bs g l l' w w' s s' k k' told sheet source sink h = absurd (sink h.0)
 complete OutOfMemory bs g l l' w w' s s' k k' told sheet source sink h = inr refl
+
+-- no ending has the status of words or ends that don't fit
+pub no-usage : (ending : Ending) → (status_of ending).code ≡ 2 → ⊥
+unfolding status_of
+no-usage Whole e = omega (arith, e)
+no-usage (NotSheet line cause) e = omega (arith, e)
+no-usage ReadFault e = omega (arith, e)
+no-usage WriteFault e = omega (arith, e)
+no-usage OutOfMemory e = omega (arith, e)

@@ -1,9 +1,3 @@
-mod Walks
-mod Numbers
-mod Indices
-mod Standing
-mod Texts
-mod Bodies
 mod Listed
 mod Endings
 mod Usages

@@ -1,6 +1,6 @@
 -- Words that fit, and words that don't.
-use Rattle.std.proofs.Common.{◌≡◌, ℕ, ◌<◌, List, [], ◌∷◌, length, map, arith, refl, true, false, get_or, Option, Some, None, ◌==◌}
-use Rattle.std.specs.Prelude.{bytes_eq, codes, String, string_bytes}
+use Rattle.std.proofs.Common.{◌≡◌, ℕ, zero, suc, ◌<◌, subst, List, [], ◌∷◌, length, map, arith, refl, true, false, get_or, Option, Some, None, ◌==◌}
+use Rattle.std.specs.Prelude.{bytes_eq, codes, slice_get, slice_set, String, string_bytes}
 use Rattle.serving.specs.Runs.{words_status, usage_status}
 use Rattle.serving.specs.declared.status.Status.{Status}
 
@@ -51,3 +51,16 @@ not_both o s e f = cc
 
 pub head-is : {X : Type 0} (x f : X) → x ∷ [] ≡ f ∷ [] → x ≡ f
 head-is x f e = cc
+
+-- what holds of each value and itself holds at each place of a list
+pub same-holds : {X : Type 0} (xs : List X) (P : X → X → Type 0) → ((x : X) → P x x) → (i : ℕ) (e f : X) → slice_get xs i ≡ Some e → slice_get xs i ≡ Some f → P e f
+same-holds xs P itself i e f at_e at_f = let same : e ≡ f = cc in subst (λ y. P e y) same (itself e)
+
+-- and of a list whose first one was replaced, where it holds of that one
+pub set-holds : {X : Type 0} (xs : List X) (P : X → X → Type 0) (d n : X) → d ≡ get_or xs 0 d → ((x : X) → P x x) → P d n → (i : ℕ) (e f : X) → slice_get xs i ≡ Some e → slice_get (slice_set xs 0 n) i ≡ Some f → P e f
+set-holds [] P d n was itself first i e f at_e at_f = cc
+set-holds (x ∷ xs) P d n was itself first zero e f at_e at_f =
+    let old : d ≡ e = cc in
+    let new : n ≡ f = cc in
+    subst (λ y. P y f) old (subst (λ y. P d y) new first)
+set-holds (x ∷ xs) P d n was itself first (suc i) e f at_e at_f = same-holds xs P itself i e f at_e at_f

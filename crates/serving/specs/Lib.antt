@@ -1,5 +1,2 @@
-pub mod Words
-pub mod SheetLines
-pub mod Sheets
-pub mod Standing
+-- What a run reads, writes and answers.
 pub mod Runs

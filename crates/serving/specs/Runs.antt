@@ -8,9 +8,10 @@ use Rattle.listing.specs.declared.item.Item.{Item}
 use Rattle.terms.specs.Expr.{Expr}
 use Rattle.terms.specs.Place.{total_of}
 use Rattle.terms.specs.Text.{text_of}
-use Rattle.terms.specs.Listing.{IsWhole}
+use Rattle.terms.specs.Listing.{IsFront, IsWhole}
+use Rattle.terms.specs.Faults.{or_then}
 use Rattle.terms.specs.declared.parts.Parts.{Parts}
-use Rattle.serving.specs.Sheets.{IsSheet, sheet_fault}
+use Rattle.sheets.specs.Sheets.{IsSheet, sheet_fault}
 use Rattle.serving.specs.declared.status.Status.{Status}
 use Rattle.serving.specs.declared.status.Ending.{Ending}
 use Rattle.serving.specs.declared.status.Ending.TheVariants.{Whole, NotSheet, ReadFault, WriteFault, OutOfMemory}
@@ -65,13 +66,15 @@ pub record HasRefused (left left' written written' : Option (List ℕ)) (line ca
   pub fault : sheet_fault bytes ≡ Some (record { line = line; cause = cause })
   pub silent : Keeps written written'
 
--- the input is a sheet, and a front of its list was written and nothing else
+-- the input is a sheet, and first bytes of the lines of a front of its list were written and nothing else
 pub record HasBegun (left left' written written' : Option (List ℕ)) : Type 0 where
   pub bytes : List ℕ
   pub input : ReadAll left left' bytes
   pub parts : Parts
   pub sheet : IsSheet bytes parts
-  pub front : (list : List Expr) → IsWhole parts list → WroteFront written written' (list_text parts list)
+  pub list : List Expr
+  pub front : IsFront parts list
+  pub wrote : WroteFront written written' (list_text parts list)
 
 -- how a run ended, by what was left, what was written, and how often source and sink had failed, before and after
 abbrev pub EndsBy : Ending → Option (List ℕ) → Option (List ℕ) → Option (List ℕ) → Option (List ℕ) → ℕ → ℕ → ℕ → ℕ → Type 0
@@ -80,11 +83,6 @@ EndsBy (NotSheet line cause) left left' written written' s s' k k' = HasRefused 
 EndsBy ReadFault left left' written written' s s' k k' = Rose s s' × Keeps written written'
 EndsBy WriteFault left left' written written' s s' k k' = Rose k k' × HasBegun left left' written written'
 EndsBy OutOfMemory left left' written written' s s' k k' = Keeps written written' ⊎ HasBegun left left' written written'
-
--- the first of two, where there is one, else the second
-abbrev pub or_else : Option Status → Option Status → Option Status
-or_else None later = later
-or_else (Some s) later = Some s
 
 -- the status of an ending
 unfoldable pub status_of : Ending → Status
@@ -102,4 +100,4 @@ words_status (w ∷ x ∷ more) = if bytes_eq w (codes "list") then Some (record
 
 -- a number of ends that doesn't fit, which is looked at after the words
 unfoldable pub usage_status : List (List ℕ) → ℕ → Option Status
-usage_status words ends = or_else (words_status words) (if ends == 1 then None else Some (record { code = 2; end = 0; place = ends; cause = 2 }))
+usage_status words ends = or_then (words_status words) (if ends == 1 then None else Some (record { code = 2; end = 0; place = ends; cause = 2 }))

@@ -1,15 +1,15 @@
-ghost use Rattle.std.specs.Prelude.{◌≡◌, ◌⊎◌, ◌≤◌, ℕ, List, [], ◌∷◌, length, map, MatchOption, Some, None, string_bytes, bytes_eq, codes};
+ghost use Rattle.std.specs.Prelude.{◌≡◌, ◌⊎◌, ◌≤◌, ℕ, List, [], ◌∷◌, length, map, slice_get, IsSome, IfSome, IfNone, Some, None, string_bytes, bytes_eq, codes};
 ghost use Rattle.outside.specs.Causes.{Rose};
 ghost use Rattle.outside.specs.declared.end.End.{End};
 ghost use Rattle.serving.specs.Runs.{EndsBy, status_of, words_status, usage_status};
-ghost use Rattle.serving.specs.Sheets.{IsSheet};
+ghost use Rattle.sheets.specs.Sheets.{IsSheet};
 ghost use Rattle.serving.specs.declared.status.Ending.{Ending};
 ghost use Rattle.terms.specs.declared.parts.Parts.{Parts};
 
 use crate::list::write_list;
-use crate::reading::{SheetFault, read_sheet};
 use crate::status::{Ending, Status};
 use outside::{End, ReadFault, Shelf, Sink, Source, WriteFault, read_up_to};
+use sheets::{SheetFault, read_sheet};
 use std::alloc::Global;
 
 /// The most bytes that are read: one more than a sheet may have.
@@ -75,12 +75,18 @@ pub fn run<S: Source + Drop, K: Sink + Drop, H: Shelf + Drop>(
     words: &[String],
     ends: &mut Vec<End<S, K, H>>,
 ) -> Status
-    ensures usage { MatchOption (usage_status (map string_bytes words.now) (length ends.old.items))
+    ensures usage { IfSome (usage_status (map string_bytes words.now) (length ends.old.items)) (λ status.
+        (result ≡ status) × (ends.new.items ≡ ends.old.items)) }
+    ensures usage_alone { result.code ≡ 2 → IsSome (usage_status (map string_bytes words.now) (length ends.old.items)) }
+    ensures ending { IfNone (usage_status (map string_bytes words.now) (length ends.old.items))
         ((ending : Ending) × (result ≡ status_of ending) × ((e f : End S K H) → ends.old.items ≡ e ∷ [] → ends.new.items ≡ f ∷ []
         → EndsBy ending (S.left e.source) (S.left f.source) (K.written e.sink) (K.written f.sink)
-        (S.faults e.source) (S.faults f.source) (K.faults e.sink) (K.faults f.sink)))
-        (λ status. (result ≡ status) × (ends.new.items ≡ ends.old.items)) }
+        (S.faults e.source) (S.faults f.source) (K.faults e.sink) (K.faults f.sink))) }
     ensures kept { length ends.new.items ≡ length ends.old.items }
+    ensures faults_rise { (i : ℕ) (e f : End S K H) → slice_get ends.old.items i ≡ Some e → slice_get ends.new.items i ≡ Some f
+        → (S.faults e.source ≤ S.faults f.source) × (K.faults e.sink ≤ K.faults f.sink) × (H.faults e.shelf ≤ H.faults f.shelf) }
+    ensures shelf_stays { (i : ℕ) (e f : End S K H) → slice_get ends.old.items i ≡ Some e → slice_get ends.new.items i ≡ Some f
+        → f.shelf ≡ e.shelf }
     ensures complete { (e f : End S K H) (bytes : List ℕ) (parts : Parts) → ends.old.items ≡ e ∷ [] → ends.new.items ≡ f ∷ []
         → map string_bytes words.now ≡ codes "list" ∷ [] → S.left e.source ≡ Some bytes → IsSheet bytes parts
         → ¬ (Rose (S.faults e.source) (S.faults f.source)) → ¬ (Rose (K.faults e.sink) (K.faults f.sink))
