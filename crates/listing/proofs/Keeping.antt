@@ -17,8 +17,8 @@ use Rattle.terms.specs.declared.levels.Level.{Level}
 use Rattle.listing.specs.declared.item.Item.{Item}
 use Rattle.listing.specs.declared.item.Keyed.{Keyed}
 use Rattle.listing.specs.Found.{IsKept, IsBetween, IsOfWholeLevels, IsItem, IsKeyed, IsWithin, IsNoFurther, IsLonger, Listed, IsListed, held, terms_of, term_of, item_of, keyed_term, keyed_cmp}
-use Rattle.listing.proofs.Standing.{stands-head, stands-tail, from_all, count-append, count-permutation}
-use Rattle.listing.proofs.Fronts.{lighter, front_shorter, rising-append}
+use Rattle.terms.proofs.Standing.{stands-head, stands-tail, from_all, count-append, count-permutation}
+use Rattle.terms.proofs.Fronts.{lighter, front_shorter, rising-append}
 use Rattle.listing.proofs.Ranges.{stands_between, between_stands, between-append, between-none, skipped_none, skipped_join, next_held, front_between, whole_between, grown_bound}
 use Rattle.listing.proofs.Orders.{stands_at, rising_keyed}
 
@@ -269,6 +269,7 @@ listed p found ws ks weight below reached pops end h skip = record {
   items = h.items;
   whole = λ e. whole_between p.parts below (terms_of found) h.rising h.found_between (h.ended e);
   no_further = λ e inside lighter. lighter_found p found ws ks weight below reached end h skip e inside lighter;
+  small = h.small;
 }
 
 -- the same, where what is held is known to be nothing

@@ -18,9 +18,9 @@ use Rattle.terms.specs.Listing.{IsRising}
 use Rattle.terms.specs.declared.parts.Parts.{Parts}
 use Rattle.listing.specs.declared.item.Keyed.{Keyed}
 use Rattle.listing.specs.Found.{keyed_cmp, keyed_term, IsKeyed}
-use Rattle.listing.proofs.Standing.{expr_eq-refl, count-map, twice, stands-head, stands-tail}
-use Rattle.listing.proofs.Fronts.{list_total}
-use Rattle.listing.proofs.Codes.{one_term, below_some}
+use Rattle.terms.proofs.Standing.{expr_eq-refl, count-map, twice, stands-head, stands-tail}
+use Rattle.terms.proofs.Fronts.{list_total}
+use Rattle.terms.proofs.Codes.{one_term, below_some}
 
 pub keyed_total : IsTotalOrder keyed_cmp
 keyed_total = then_total (on_total (λ k. k.item.text) nat_list_cmp_total) (on_total (λ k. k.code) nat_list_cmp_total)

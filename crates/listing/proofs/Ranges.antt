@@ -9,8 +9,8 @@ use Rattle.terms.specs.Listing.{IsRising, IsFront, IsWhole, level_of, Skipped, I
 use Rattle.terms.specs.declared.parts.Parts.{Parts}
 use Rattle.terms.specs.declared.levels.Level.{Level}
 use Rattle.listing.specs.Found.{IsBetween, IsOfWholeLevels}
-use Rattle.listing.proofs.Standing.{stands-cons, stands-head, stands-tail, all_stands, from_all, count-append}
-use Rattle.listing.proofs.Fronts.{lighter, not_heavier, front_shorter}
+use Rattle.terms.proofs.Standing.{stands-cons, stands-head, stands-tail, all_stands, from_all, count-append}
+use Rattle.terms.proofs.Fronts.{lighter, not_heavier, front_shorter}
 
 once_true : (b : Bool) → 1 ≤ once_if b → b ≡ true
 once_true true h = refl

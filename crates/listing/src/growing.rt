@@ -243,6 +243,7 @@ impl<E: Levels> Growing<E> {
         ensures longer { IsLonger self.old.found.items self.new.found.items }
         ensures bound { IsNoFurther (E.progress self.new.levels).parts wanted self.old.found.items self.new.found.items }
         ensures enough { OnOk result ((wanted ≤ length self.new.found.items) ⊎ (self.new.at_end ≡ true)) }
+        ensures end_stays { self.old.at_end ≡ true → self.new.at_end ≡ true }
         ensures short { OnErr result ((length self.old.found.items < wanted) × (self.old.at_end ≡ false)) }
         ensures pops_rise { E.popped self.old.levels ≤ E.popped self.new.levels }
     {

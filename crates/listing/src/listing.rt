@@ -1,4 +1,4 @@
-ghost use Rattle.std.specs.Prelude.{◌≡◌, ◌↔◌, ◌<◌, ◌≤◌, ◌+◌, ◌^◌, [], IsTrue, IfOk, OnErr, false, length, take, drop};
+ghost use Rattle.std.specs.Prelude.{◌≡◌, ◌↔◌, ◌<◌, ◌≤◌, ◌+◌, ◌^◌, ◌⊎◌, [], IsTrue, IfOk, OnOk, OnErr, true, false, length, take, drop};
 ghost use Rattle.terms.specs.Listing.{AreFew};
 ghost use Rattle.listing.specs.Found.{IsListed, IsLonger};
 ghost use Rattle.listing.specs.Pages.{IsPage, items_of};
@@ -68,6 +68,9 @@ impl<E: Levels> Listing<E> {
         ensures same_env { self.new.parts ≡ self.old.parts }
         ensures longer { IsLonger self.old.found self.new.found }
         ensures page { IfOk result (λ page. IsPage from count self.old self.new page) }
+        ensures enough { OnOk result ((from + count + 1 ≤ length self.new.found) ⊎ (self.new.at_end ≡ true)) }
+        ensures end_met { IfOk result (λ page. length self.new.found ≤ from + count → self.new.at_end ≡ true) }
+        ensures end_stays { self.old.at_end ≡ true → self.new.at_end ≡ true }
         ensures no_memory { OnErr result ((length self.old.found ≤ from + count) × (self.old.at_end ≡ false)) }
         ensures pops_rise { self.old.pops ≤ self.new.pops }
     {
