@@ -6,6 +6,7 @@ pub mod Depths
 pub mod Pairs
 pub mod Gaps
 pub mod Tables
+pub mod Closings
 pub mod Valid
 pub mod Wanted
 pub mod Standing

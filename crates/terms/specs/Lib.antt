@@ -12,5 +12,6 @@ pub mod Order
 pub mod Listing
 pub mod Faults
 pub mod Table
+pub mod Closed
 pub mod Rating
 pub mod Apart

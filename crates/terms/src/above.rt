@@ -3,8 +3,10 @@ ghost use Rattle.std.specs.BTreeSet.{keys};
 ghost use Rattle.std.specs.List.Sorted.{IsNonDecreasing};
 ghost use Rattle.terms.specs.Faults.{pair_fault, pairs_fault};
 ghost use Rattle.terms.specs.Table.{has, row_at, IsTable, gap_between, gap_from, first_gap};
+ghost use Rattle.terms.specs.Closed.{AreClosed};
 ghost use Rattle.terms.specs.declared.fault.EnvFault.TheVariants.{OutOfMemory};
 
+use crate::closed::is_told;
 use crate::fault::EnvFault;
 use lists::Items;
 use std::alloc::{AllocError, Global};
@@ -129,7 +131,7 @@ pub(crate) fn is_pair(rows: &[Items<u32>], lower: u32, upper: u32) -> bool
 }
 
 /// The row of a type, empty past the end.
-fn row_at(rows: &[Items<u32>], lower: u32) -> &[u32]
+pub(crate) fn row_at(rows: &[Items<u32>], lower: u32) -> &[u32]
     ensures { result.now ≡ row_at rows.now lower }
 {
     match rows.get(lower as usize) {
@@ -147,20 +149,33 @@ fn is_in_row(row: &[u32], upper: u32) -> bool
 }
 
 /// The first gap of the table: the least triple whose first side is below the second and that below the
-/// third, but not the first below the third. Each type above an upper side is looked up once.
+/// third, but not the first below the third. Types that are told to have none above them are passed over.
 #[tactic(auto, unfolding(crate::specs::Table::first_gap))]
-pub(crate) fn first_gap(rows: &[Items<u32>]) -> Option<EnvFault>
+pub(crate) fn first_gap(rows: &[Items<u32>], closed: &[bool]) -> Option<EnvFault>
     requires few { length rows.now < 2 ^ 32 }
     requires rising { (a : ℕ) → IsNonDecreasing (row_at rows.now a) }
+    requires closed { AreClosed rows.now closed.now }
     ensures { result ≡ first_gap rows.now }
 {
     for lower in 0..rows.len() {
-        let fault = gap_from(rows, lower as u32, row_at(rows, lower as u32));
+        let fault = gap_above(rows, closed, lower as u32);
         if fault.is_some() {
             return fault;
         }
     }
     None
+}
+
+/// The first gap above a type.
+fn gap_above(rows: &[Items<u32>], closed: &[bool], lower: u32) -> Option<EnvFault>
+    requires rising { (a : ℕ) → IsNonDecreasing (row_at rows.now a) }
+    requires closed { AreClosed rows.now closed.now }
+    ensures { result ≡ gap_from rows.now lower (row_at rows.now lower) }
+{
+    if is_told(closed, lower) {
+        return None;
+    }
+    gap_from(rows, lower, row_at(rows, lower))
 }
 
 /// The first gap above a type through one of the row.

@@ -6,9 +6,11 @@ ghost use Rattle.terms.specs.Place.{is_inhabitant};
 ghost use Rattle.terms.specs.Rating.{is_wanted};
 ghost use Rattle.terms.specs.Faults.{or_then, limit_fault, depth_fault, pairs_fault, order_fault, decls_fault, goal_fault, first_env_fault, IsValid, HasLengths};
 ghost use Rattle.terms.specs.Table.{IsTable};
+ghost use Rattle.terms.specs.Closed.{AreClosed};
 ghost use Rattle.terms.specs.declared.fault.EnvFault.TheVariants.{OutOfMemory};
 
 use crate::above;
+use crate::closed::closed_types;
 use crate::context::Ctx;
 use crate::declarations::decls_fault;
 use crate::depth::is_shallow;
@@ -42,8 +44,8 @@ impl Model for Env {
 }
 
 impl Env {
-    /// The environment of these parts, or the first thing that is wrong with them. Time is about linear in
-    /// the parts, and in the types above the upper sides of all pairs.
+    /// The environment of these parts, or the first thing that is wrong with them. Time is about linear in the
+    /// parts where few types stand directly above one, but for the logarithms of a table's rows.
     pub fn checked(alloc: Global, parts: Parts) -> Result<Env, EnvFault>
         requires lengths { HasLengths parts }
         ensures very_parts { IfOk result (λ env. env ≡ parts) }
@@ -65,23 +67,27 @@ impl Env {
         ensures first_fault { IfErr result (λ fault. fault ≢ OutOfMemory → first_env_fault parts ≡ Some fault) }
     {
         match above::table_of(alloc, parts.types.as_slice().len(), parts.pairs.as_slice()) {
-            Ok(above) => Env::with_table(parts, above),
+            Ok(above) => {
+                let closed = closed_types(alloc, above.as_slice())?;
+                Env::with_table(parts, above, closed.as_slice())
+            }
             Err(fault) => Err(fault),
         }
     }
 
     /// The environment of parts of which only transitivity, declarations and goal are left to look at.
-    fn with_table(parts: Parts, above: Items<Items<u32>>) -> Result<Env, EnvFault>
+    fn with_table(parts: Parts, above: Items<Items<u32>>, closed: &[bool]) -> Result<Env, EnvFault>
         requires lengths { HasLengths parts }
         requires bounds { or_then (limit_fault parts) (depth_fault parts) ≡ None }
         requires sound { pairs_fault (length parts.types) 0 [] parts.pairs ≡ None }
         requires table { IsTable parts.pairs above }
         requires len { length above ≡ length parts.types }
+        requires closed { AreClosed above closed.now }
         ensures very_parts { IfOk result (λ env. env ≡ parts) }
         ensures valid { OnOk result (IsValid parts) }
         ensures first_fault { IfErr result (λ fault. first_env_fault parts ≡ Some fault) }
     {
-        match later_fault(&parts, above.as_slice()) {
+        match later_fault(&parts, above.as_slice(), closed) {
             Some(fault) => Err(fault),
             None => Ok(Env { parts, above }),
         }
@@ -193,14 +199,15 @@ fn bounds_fault(parts: &Parts) -> Option<EnvFault>
 }
 
 /// What is wrong besides the limit, the depth and the single pairs.
-fn later_fault(parts: &Parts, rows: &[Items<u32>]) -> Option<EnvFault>
+fn later_fault(parts: &Parts, rows: &[Items<u32>], closed: &[bool]) -> Option<EnvFault>
     requires lengths { HasLengths parts.now }
     requires table { IsTable parts.now.pairs rows.now }
     requires len { length rows.now ≡ length parts.now.types }
+    requires closed { AreClosed rows.now closed.now }
     requires sound { pairs_fault (length parts.now.types) 0 [] parts.now.pairs ≡ None }
     ensures { result ≡ or_then (order_fault (length parts.now.types) parts.now.pairs) (or_then (decls_fault (length parts.now.types) 0 parts.now.decls) (goal_fault parts.now)) }
 {
-    let fault = above::first_gap(rows);
+    let fault = above::first_gap(rows, closed);
     if fault.is_some() {
         return fault;
     }

@@ -5,6 +5,7 @@
 #![tactic(auto)]
 
 mod above;
+mod closed;
 mod context;
 mod declarations;
 mod depth;
