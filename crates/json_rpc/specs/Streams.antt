@@ -42,6 +42,17 @@ pub record Progress : Type 0 where
   pub held : List ℕ
   pub fault : Option FrameFault
 
+-- A fault that is kept lasts: it is met again. A read fault and want of memory pass.
+abbrev pub IsLasting : Option FrameFault → Type 0
+IsLasting None = Unit {0}
+IsLasting (Some (Header k)) = Unit {0}
+IsLasting (Some (NoLength k)) = Unit {0}
+IsLasting (Some (TooLong k)) = Unit {0}
+IsLasting (Some (Cut k)) = Unit {0}
+IsLasting (Some ReadFault) = ⊥
+IsLasting (Some Budget) = Unit {0}
+IsLasting (Some OutOfMemory) = ⊥
+
 -- As many bytes have been taken as before.
 abbrev pub IsAsFar : Progress → Progress → Type 0
 IsAsFar old new = new.place + length new.held ≡ old.place + length old.held

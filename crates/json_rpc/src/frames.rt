@@ -1,6 +1,6 @@
 ghost use Rattle.std.specs.Prelude.{◌≡◌, ◌≢◌, IsNone, IfNone, ◌≤◌, ◌<◌, ◌+◌, ◌^◌, [], None, Some, drop, length, IfOk, IfSome, MatchResult, MatchOption, IsErrOf, vec_len};
 ghost use Rattle.outside.specs.Causes.{Rose};
-ghost use Rattle.json_rpc.specs.Streams.{TakesFrame, MeetsFault, Fills, FillFails, Gives, Ends, Fails, IsAsFar, budget, by_length, ended, next_of, partial};
+ghost use Rattle.json_rpc.specs.Streams.{IsLasting, TakesFrame, MeetsFault, Fills, FillFails, Gives, Ends, Fails, IsAsFar, budget, by_length, ended, next_of, partial};
 
 use crate::fault::FrameFault;
 use crate::header::{Head, Reading, scan};
@@ -24,13 +24,13 @@ pub struct Frames {
 
 impl Model for Frames {
     ghost use Rattle.std.specs.Prelude.{◌≤◌, ◌+◌, length};
-    ghost use Rattle.json_rpc.specs.Streams.{Progress, budget};
+    ghost use Rattle.json_rpc.specs.Streams.{IsLasting, Progress, budget};
 
     ghost Value = { Progress };
 
     ghost view = { λ f. record { place = f.place; held = f.held.items; fault = f.fault } };
 
-    ghost invariant = { λ f. f.place + length f.held.items ≤ budget };
+    ghost invariant = { λ f. (f.place + length f.held.items ≤ budget) × IsLasting f.fault };
 }
 
 /// Drops the first n bytes.
@@ -57,6 +57,7 @@ impl Frames {
 
     /// Ends the stream by a fault.
     fn end_with(&mut self, fault: FrameFault) -> FrameFault
+        requires { IsLasting (Some fault) }
         ensures result { result ≡ fault }
         ensures ended { self.new ≡ ended self.old fault }
         ensures bytes { IsAsFar self.old self.new }
@@ -181,6 +182,7 @@ impl Frames {
     /// The next body, of at most 16 MiB; None where the input ended between two frames before the
     /// budget of 2^40 bytes was used up. After a fault other than `ReadFault` and `OutOfMemory` it answers
     /// that fault again; after those two it goes on with every byte that it took.
+    #[tactic(auto, using(crate::proofs::Lasting::lasting))]
     pub fn next<S: Source>(
         &mut self,
         alloc: Global,
@@ -192,7 +194,8 @@ impl Frames {
         ensures again { IfSome self.old.fault (λ e. IsErrOf result e × (self.new ≡ self.old) × (source.new ≡ source.old)) }
         ensures later { S.faults source.old ≤ S.faults source.new }
         ensures bound { self.new.place + length self.new.held ≤ budget }
-        ensures cause { self.old.fault ≡ None → IsErrOf result FrameFault.ReadFault → Rose (S.faults source.old) (S.faults source.new) }
+        ensures cause { IsErrOf result FrameFault.ReadFault → Rose (S.faults source.old) (S.faults source.new) }
+        ensures kept { IsLasting self.old.fault }
     {
         if let Some(fault) = self.fault {
             return Err(fault);
