@@ -1,3 +1,4 @@
 mod Edits
 mod Rests
 mod LineStarts
+mod Laws

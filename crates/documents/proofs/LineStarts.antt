@@ -11,7 +11,7 @@ list_in : Option (List ℕ) → List ℕ
 list_in None = []
 list_in (Some xs) = xs
 
-same_list : (xs ys : List ℕ) → Some xs ≡ Some ys → xs ≡ ys
+pub same_list : (xs ys : List ℕ) → Some xs ≡ Some ys → xs ≡ ys
 unfolding list_in
 same_list xs ys e = ap list_in e
 
@@ -19,7 +19,7 @@ number_in : Option ℕ → ℕ
 number_in None = 0
 number_in (Some n) = n
 
-same_number : (m n : ℕ) → Some m ≡ Some n → m ≡ n
+pub same_number : (m n : ℕ) → Some m ≡ Some n → m ≡ n
 unfolding number_in
 same_number m n e = ap number_in e
 
@@ -60,7 +60,7 @@ from_line-later l m cs r s lt e f =
     let g : from_line (m - l) r ≡ Some s = sym (from_line-add l (m - l) cs r e) ∙ ap (λ x. from_line x cs) n ∙ f in
     omega (arith, lt, from_line-le (m - l) r s g)
 
-byte_len-append : (xs ys : List ℕ) → byte_len (xs ++ ys) ≡ byte_len xs + byte_len ys
+pub byte_len-append : (xs ys : List ℕ) → byte_len (xs ++ ys) ≡ byte_len xs + byte_len ys
 unfolding byte_len
 byte_len-append [] ys = omega arith
 byte_len-append (x ∷ xs) ys = omega (arith, byte_len-append xs ys)
@@ -136,7 +136,7 @@ unit_step true b xs ys l = omega arith
 unit_step false true xs ys l = omega arith
 unit_step false false xs ys l = l
 
-from_unit-le : (u : ℕ) (cs : List ℕ) → byte_len (from_unit u cs) ≤ byte_len cs
+pub from_unit-le : (u : ℕ) (cs : List ℕ) → byte_len (from_unit u cs) ≤ byte_len cs
 unfolding from_unit byte_len
 from_unit-le u [] = omega arith
 from_unit-le u (c ∷ cs) = unit_step (is_newline c) (nat_lt u (units c)) (c ∷ cs) (from_unit (u - units c) cs) (omega (arith, from_unit-le (u - units c) cs))
@@ -193,7 +193,7 @@ step : (b : Bool) (p q r : ℕ × ℕ) → (b ≡ true → p ≡ r) → (b ≡ f
 step true p q r f g = f refl
 step false p q r f g = g refl
 
-not_zero : (n : ℕ) → 0 < n → (n == 0) ≡ false
+pub not_zero : (n : ℕ) → 0 < n → (n == 0) ≡ false
 not_zero n l = grind (arith, l)
 
 line_at : (b : Bool) (j : ℕ) (cs : List ℕ) (o : Option (List ℕ)) → b ≡ true → (if b then from_line j cs else from_line (suc j) cs) ≡ o → from_line j cs ≡ o
@@ -220,7 +220,7 @@ next_line (suc i) l n c cs r e m past =
     past i e (omega (arith, le, m)) ∙ ap (λ x. position_from (l + 1 + suc i) 0 x r) less ∙ ap (λ x. position_from x 0 (n - (len_utf8 c + byte_len cs - byte_len r)) r) line
 
 -- Positions counted from the start of a later line.
-position-past : (j l u n : ℕ) (cs r : List ℕ) → from_line (suc j) cs ≡ Some r → byte_len cs - byte_len r ≤ n → position_from l u n cs ≡ position_from (l + suc j) 0 (n - (byte_len cs - byte_len r)) r
+pub position-past : (j l u n : ℕ) (cs r : List ℕ) → from_line (suc j) cs ≡ Some r → byte_len cs - byte_len r ≤ n → position_from l u n cs ≡ position_from (l + suc j) 0 (n - (byte_len cs - byte_len r)) r
 unfolding from_line byte_len position_from
 position-past j l u n [] r e m = absurd cc
 position-past j l u n (c ∷ cs) r e m =

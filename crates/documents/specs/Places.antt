@@ -1,5 +1,5 @@
 -- Places in a text by lines and UTF-16 units (LSP 3.17, "Position"), on its characters.
-use Rattle.std.specs.Prelude.{◌≡◌, ℕ, zero, suc, ◌+◌, ◌-◌, ◌≤◌, ◌<◌, Bool, false, List, [], ◌∷◌, if◌then◌else◌, nat_lt, ◌==◌, ◌&&◌, ◌||◌, not, length, drop, get_or, Option, Some, None}
+use Rattle.std.specs.Prelude.{◌≡◌, ℕ, zero, suc, ◌+◌, ◌-◌, ◌≤◌, ◌<◌, Bool, false, List, [], ◌∷◌, ◌++◌, if◌then◌else◌, nat_lt, ◌==◌, ◌&&◌, ◌||◌, not, length, drop, get_or, Option, Some, None, All, sum_by}
 use Rattle.std.specs.Char.{len_utf8}
 use Rattle.std.specs.Str.{chars, IsCharBoundary}
 
@@ -57,6 +57,22 @@ position_from l u n (c ∷ cs) =
 -- The line and unit that n bytes stand before. Between the CR and the LF of one line end it is a unit past the line's end.
 abbrev pub position_of : List ℕ → ℕ → ℕ × ℕ
 position_of cs n = position_from 0 0 n cs
+
+-- Whether the text ends with CR.
+unfoldable pub ends_with_cr : List ℕ → Bool
+ends_with_cr [] = false
+ends_with_cr (c ∷ []) = c == 13
+ends_with_cr (c ∷ d ∷ cs) = ends_with_cr (d ∷ cs)
+
+-- Whether the place between these two parts of a text is between the CR and the LF of one line end.
+abbrev pub splits_newline : List ℕ → List ℕ → Bool
+splits_newline before after = ends_with_cr before && starts_with_lf after
+
+-- A place within a line: these characters of the line stand before it, and take so many units.
+pub record IsPlaceIn (cs : List ℕ) (line unit : ℕ) (before after : List ℕ) : Type 0 where
+  pub on : from_line line cs ≡ Some (before ++ after)
+  pub within : All (λ c. is_newline c ≡ false) before
+  pub units_are : sum_by units before ≡ unit
 
 -- The second text is what follows some place of the first.
 pub record IsRest (text rest : List ℕ) : Type 0 where

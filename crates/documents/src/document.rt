@@ -1,6 +1,6 @@
-ghost use Rattle.std.specs.Prelude.{◌≡◌, ◌≤◌, ◌<◌, ◌+◌, ℕ, length, drop, take, ◌++◌, ◌∷◌, [], None, Some, IfSome, MatchOption, MatchResult, string_bytes};
+ghost use Rattle.std.specs.Prelude.{◌≡◌, ◌≤◌, ◌<◌, ◌+◌, ℕ, ◌-◌, length, drop, take, ◌++◌, ◌∷◌, [], None, Some, IfSome, MatchOption, MatchResult, string_bytes, if◌then◌else◌, List};
 ghost use Rattle.std.specs.Str.{chars, IsCharBoundary};
-ghost use Rattle.documents.specs.Places.{offset_of, position_of, from_line, IsAfterLines, IsRest};
+ghost use Rattle.documents.specs.Places.{offset_of, position_of, from_line, IsAfterLines, IsPlaceIn, IsRest, splits_newline};
 ghost use Rattle.documents.specs.Edits.{edit_between, within, edited, document_after, Refuses};
 
 use crate::change::{EditFault, TextChange};
@@ -83,15 +83,19 @@ impl Document {
     pub fn offset(&self, line: u32, unit: u32) -> Option<u32>
         ensures value { result ≡ offset_of (chars self.now) line unit }
         ensures boundary { IfSome result (λ n. IsCharBoundary self.now n) }
+        ensures line { IfSome result (λ n. (position_of (chars self.now) n).0 ≡ line) }
+        ensures unit { IfSome result (λ n. (position_of (chars self.now) n).1 ≤ unit) }
+        ensures back { IfSome result (λ n. (before after : List ℕ) → IsPlaceIn (chars self.now) line unit before after → position_of (chars self.now) n ≡ (line, unit)) }
     {
         self.place(line, unit)
     }
 
     /// The line and UTF-16 unit that the first `offset` bytes stand before, both counted from 0.
-    #[tactic(auto, using(crate::proofs::LineStarts::places))]
+    #[tactic(auto, using(crate::proofs::LineStarts::places, crate::proofs::Laws::laws))]
     pub fn position(&self, offset: u32) -> (u32, u32)
         requires boundary { IsCharBoundary self.now offset }
-        ensures { result ≡ position_of (chars self.now) offset }
+        ensures value { result ≡ position_of (chars self.now) offset }
+        ensures back { offset_of (chars self.now) result.0 result.1 ≡ Some (if splits_newline (chars (take offset self.now)) (chars (drop offset self.now)) then offset - 1 else offset) }
     {
         let (line, rest) = nearest_before(self.text(), self.starts.as_slice(), offset);
         let before = self.text().len() - rest.len();
