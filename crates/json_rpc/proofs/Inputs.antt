@@ -1,7 +1,7 @@
 -- One frame more of the whole input, and its end.
-use Rattle.std.proofs.Common.{◌≡◌, ◌≢◌, ℕ, ◌+◌, ◌-◌, ◌<◌, ◌≤◌, ◌^◌, ap, sym, ◌∙◌, drop, take, arith, List, [], ◌∷◌, refl, ◌++◌, length, subst, zero, suc, Option, Some, None, append-nil, append_assoc}
-use Rattle.std.proofs.lemmas.List.{length-append, take-append-le, take_all}
-use Rattle.json_rpc.specs.Streams.{Next, partial, whole, wrong, next_of, Progress, Gives, Ends, Fails, FailsAt, budget}
+use Rattle.std.proofs.Common.{◌≡◌, ℕ, ◌+◌, ◌-◌, ◌≤◌, ap, sym, ◌∙◌, take, arith, List, [], ◌∷◌, refl, ◌++◌, length, subst, zero, suc, Option, Some, None, append-nil, append_assoc}
+use Rattle.std.proofs.lemmas.List.{length-append}
+use Rattle.json_rpc.specs.Streams.{whole, wrong, next_of, Progress, Gives, Ends, Fails, FailsAt, budget}
 use Rattle.json_rpc.specs.Whole.{EndsBy, AreFirst, AreFrames, AreFramesOf, BeginFramesOf, SaysOf, Reads, Follows}
 use Rattle.json_rpc.proofs.Tails.{next-more, next-wrong}
 use Rattle.json_rpc.specs.declared.fault.FrameFault.{FrameFault}
@@ -47,17 +47,18 @@ follows-more p q (Some input) (Some left) (Some rest) bodies body f b g =
     let whole_is : next_of p.place (take (budget - p.place) (p.held ++ left)) ≡ whole body (take (budget - q.place) (q.held ++ rest)) =
     ap (next_of p.place) open_is ∙ next-more p.place front tail body q.held g.frame ∙ ap (whole body) (sym left_is) in
     let at : p.place + length (take (budget - p.place) (p.held ++ left)) - length (take (budget - q.place) (q.held ++ rest)) ≡ q.place =
-    ap (λ t. p.place + length t - length (take (budget - q.place) (q.held ++ rest))) open_is ∙ ap (λ t. p.place + length (front ++ tail) - length t) left_is ∙ place_is p q g.taken tail 0 g.place in
-    (λ more end are.
-      let P : ℕ → Type 0 = λ n. AreFrames n (take (budget - q.place) (q.held ++ rest)) more end in
-      let all : AreFramesOf input (bodies ++ (body ∷ more)) end = f.0 (body ∷ more) end (take (budget - q.place) (q.held ++ rest), whole_is, subst P (sym at) are) in
-      let Q : List (List ℕ) → Type 0 = λ t. AreFramesOf input t end in
-      subst Q (sym (append_assoc bodies (body ∷ []) more)) all,
-    λ more are.
-      let P : ℕ → Type 0 = λ n. AreFirst n (take (budget - q.place) (q.held ++ rest)) more in
-      let all : BeginFramesOf input (bodies ++ (body ∷ more)) = f.1 (body ∷ more) (take (budget - q.place) (q.held ++ rest), whole_is, subst P (sym at) are) in
-      let Q : List (List ℕ) → Type 0 = λ t. BeginFramesOf input t in
-      subst Q (sym (append_assoc bodies (body ∷ []) more)) all)
+    ap (λ t. p.place + length t - length (take (budget - q.place) (q.held ++ rest))) open_is ∙ ap (λ t. p.place + length (front ++ tail) - length t) left_is ∙ place_is p q g.taken tail 0 g.place in (
+      λ more end are.
+          let P : ℕ → Type 0 = λ n. AreFrames n (take (budget - q.place) (q.held ++ rest)) more end in
+          let all : AreFramesOf input (bodies ++ (body ∷ more)) end = f.0 (body ∷ more) end (take (budget - q.place) (q.held ++ rest), whole_is, subst P (sym at) are) in
+          let Q : List (List ℕ) → Type 0 = λ t. AreFramesOf input t end in
+          subst Q (sym (append_assoc bodies (body ∷ []) more)) all,
+      λ more are.
+          let P : ℕ → Type 0 = λ n. AreFirst n (take (budget - q.place) (q.held ++ rest)) more in
+          let all : BeginFramesOf input (bodies ++ (body ∷ more)) = f.1 (body ∷ more) (take (budget - q.place) (q.held ++ rest), whole_is, subst P (sym at) are) in
+          let Q : List (List ℕ) → Type 0 = λ t. BeginFramesOf input t in
+          subst Q (sym (append_assoc bodies (body ∷ []) more)) all,
+    )
 
 nothing_more : (p : Progress) (input left : List ℕ) (bodies : List (List ℕ)) (end : Option FrameFault) → Follows p (Some input) (Some left) bodies → EndsBy p.place (take (budget - p.place) (p.held ++ left)) end → AreFramesOf input bodies end
 nothing_more p input left bodies end f e =

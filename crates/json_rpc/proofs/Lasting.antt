@@ -1,5 +1,5 @@
 -- A fault that lasts is no read fault.
-use Rattle.std.proofs.Common.{◌≡◌, Option, Some, None, subst}
+use Rattle.std.proofs.Common.{◌≡◌, Some, subst}
 use Rattle.json_rpc.specs.Streams.{IsLasting}
 use Rattle.json_rpc.specs.declared.fault.FrameFault.{FrameFault}
 use Rattle.json_rpc.specs.declared.fault.FrameFault.TheVariants.{ReadFault}

@@ -1,6 +1,10 @@
 mod Bodies
 pub mod Inputs
 mod Lasting
+pub mod Lines
+pub mod Parsed
+pub mod Parts
 mod Pieces
 mod Scans
 pub mod Tails
+pub mod Wholes

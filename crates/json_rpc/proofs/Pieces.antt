@@ -1,8 +1,8 @@
 -- Bytes that are written in two parts.
-use Rattle.std.proofs.Common.{◌≡◌, ℕ, suc, zero, ◌+◌, ◌-◌, ◌^◌, ◌≤◌, ◌<◌, min, List, [], ◌∷◌, ◌++◌, take, drop, length, get_or, Option, Some, None, sym, ap, ◌∙◌, append_assoc, append-nil, arith, refl, subst, flat_map, decimal, codes, nat_lt, true, false, cond, ◌/◌, ◌%◌}
+use Rattle.std.proofs.Common.{◌≡◌, ℕ, ◌+◌, ◌≤◌, ◌<◌, List, [], ◌∷◌, ◌++◌, take, drop, length, get_or, Option, Some, None, sym, ap, ◌∙◌, append_assoc, append-nil, arith, refl, subst, codes, nat_lt, true, false, ◌/◌, ◌%◌}
 use Rattle.std.proofs.lemmas.List.{length-append, take-append-le, take_more, take_all, drop_more, drop_all, take-append-drop}
 use Rattle.std.proofs.Math.Seq.{take-append-add}
-use Rattle.std.specs.Prelude.{Result, Ok, Err, OnErr}
+use Rattle.std.specs.Prelude.{Result, Ok, Err}
 use Rattle.std.specs.Io.KnownBytes.{Appends}
 use Rattle.outside.specs.Causes.{HasCause, Rose}
 use Rattle.outside.specs.Gathered.{WroteFront}

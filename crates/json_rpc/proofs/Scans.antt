@@ -1,14 +1,9 @@
 -- A header part, byte by byte, and what follows it.
-use Rattle.std.proofs.Common.{◌≡◌, ◌≢◌, ℕ, suc, zero, ◌+◌, ◌<◌, ◌≤◌, ap, sym, ◌∙◌, get_or, drop, arith, List, [], ◌∷◌, refl, Bool, true, false, ◌++◌, length, nat_le, if◌then◌else◌, subst}
+use Rattle.std.proofs.Common.{◌≡◌, ℕ, ◌+◌, ◌<◌, ◌≤◌, get_or, drop, arith, List, refl, true, false, length, nat_le}
 use Rattle.std.proofs.lemmas.List.{drop_more, drop_all}
-use Rattle.json_rpc.specs.Heads.{start, step, after, line_after, scan_from, IsWithin}
-use Rattle.json_rpc.specs.declared.header.Mode.{Mode}
-use Rattle.json_rpc.specs.declared.header.Mode.TheVariants.{Line, Name, Value, Blank, Digits, Tail, LineEnd, LastEnd}
+use Rattle.json_rpc.specs.Heads.{step, after, line_after, scan_from}
 use Rattle.json_rpc.specs.declared.header.Head.{Head}
-use Rattle.json_rpc.specs.declared.header.Step.{Step}
-use Rattle.json_rpc.specs.declared.header.Step.TheVariants.{On, Done, Stop, Twice}
-use Rattle.json_rpc.specs.declared.header.Reading.{Reading}
-use Rattle.json_rpc.specs.declared.header.Reading.TheVariants.{More, Whole, Bad}
+use Rattle.json_rpc.specs.declared.header.Reading.TheVariants.{More, Bad}
 
 pub scan-end : (n line : ℕ) (h : Head) (bs : List ℕ) (i : ℕ) → length bs ≤ i → scan_from n line h (drop i bs) ≡ More
 unfolding scan_from

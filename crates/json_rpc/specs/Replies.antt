@@ -1,5 +1,5 @@
 -- What is written: frames, and the reply for which there was no memory.
-use Rattle.std.specs.Prelude.{ℕ, ℤ, negsuc, List, [], ◌∷◌, ◌++◌, ◌+◌, length, codes, decimal}
+use Rattle.std.specs.Prelude.{ℕ, List, ◌++◌, length, codes, decimal}
 use Rattle.std.specs.Fmt.{signed_decimal}
 use Rattle.json.specs.Print.{quoted}
 use Rattle.json_rpc.specs.declared.message.Id.{Id}

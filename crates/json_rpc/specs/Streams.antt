@@ -1,5 +1,5 @@
 -- A stream of frames: what stands at its front, and what a reader has taken and met.
-use Rattle.std.specs.Prelude.{◌≡◌, ◌≢◌, ℕ, ◌+◌, ◌^◌, ◌<◌, ◌≤◌, Bool, true, false, List, [], ◌∷◌, ◌++◌, length, take, drop, if◌then◌else◌, nat_le, Option, Some, None, IsTrue, IsFalse}
+use Rattle.std.specs.Prelude.{◌≡◌, ◌≢◌, ℕ, ◌+◌, ◌^◌, ◌<◌, Bool, List, [], ◌++◌, length, take, drop, if◌then◌else◌, nat_le, Option, Some, None, IsTrue, IsFalse}
 use Rattle.std.specs.Io.KnownBytes.{Consumes, Keeps, IsAtEnd}
 use Rattle.json_rpc.specs.Heads.{start, scan_from}
 use Rattle.json_rpc.specs.declared.fault.FrameFault.{FrameFault}

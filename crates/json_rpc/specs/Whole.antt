@@ -1,7 +1,7 @@
 -- A whole input: its frames, and how they end.
-use Rattle.std.specs.Prelude.{◌≡◌, ◌≢◌, ℕ, ◌+◌, ◌-◌, ◌<◌, ◌≤◌, List, [], ◌∷◌, ◌++◌, map, length, take, Option, Some, None}
+use Rattle.std.specs.Prelude.{◌≡◌, ◌≢◌, ℕ, ◌+◌, ◌-◌, ◌<◌, List, [], ◌∷◌, ◌++◌, map, length, take, Option, Some, None}
 use Rattle.std.specs.declared.vec.Vec.{Vec}
-use Rattle.json_rpc.specs.Streams.{Next, partial, whole, wrong, next_of, Progress, budget}
+use Rattle.json_rpc.specs.Streams.{partial, whole, wrong, next_of, Progress, budget}
 use Rattle.json_rpc.specs.declared.fault.FrameFault.{FrameFault}
 use Rattle.json_rpc.specs.declared.fault.FrameFault.TheVariants.{Header, NoLength, TooLong, Cut, ReadFault, Budget, OutOfMemory}
 

@@ -6,6 +6,7 @@
 mod fault;
 mod frames;
 mod header;
+mod laws;
 mod message;
 mod read;
 mod whole;
@@ -13,6 +14,7 @@ mod write;
 
 pub use fault::FrameFault;
 pub use frames::Frames;
+pub use laws::frame_laws;
 pub use message::{Id, Message, Refused, RpcFault, RpcRefusal};
 pub use read::read_message;
 pub use whole::read_frames;

@@ -1,5 +1,4 @@
-use Rattle.std.proofs.Common.{List, ℕ, Option, arith}
-use Rattle.json_rpc.specs.Whole.{Follows}
+use Rattle.std.proofs.Common.{arith}
 use Rattle.json_rpc.proofs.Inputs.{follows-more, follows-end}
 use Rattle.json_rpc.proofs.whole.read_frames.Goals as goal
 
