@@ -98,10 +98,10 @@ before_front bytes d e = rw e refl
 
 pub entry_fault : {P : Type 0} (view : P → Head) (bytes : List ℕ) (r : Result P ClassFault) (f : Front) (rest : List ℕ) → IsBytes bytes → Gives view r (head_read (head_at (length bytes) bytes)) → IsFront f → bytes ≡ front f ++ rest → IfErr r (λ e. e.cause ≢ OutOfMemory → Stops (length bytes) false (f.count - 1) rest e)
 entry_fault view bytes (Ok p) f rest fits given is parts = tt
-entry_fault view bytes (Err d) f rest fits given is parts = λ no_want.
+entry_fault view bytes (Err d) f rest fits given is parts = λ some.
     let first : front_at (length bytes) bytes ≡ Ok (f, rest) = ap (front_at (length bytes)) parts ∙ front_again (length bytes) f rest is in
     let t = front_takes (length bytes) bytes f rest fits first in
-    stops (length bytes) false (f.count - 1) rest d (omega arith) t.0.rest_fits (after_front bytes f rest d first (read_err _ d (given no_want)))
+    stops (length bytes) false (f.count - 1) rest d (omega arith) t.0.rest_fits (after_front bytes f rest d first (read_err _ d (given (λ e. some (ap (λ (f : ClassFault). f.cause) e)))))
 
 pub header_fault : {P : Type 0} (view : P → Head) (bytes : List ℕ) (r : Result P ClassFault) (d : ClassFault) → front_at (length bytes) bytes ≡ failed {A = Front × List ℕ} d → Gives view r (head_read (head_at (length bytes) bytes)) → Gives view r (failed {A = Head} d)
 header_fault view bytes r d e given = subst (λ (x : Result Head ClassFault). Gives view r x) (ap head_read (before_front bytes d e)) given

@@ -11,10 +11,14 @@ abbrev pub ◌>>=◌ : {A B : Type 0} → Result A ClassFault → (A → Result 
 (Ok x) >>= f = f x
 (Err e) >>= f = Err e
 
+-- Memory ran out: the place is 0, and says nothing about the bytes.
+abbrev pub no_memory : ClassFault
+no_memory = record { at = 0; cause = OutOfMemory }
+
 -- What a function returned, seen by `view`, is what reading gives, unless memory ran out.
 abbrev pub Gives : {X Y : Type 0} → (X → Y) → Result X ClassFault → Result Y ClassFault → Type 0
 Gives view (Ok x) read = read ≡ Ok (view x)
-Gives view (Err e) read = e.cause ≢ OutOfMemory → read ≡ Err e
+Gives view (Err e) read = e ≢ no_memory → read ≡ Err e
 
 -- The file ends within a part: the place is its length.
 abbrev pub cut : ℕ → ClassFault

@@ -3,3 +3,4 @@ mod SeenCodec
 mod FileLaws
 mod MeaningLaws
 mod ShapeLaws
+mod CauseLaws

@@ -143,7 +143,7 @@ is_only bytes r s c given = subst (λ (x : Result ClassShape ClassFault). Gives 
 
 pub is_first : (bytes : List ℕ) (r : Result ClassShape ClassFault) → Gives (λ x. x) r (shape_read bytes) → IfErr r (λ fault. fault.cause ≢ OutOfMemory → first_violation bytes ≡ Some fault)
 is_first bytes (Ok s) given = tt
-is_first bytes (Err d) given = λ no_want. ap fault_in (given no_want)
+is_first bytes (Err d) given = λ some. ap fault_in (given (λ e. some (ap (λ (f : ClassFault). f.cause) e)))
 
 fault_is : (r : Result ClassShape ClassFault) (d : ClassFault) → fault_in r ≡ Some d → r ≡ Err d
 fault_is (Ok s) d e = absurd cc
