@@ -5,4 +5,5 @@ pub mod Heads
 pub mod IndexLaws
 pub mod FaultLaws
 pub mod CauseLaws
+pub mod FrontLaws
 pub mod UnitLaws

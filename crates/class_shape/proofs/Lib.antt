@@ -4,3 +4,4 @@ mod FileLaws
 mod MeaningLaws
 mod ShapeLaws
 mod CauseLaws
+mod LayoutLaws
