@@ -27,7 +27,7 @@ position-stop l u [] = refl
 position-stop l u (c ∷ cs) = refl
 
 -- What a character says of a line end: one that ends a line is no CR before an LF, and one that ends none is on the line or such a CR.
-ends-no_split : (c : ℕ) (cs : List ℕ) → ends_line c cs ≡ true → (c == 13 && starts_with_lf cs) ≡ false
+pub ends-no_split : (c : ℕ) (cs : List ℕ) → ends_line c cs ≡ true → (c == 13 && starts_with_lf cs) ≡ false
 unfolding ends_line
 ends-no_split c cs e = grind arith
 
@@ -35,7 +35,7 @@ plain-no_split : (c : ℕ) (cs : List ℕ) → is_newline c ≡ false → (c == 
 unfolding is_newline
 plain-no_split c cs e = grind arith
 
-plain-no_end : (c : ℕ) (cs : List ℕ) → is_newline c ≡ false → ends_line c cs ≡ false
+pub plain-no_end : (c : ℕ) (cs : List ℕ) → is_newline c ≡ false → ends_line c cs ≡ false
 unfolding is_newline ends_line
 plain-no_end c cs e = grind arith
 
@@ -43,7 +43,7 @@ split-cr : (c : ℕ) (cs : List ℕ) → is_newline c ≡ true → ends_line c c
 unfolding is_newline ends_line
 split-cr c cs e f = grind arith
 
-and-right : (a b : Bool) → (a && b) ≡ true → b ≡ true
+pub and-right : (a b : Bool) → (a && b) ≡ true → b ≡ true
 and-right true b e = e
 and-right false b e = absurd cc
 
@@ -98,15 +98,15 @@ pick : (e : Bool) (p q : ℕ × ℕ) (P : ℕ × ℕ → Type 0) → (e ≡ true
 pick true p q P f g = f refl
 pick false p q P f g = g refl
 
-line-end : (c j : ℕ) (cs : List ℕ) → ends_line c cs ≡ true → from_line (suc j) (c ∷ cs) ≡ from_line j cs
+pub line-end : (c j : ℕ) (cs : List ℕ) → ends_line c cs ≡ true → from_line (suc j) (c ∷ cs) ≡ from_line j cs
 unfolding from_line
 line-end c j cs e = rw e refl
 
-line-go : (c j : ℕ) (cs : List ℕ) → ends_line c cs ≡ false → from_line (suc j) (c ∷ cs) ≡ from_line (suc j) cs
+pub line-go : (c j : ℕ) (cs : List ℕ) → ends_line c cs ≡ false → from_line (suc j) (c ∷ cs) ≡ from_line (suc j) cs
 unfolding from_line
 line-go c j cs e = rw e refl
 
-line-zero : (cs : List ℕ) → from_line zero cs ≡ Some cs
+pub line-zero : (cs : List ℕ) → from_line zero cs ≡ Some cs
 unfolding from_line
 line-zero cs = refl
 

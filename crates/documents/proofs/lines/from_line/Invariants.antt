@@ -1,9 +1,9 @@
-use Rattle.std.proofs.Common.{◌≡◌, length}
+use Rattle.std.proofs.Common.{◌≡◌}
 use denote.Shadow.{shadow}
 use denote.Text.{Utf8}
 use Rattle.std.specs.Str.{chars}
 use Rattle.documents.specs.Places.{from_line, IsRest}
-use Rattle.documents.proofs.text.from_line.Given as goal
+use Rattle.documents.proofs.lines.from_line.Given as goal
 
 abbrev pub invariant-loop-lines : goal.invariant-loop-lines
 invariant-loop-lines l = record {
@@ -13,4 +13,4 @@ invariant-loop-lines l = record {
 }
 
 abbrev pub decreases-loop-lines : goal.decreases-loop-lines
-decreases-loop-lines l = length l.rest
+decreases-loop-lines l = l.lines
