@@ -8,10 +8,11 @@ use Rattle.std.proofs.lemmas.Str.Parse.{IsDigitsTest, numerals_by_value}
 use Rattle.std.proofs.Math.Seq.{take-append_seam, drop-append_seam, drop-append-add}
 use Rattle.std.specs.List.{list_all, flat_map}
 use Rattle.std.specs.Str.Parse.{digits_value}
-use Rattle.json_rpc.specs.Heads.{start, step, after, line_after, scan_from, is_digit, is_blank, at_line}
+use Rattle.json_rpc.specs.Heads.{start, step, line_after, scan_from, is_digit, is_blank, at_line}
 use Rattle.json_rpc.specs.Replies.{frame_of, head_of, length_mark}
 use Rattle.json_rpc.specs.Streams.{whole, by_length, by_reading, next_of}
 use Rattle.json_rpc.specs.Spelled.{HeaderLine, length_line, line_text, line_end, IsHeaderLine, TellsLength, IsHeaderPart, IsFrame, BeginsFrame}
+use Rattle.json_rpc.proofs.Scans.{scan-one}
 use Rattle.json_rpc.proofs.Lines.{known, onward, run, pick_true, pick_false, both, all-and, run-one, digit-bounds}
 use Rattle.json_rpc.specs.declared.header.Mode.TheVariants.{Line, LastEnd}
 use Rattle.json_rpc.specs.declared.header.Head.{Head}
@@ -20,12 +21,6 @@ use Rattle.json_rpc.specs.declared.header.Step.TheVariants.{On, Done, Stop, Twic
 use Rattle.json_rpc.specs.declared.header.Reading.TheVariants.{Whole, Bad}
 
 -- a reading goes on where all bytes may stand
-pub scan-one : (n line : ℕ) (h k : Head) (b : ℕ) (bs : List ℕ) → n < 8192 → step h b ≡ On k → scan_from n line h (b ∷ bs) ≡ scan_from (n + 1) (line_after n line k.mode) k bs
-unfolding scan_from
-scan-one n line h k b bs l q =
-    let f : nat_le 8192 n ≡ false = grind (arith, l) in
-    pick_false (nat_le 8192 n) (Bad n) _ f ∙ ap (λ s. after n line h s (λ g. scan_from (n + 1) (line_after n line g.mode) g bs)) q
-
 scan-on : (n line : ℕ) (h g : Head) (b : ℕ) (xs ys : List ℕ) (s : Step) → step h b ≡ s → onward s (λ k. run k xs) ≡ Some g → n + length (b ∷ xs) ≤ 8192 → ((k : Head) → run k xs ≡ Some g → (e : ℕ) × (scan_from (n + 1) (line_after n line k.mode) k (xs ++ ys) ≡ scan_from (n + 1 + length xs) e g ys)) → (e : ℕ) × (scan_from n line h (b ∷ (xs ++ ys)) ≡ scan_from (n + length (b ∷ xs)) e g ys)
 scan-on n line h g b xs ys (On k) q e l more =
     let r = more k e in

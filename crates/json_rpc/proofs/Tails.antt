@@ -41,7 +41,7 @@ scan-within n line h (x ∷ bs) m b l =
     choose m (nat_le 8192 n) (Bad n) (after n line h (step h x) (λ g. scan_from (n + 1) (line_after n line g.mode) g bs)) (omega (arith, l)) (after-within n line m h (step h x) (λ g. scan_from (n + 1) (line_after n line g.mode) g bs) (omega (arith, shorter)) b (λ g. scan-within (n + 1) (line_after n line g.mode) g bs m (line-le n line g.mode b) shorter))
 
 -- a reading that is settled stays
-abbrev Settles : Reading → Reading → Type 0
+abbrev pub Settles : Reading → Reading → Type 0
 Settles More s = Unit {0}
 Settles (Whole n h) s = s ≡ Whole n h
 Settles (Bad n) s = s ≡ Bad n

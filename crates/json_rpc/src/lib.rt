@@ -6,6 +6,7 @@
 mod fault;
 mod frames;
 mod header;
+mod held;
 mod laws;
 mod message;
 mod read;
