@@ -36,7 +36,7 @@ impl Document {
     /// A document with this text, of at most 16 MiB. It takes no memory of its own.
     pub fn from_text(alloc: Global, text: String) -> Document
         requires at_most_16_mib { length (string_bytes text) ≤ 16777216 }
-        ensures { result ≡ string_bytes text }
+        ensures text { result ≡ string_bytes text }
     {
         Document {
             text,
@@ -185,7 +185,7 @@ impl Document {
     /// Makes a change, or none where it is refused.
     #[tactic(auto, using(crate::proofs::Edits::edits))]
     pub fn apply(&mut self, change: &TextChange) -> Result<(), EditFault>
-        ensures { MatchResult result
+        ensures change { MatchResult result
             (λ _. document_after (edited self.old) (change.now ∷ []) ≡ edited self.new)
             (λ e. Refuses (document_after (edited self.old) (change.now ∷ [])) e × (self.new ≡ self.old)) }
     {
