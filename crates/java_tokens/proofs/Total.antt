@@ -57,7 +57,7 @@ pub only_tokens : (text : List ℕ) (ts : List Token) → AreTokens 0 (chars tex
 only_tokens text ts p others q = same_tokens 0 (chars text) others ts q p
 
 -- places of whole characters
-split : (n : ℕ) (cs : List ℕ) → take n cs ++ drop n cs ≡ cs
+pub split : (n : ℕ) (cs : List ℕ) → take n cs ++ drop n cs ≡ cs
 split zero cs = refl
 split (suc n) [] = refl
 split (suc n) (c ∷ cs) = ap (λ r. c ∷ r) (split n cs)
@@ -66,7 +66,7 @@ and_right : (a b : Bool) → (a && b) ≡ true → b ≡ true
 and_right true b e = e
 and_right false b e = absurd cc
 
-scalars_drop : (n : ℕ) (cs : List ℕ) → scalars cs ≡ true → scalars (drop n cs) ≡ true
+pub scalars_drop : (n : ℕ) (cs : List ℕ) → scalars cs ≡ true → scalars (drop n cs) ≡ true
 scalars_drop zero cs e = e
 scalars_drop (suc n) [] e = refl
 scalars_drop (suc n) (c ∷ cs) e = scalars_drop n cs (and_right (scalar c) (scalars cs) e)

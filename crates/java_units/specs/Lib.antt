@@ -8,3 +8,4 @@ pub mod Units
 pub mod Blocks
 pub mod UnitLaws
 pub mod Dimensions
+pub mod SameSigns
