@@ -13,4 +13,3 @@ pub mod Searches
 pub mod Sources
 pub mod Steps
 pub mod Tables
-pub mod Totals
