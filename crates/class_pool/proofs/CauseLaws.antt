@@ -1,13 +1,13 @@
 -- Which causes the faults of a header and a pool have, and the place of want of memory.
-use Rattle.std.proofs.Common.{◌≡◌, ◌≢◌, ℕ, zero, suc, ◌-◌, ◌<◌, ◌&&◌, Bool, true, false, cond, eqb, leb, ltb, List, [], ◌∷◌, length, take, drop, Option, Some, None, Result, Ok, Err, refl, sym, ap, subst, ◌∙◌, arith}
-use Rattle.std.specs.Prelude.{IfErr, ⊤}
+use Rattle.std.proofs.Common.{◌≡◌, ◌≢◌, ℕ, zero, suc, ◌-◌, ◌&&◌, Bool, true, false, cond, eqb, leb, ltb, List, [], ◌∷◌, length, take, drop, Option, Some, None, Result, Ok, Err, refl, sym, ap, subst, ◌∙◌}
+use Rattle.std.specs.Prelude.{IfErr}
 use Rattle.std.proofs.lemmas.Bool.{eqb-true}
 use Rattle.byteorder.specs.Endian.{big_number}
 use Rattle.class_pool.specs.declared.fault.ClassFault.{ClassFault}
 use Rattle.class_pool.specs.declared.fault.ClassCause.{ClassCause}
-use Rattle.class_pool.specs.declared.fault.ClassCause.TheVariants.{Truncated, Magic, Version, Tag, OutOfMemory}
+use Rattle.class_pool.specs.declared.fault.ClassCause.TheVariants.{Magic, Version, OutOfMemory}
 use Rattle.class_pool.specs.Causes.{IsPoolCause}
-use Rattle.class_pool.specs.Spelling.{Entry, tag_size, is_wide, takes_two, Front, Head, magic}
+use Rattle.class_pool.specs.Spelling.{tag_size, is_wide, takes_two, Head, magic}
 use Rattle.class_pool.specs.Reading.{◌>>=◌, Gives, no_memory, cut, bad_tag, need, number_at, block_at, text_at, fixed_at, entry_at, entries_at, front_at, head_at, head_read}
 
 -- ---- the faults of a reading, by its steps

@@ -1,13 +1,10 @@
 -- Where a pool can't be read, good entries stand up to there, and no entry stands there.
-use Rattle.std.proofs.Common.{◌≡◌, ◌≢◌, ℕ, zero, suc, ◌+◌, ◌-◌, ◌<◌, ◌≤◌, ◌&&◌, Bool, true, false, cond, eqb, ltb, List, [], ◌∷◌, ◌++◌, length, take, drop, Option, Some, None, Result, Ok, Err, refl, sym, ap, subst, ◌∙◌, append_assoc, arith, inl, inr, ◌⊎◌}
-use Rattle.std.specs.List.{flat_map, AllByRecursion}
+use Rattle.std.proofs.Common.{◌≡◌, ◌≢◌, ℕ, zero, suc, ◌+◌, ◌-◌, ◌≤◌, Bool, true, false, List, [], ◌∷◌, ◌++◌, length, Result, Ok, Err, refl, sym, ap, subst, ◌∙◌, append_assoc, arith, inl, inr, ◌⊎◌}
 use Rattle.std.proofs.lemmas.List.Concat.{flat_map-cons}
-use Rattle.byteorder.specs.Endian.{big_number}
 use Rattle.class_pool.specs.declared.fault.ClassFault.{ClassFault}
-use Rattle.class_pool.specs.Spelling.{Entry, utf8, tag_size, is_wide, takes_two, width, entry, entries, IsEntry, places, Front, front, IsFront, Head}
+use Rattle.class_pool.specs.Spelling.{Entry, takes_two, width, entry, entries, places, Front, front, IsFront, Head}
 use Rattle.class_pool.specs.Faults.{Room, gap, Stops}
-use Rattle.class_pool.specs.Reading.{IsBytes, ◌>>=◌, number_at, block_at, text_at, fixed_at, entry_at, entries_at, cut, bad_tag, Gives, front_at, head_at, head_read}
-use Rattle.class_pool.proofs.Codec.{Takes}
+use Rattle.class_pool.specs.Reading.{IsBytes, ◌>>=◌, entry_at, entries_at, Gives, front_at, head_at, head_read}
 use Rattle.class_pool.proofs.Heads.{front_takes, front_again}
 use Rattle.class_pool.specs.declared.fault.ClassCause.TheVariants.{OutOfMemory}
 use Rattle.std.specs.Prelude.{IfErr}

@@ -1,11 +1,11 @@
 -- A front of what a part spells, which isn't the whole of it, ends within the part.
-use Rattle.std.proofs.Common.{◌≡◌, ℕ, zero, suc, ◌+◌, ◌-◌, ◌<◌, ◌≤◌, ◌^◌, Bool, true, false, leb, ltb, List, [], ◌∷◌, ◌++◌, length, drop, get_or, Result, Ok, Err, refl, sym, ap, ◌∙◌, arith, rules, inl, inr, ◌⊎◌}
+use Rattle.std.proofs.Common.{◌≡◌, ℕ, zero, suc, ◌-◌, ◌<◌, ◌^◌, Bool, true, false, leb, ltb, List, [], ◌∷◌, ◌++◌, length, drop, get_or, Result, Ok, Err, refl, sym, ap, ◌∙◌, arith, rules, inl, inr, ◌⊎◌}
 use Rattle.std.proofs.lemmas.Bool.{lt-ltb}
 use Rattle.std.proofs.lemmas.List.{length-append}
 use Rattle.std.proofs.lemmas.List.Concat.{flat_map-cons}
 use Rattle.byteorder.specs.Endian.{big_bytes}
 use Rattle.class_pool.specs.declared.fault.ClassFault.{ClassFault}
-use Rattle.class_pool.specs.Spelling.{Entry, utf8, fixed, takes_two, entry, entries, places, magic, Front, front, IsFront, Head, head, IsHead}
+use Rattle.class_pool.specs.Spelling.{Entry, utf8, fixed, takes_two, entry, entries, places, magic, front, IsFront, head, IsHead}
 use Rattle.class_pool.specs.Faults.{Room}
 use Rattle.class_pool.specs.Reading.{◌>>=◌, cut, number_at, block_at, text_at, fixed_at, entry_at, entries_at, front_at, head_at}
 use Rattle.class_pool.proofs.Codec.{Codec, IsWide, wide_2, wide_4, number_2, number_4}

@@ -1,16 +1,16 @@
 -- Which causes the violations of each pass have, and the place of want of memory.
-use Rattle.std.proofs.Common.{◌≡◌, ◌≢◌, ℕ, zero, suc, ◌+◌, ◌-◌, Bool, true, false, cond, eqb, List, [], ◌∷◌, length, Option, Some, None, Result, Ok, Err, refl, sym, ap, subst, ◌∙◌}
-use Rattle.std.specs.Prelude.{IfErr, ⊤}
+use Rattle.std.proofs.Common.{◌≡◌, ◌≢◌, ℕ, zero, suc, ◌+◌, ◌-◌, true, eqb, List, [], ◌∷◌, length, Option, Some, None, Result, Ok, Err, subst}
+use Rattle.std.specs.Prelude.{IfErr}
 use Rattle.std.specs.Str.{bytes_eq}
 use Rattle.class_pool.specs.declared.fault.ClassFault.{ClassFault}
 use Rattle.class_pool.specs.declared.fault.ClassCause.{ClassCause}
-use Rattle.class_pool.specs.declared.fault.ClassCause.TheVariants.{Truncated, Magic, Version, Tag, Place, Extra, Descriptor, Name, Attribute, OutOfMemory}
+use Rattle.class_pool.specs.declared.fault.ClassCause.TheVariants.{Extra, Descriptor, Name, OutOfMemory}
 use Rattle.class_pool.specs.Causes.{IsPoolCause}
 use Rattle.class_pool.specs.Spelling.{Entry, Head}
-use Rattle.class_pool.specs.Reading.{◌>>=◌, Gives, cut, need, number_at, block_at, head_at}
+use Rattle.class_pool.specs.Reading.{Gives, need, number_at, block_at, head_at}
 use Rattle.class_pool.specs.Index.{slot, start_in, class_index, text_in}
 use Rattle.class_pool.specs.Units.{text_of}
-use Rattle.class_pool.proofs.CauseLaws.{bind_causes, test_causes, need_causes, number_causes, block_causes, OfPool, head_causes, no_place}
+use Rattle.class_pool.proofs.CauseLaws.{bind_causes, test_causes, need_causes, number_causes, block_causes, head_causes, pool_wants_none, no_place}
 use Rattle.type_names.specs.Names.{is_internal}
 use Rattle.class_shape.specs.declared.shapes.ClassShape.{ClassShape}
 use Rattle.class_shape.specs.declared.shapes.MemberKind.{MemberKind}
@@ -181,9 +181,6 @@ layout_wants_none cause is want = subst IsLayoutCause want is
 
 meaning_wants_none : (cause : ClassCause) → IsMeaningCause cause → cause ≢ OutOfMemory
 meaning_wants_none cause is want = subst IsMeaningCause want is
-
-pool_wants_none : (cause : ClassCause) → IsPoolCause cause → cause ≢ OutOfMemory
-pool_wants_none cause is want = subst IsPoolCause want is
 
 abbrev NoWant : ClassFault → Type 0
 NoWant d = d.cause ≢ OutOfMemory

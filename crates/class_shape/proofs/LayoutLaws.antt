@@ -1,7 +1,7 @@
 -- The layout of a class file and its first violation: what is cut off, what goes on after its end, and what has no
 -- other violation than those of the second pass.
-use Rattle.std.proofs.Common.{◌≡◌, ℕ, zero, suc, ◌+◌, ◌-◌, ◌<◌, ◌^◌, true, false, eqb, List, [], ◌∷◌, ◌++◌, length, Option, Some, None, Result, Ok, Err, refl, sym, ap, subst, ◌∙◌, append_assoc, arith, inl, inr, ◌⊎◌}
-use Rattle.std.specs.Prelude.{IfErr, ◌↔◌}
+use Rattle.std.proofs.Common.{◌≡◌, ℕ, ◌-◌, false, eqb, List, [], ◌∷◌, ◌++◌, length, Option, Some, Result, Ok, Err, refl, sym, ap, subst, ◌∙◌, append_assoc, arith, inl, inr}
+use Rattle.std.specs.Prelude.{IfErr}
 use Rattle.std.specs.List.{flat_map, AllByRecursion}
 use Rattle.std.proofs.lemmas.Bool.{eqb-true}
 use Rattle.std.proofs.lemmas.List.{length-append}
@@ -11,21 +11,21 @@ use Rattle.class_pool.specs.declared.fault.ClassFault.{ClassFault}
 use Rattle.class_pool.specs.declared.fault.ClassCause.{ClassCause}
 use Rattle.class_pool.specs.declared.fault.ClassCause.TheVariants.{Truncated, Magic, Version, Tag, Place, Extra, Descriptor, Name, Attribute as AttributeCause, OutOfMemory}
 use Rattle.class_pool.specs.Causes.{IsPoolCause}
-use Rattle.class_pool.specs.Spelling.{Head, head, IsHead}
-use Rattle.class_pool.specs.Reading.{IsBytes, ◌>>=◌, cut, number_at, head_at}
-use Rattle.class_pool.proofs.Codec.{number_2, number_4, step}
+use Rattle.class_pool.specs.Spelling.{Head, head}
+use Rattle.class_pool.specs.Reading.{IsBytes, ◌>>=◌, cut, head_at}
+use Rattle.class_pool.proofs.Codec.{number_2, number_4}
 use Rattle.class_pool.proofs.Entries.{decided}
 use Rattle.class_pool.proofs.Heads.{head_codec, head_takes}
 use Rattle.class_pool.proofs.CauseLaws.{head_causes}
 use Rattle.class_pool.proofs.FrontLaws.{split, no_front, Cuts, cut_then, cuts_2, cuts_4, block_cuts, head_cuts}
 use Rattle.class_shape.specs.declared.shapes.ClassShape.{ClassShape}
-use Rattle.class_shape.specs.Parts.{Attribute, attribute, IsAttribute, Member, member, IsMember, Own, own, IsOwn, Lists, lists, AreLists, Body, body, IsBody, IsFile, IsShort, counted, Counted}
+use Rattle.class_shape.specs.Parts.{attribute, IsAttribute, member, IsMember, own, IsOwn, lists, AreLists, Body, body, IsBody, IsFile, IsShort, counted, Counted}
 use Rattle.class_shape.specs.Reading.{many_at, counted_at, index_at, attribute_at, member_at, own_at, lists_at, BodySeen, body_at}
 use Rattle.class_shape.specs.Meaning.{shape_of}
 use Rattle.class_shape.specs.Violations.{shape_read, fault_in, first_violation, IsLayoutCause, IsMeaningCause}
 use Rattle.class_shape.specs.Layout.{FrontsAreTruncated, LongerIsExtra, HasLayout, MeaningNeedsLayout}
 use Rattle.class_shape.proofs.SeenCodec.{SeenCodec}
-use Rattle.class_shape.proofs.FileLaws.{index_codec, indices_codec, attribute_codec, attributes_codec, member_codec, members_codec, own_codec, lists_codec, body_takes, body_again}
+use Rattle.class_shape.proofs.FileLaws.{index_codec, indices_codec, attribute_codec, member_codec, members_codec, own_codec, lists_codec, body_takes, body_again}
 use Rattle.class_shape.proofs.CauseLaws.{body_causes, shape_causes}
 
 -- ---- fronts

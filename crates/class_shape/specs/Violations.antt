@@ -1,5 +1,5 @@
 -- The first violation of a class file.
-use Rattle.std.specs.Prelude.{◌≡◌, ℕ, List, length, Option, Some, None, Result, Ok, Err, ⊤}
+use Rattle.std.specs.Prelude.{ℕ, List, length, Option, Some, None, Result, Ok, Err, ⊤}
 use Rattle.class_pool.specs.declared.fault.ClassFault.{ClassFault}
 use Rattle.class_pool.specs.declared.fault.ClassCause.{ClassCause}
 use Rattle.class_pool.specs.declared.fault.ClassCause.TheVariants.{Truncated, Magic, Version, Tag, Place, Extra, Descriptor, Name, Attribute, OutOfMemory}

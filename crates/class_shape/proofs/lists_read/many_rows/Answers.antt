@@ -1,4 +1,4 @@
-use Rattle.std.proofs.Common.{arith, ◌≡◌, subst, sym}
+use Rattle.std.proofs.Common.{arith}
 use Rattle.std.proofs.lemmas.Result.{err_from_is_err_and}
 use Rattle.class_shape.specs.Reading.{row_at}
 use Rattle.class_shape.proofs.Loops.{one_more, one_ends, all_done}
