@@ -1,5 +1,5 @@
 -- A history has one state, and refuses a change for one fault at most.
-use Rattle.std.proofs.Common.{◌≡◌, ℕ, ◌<◌, ◌≤◌, Bool, true, false, cond, List, [], ◌∷◌, ◌++◌, map, length, Option, Some, None, Ordering, Less, Equal, Greater, refl, sym, ap, subst, ◌∙◌, arith, inl, inr, ◌⊎◌}
+use Rattle.std.proofs.Common.{◌≡◌, ℕ, Bool, true, false, cond, List, [], ◌∷◌, ◌++◌, map, length, Option, Some, None, Ordering, Less, Equal, Greater, refl, sym, ap, subst, ◌∙◌, arith, inl, inr}
 use Rattle.std.specs.Prelude.{bytes_eq, option_map, unwrap_or}
 use Rattle.std.specs.List.{flat_map}
 use Rattle.class_summary.specs.declared.summary.ClassSummary.{ClassSummary}
@@ -8,9 +8,9 @@ use Rattle.decl_index.specs.declared.change.Change.{Change}
 use Rattle.decl_index.specs.declared.change.Change.TheVariants.{Publish, Withdraw}
 use Rattle.decl_index.specs.declared.change.ChangeFault.{ChangeFault}
 use Rattle.decl_index.specs.declared.change.ChangeFault.TheVariants.{Cyclic, Full, TooHigh, JournalFull, NestCycle, OutOfMemory}
-use Rattle.decl_index.specs.History.{Name, order, Rises, State, IsState, AreClasses, AreCounts, Edit, remove, put, decided, edits_of, counted, counts_of, count_at, CountsRise, use_of, use_in, class_in}
+use Rattle.decl_index.specs.History.{Name, order, Rises, State, AreClasses, AreCounts, Edit, remove, put, decided, edits_of, counts_of, count_at, use_of}
 use Rattle.decl_index.specs.Places.{told_or, Leaves}
-use Rattle.decl_index.specs.Refusals.{supers_of, outers_of, object_name, IsLeastCircle, IsFaultOf, IsTooHigh, RefusesFor, Refuses, most_changes}
+use Rattle.decl_index.specs.Refusals.{supers_of, outers_of, object_name, IsLeastCircle, IsFaultOf, IsTooHigh, RefusesFor}
 use Rattle.decl_index.specs.Laws.{HasState, OneState, OneList, OneRefusal, UsesOfState}
 use Rattle.decl_index.proofs.Names.{exact, greater}
 use Rattle.decl_index.proofs.Sorted.{put_in, cut_out, put_rises, cut_rises}

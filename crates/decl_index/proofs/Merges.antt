@@ -1,16 +1,16 @@
 -- Sorted lists of classes merged, and classes of some names left out.
 use Rattle.std.proofs.Common.{◌≡◌, ℕ, zero, suc, ◌+◌, ◌<◌, ◌≤◌, Bool, true, false, cond, List, [], ◌∷◌, ◌++◌, length, map, get_or, take, drop, Option, Some, None, Ordering, Less, Equal, Greater, refl, sym, ap, subst, ◌∙◌, append_assoc, append-nil, arith}
-use Rattle.std.specs.Prelude.{bytes_eq, filter, not, String, string_bytes, string_cmp}
+use Rattle.std.specs.Prelude.{bytes_eq, not, String, string_bytes, string_cmp}
 use Rattle.std.specs.BTreeSet.{BTreeSet, contains_text, UpdatesBy}
 use Rattle.std.specs.Cmp.Lexicographic.{slice_cmp}
 use Rattle.std.specs.Ordering.{nat_cmp}
-use Rattle.std.proofs.lemmas.List.{take_more, take_all, drop_more, drop_all, map-append, take-append-drop, get_or_default}
+use Rattle.std.proofs.lemmas.List.{take_more, take_all, drop_more, drop_all, map-append, get_or_default}
 use Rattle.std.proofs.lemmas.List.Elements.{filter-append}
 use Rattle.std.proofs.lemmas.Cmp.{nat_list_eq_equiv}
 use Rattle.std.proofs.lemmas.Map.Text.{btree_set_updates_text}
 use Rattle.class_summary.specs.declared.summary.ClassSummary.{ClassSummary}
 use Rattle.class_summary.specs.Known.{class_named}
-use Rattle.decl_index.specs.History.{Name, order, Rises, Edit, remove, put, decided, or_else}
+use Rattle.decl_index.specs.History.{Name, order, Rises, remove, put, decided, or_else}
 use Rattle.decl_index.specs.Places.{told_or, Leaves}
 use Rattle.decl_index.specs.Merging.{is_among, others, front_order, IsMerge}
 use Rattle.decl_index.proofs.Names.{same, same-true, greater, exact}

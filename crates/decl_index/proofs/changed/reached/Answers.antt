@@ -4,7 +4,7 @@ use Rattle.std.proofs.lemmas.List.{length-map}
 use Rattle.class_summary.specs.Known.{class_named, IsPlaceOf}
 use Rattle.decl_index.specs.Changed.{Follows}
 use Rattle.decl_index.proofs.RowLemmas.{got_read}
-use Rattle.decl_index.proofs.Searches.{follow-first, follow-next, follow-skip, follow-all}
+use Rattle.decl_index.proofs.Searches.{follow-first, follow-next, follow-skip}
 use Rattle.decl_index.proofs.changed.reached.Goals as goal
 
 pub loop-next-init : goal.loop-next-init

@@ -1,4 +1,4 @@
-use Rattle.std.proofs.Common.{rules, ◌≡◌, ◌++◌, ◌∷◌, [], ◌<◌, length, true, false}
+use Rattle.std.proofs.Common.{rules, ◌≡◌, ◌++◌, ◌∷◌, [], true, false}
 use Rattle.std.specs.Arc.{arc_value}
 use Rattle.std.specs.BTreeSet.{contains_text}
 use Rattle.decl_index.proofs.Merges.{others-skip, others-keep, pushed}
