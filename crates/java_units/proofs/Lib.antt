@@ -16,3 +16,4 @@ mod PlainForms
 mod PlainPieces
 mod TextSigns
 mod OnlySigns
+mod BracketLaws

@@ -9,3 +9,4 @@ pub mod Blocks
 pub mod UnitLaws
 pub mod Dimensions
 pub mod SameSigns
+pub mod Brackets
