@@ -1,0 +1,6 @@
+mod Walks
+mod Numbers
+mod Indices
+mod Standing
+mod Texts
+mod Bodies

@@ -1,0 +1,9 @@
+use Rattle.std.proofs.Common.{◌≡◌, ◌≤◌, ◌==◌, take}
+use Rattle.std.specs.Prelude.{count_by}
+use Rattle.sheets.proofs.reading.line_feeds.Given as goal
+
+abbrev pub invariant-loop-byte : goal.invariant-loop-byte
+invariant-loop-byte l = record {
+  counted : l.count ≡ count_by (λ b. b == 10) (take l.byte-index l.bytes);
+  bound : l.count ≤ l.byte-index;
+}
