@@ -144,13 +144,13 @@ length-small l b i e f h =
     (omega (arith, p.0, p.1, v, small, top), small)
 
 -- parts of a line
-run-name : (k d l : ℕ) (t : Bool) (name bs : List ℕ) → list_all is_name name ≡ true → run (known Name k t d l) (name ++ bs) ≡ run (known Name (matched_by k name) t d l) bs
+pub run-name : (k d l : ℕ) (t : Bool) (name bs : List ℕ) → list_all is_name name ≡ true → run (known Name k t d l) (name ++ bs) ≡ run (known Name (matched_by k name) t d l) bs
 run-name k d l t [] bs e = refl
 run-name k d l t (b ∷ name) bs e =
     let p = both (is_name b) (list_all is_name name) e in
     run-on _ _ b (name ++ bs) (name_on k d l b t p.0) ∙ run-name (matching k b) d l t name bs p.1
 
-run-line : (k d l : ℕ) (t : Bool) (name bs : List ℕ) → 0 < length name → list_all is_name name ≡ true → run (known Line k t d l) (name ++ bs) ≡ run (known Name (matched_by 0 name) t d l) bs
+pub run-line : (k d l : ℕ) (t : Bool) (name bs : List ℕ) → 0 < length name → list_all is_name name ≡ true → run (known Line k t d l) (name ++ bs) ≡ run (known Name (matched_by 0 name) t d l) bs
 run-line k d l t [] bs s e = absurd (omega (arith, s))
 run-line k d l t (b ∷ name) bs s e =
     let p = both (is_name b) (list_all is_name name) e in

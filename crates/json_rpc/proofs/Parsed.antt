@@ -112,7 +112,7 @@ pub read-start : Read start 0 []
 read-start = record { lines = []; each = All-nil IsHeaderLine; at = refl; part = []; spelled = refl; says = (refl, inr (refl, refl, refl)) }
 
 -- the cases of a step
-branch : (c : Bool) (x y s : Step) (P : Type 0) → (if c then x else y) ≡ s → (c ≡ true → x ≡ s → P) → (c ≡ false → y ≡ s → P) → P
+pub branch : (c : Bool) (x y s : Step) (P : Type 0) → (if c then x else y) ≡ s → (c ≡ true → x ≡ s → P) → (c ≡ false → y ≡ s → P) → P
 branch true x y s P e f g = f refl e
 branch false x y s P e f g = g refl e
 
@@ -140,7 +140,7 @@ matched-push : (m : ℕ) (xs : List ℕ) (b : ℕ) → matched_by m (xs ++ (b �
 matched-push m [] b = refl
 matched-push m (x ∷ xs) b = matched-push (matching m x) xs b
 
-lengths-append : (xs ys : List HeaderLine) → lengths_of (xs ++ ys) ≡ lengths_of xs ++ lengths_of ys
+pub lengths-append : (xs ys : List HeaderLine) → lengths_of (xs ++ ys) ≡ lengths_of xs ++ lengths_of ys
 lengths-append [] ys = refl
 lengths-append (length_line name blanks digits spaces ∷ xs) ys = ap (λ t. digits_value 10 digits ∷ t) (lengths-append xs ys)
 lengths-append (other_line name value ∷ xs) ys = lengths-append xs ys
@@ -151,10 +151,10 @@ told-same t l xs ys e w = elim w [ inl p ↦ inl (p.0, e ∙ p.1) | inr p ↦ in
 told-none : (t : Bool) (l : ℕ) (xs : List HeaderLine) → t ≡ false → Told t l xs → (lengths_of xs ≡ []) × (l ≡ 0)
 told-none t l xs e w = elim w [ inl p ↦ absurd (let no : true ≡ false = sym p.0 ∙ e in cc) | inr p ↦ (p.1, p.2) ]
 
-told-other : (t : Bool) (l : ℕ) (xs : List HeaderLine) (name value : List ℕ) → Told t l xs → Told t l (xs ++ (other_line name value ∷ []))
+pub told-other : (t : Bool) (l : ℕ) (xs : List HeaderLine) (name value : List ℕ) → Told t l xs → Told t l (xs ++ (other_line name value ∷ []))
 told-other t l xs name value w = told-same t l xs (xs ++ (other_line name value ∷ [])) (lengths-append xs (other_line name value ∷ []) ∙ append-nil (lengths_of xs)) w
 
-told-length : (t : Bool) (l : ℕ) (xs : List HeaderLine) (name blanks digits spaces : List ℕ) → t ≡ true → lengths_of xs ≡ [] → l ≡ digits_value 10 digits → Told t l (xs ++ (length_line name blanks digits spaces ∷ []))
+pub told-length : (t : Bool) (l : ℕ) (xs : List HeaderLine) (name blanks digits spaces : List ℕ) → t ≡ true → lengths_of xs ≡ [] → l ≡ digits_value 10 digits → Told t l (xs ++ (length_line name blanks digits spaces ∷ []))
 told-length t l xs name blanks digits spaces e none v = inl (e, lengths-append xs (length_line name blanks digits spaces ∷ []) ∙ ap (λ t. t ++ (digits_value 10 digits ∷ [])) none ∙ ap (λ n. n ∷ []) (sym v))
 
 all-below : (ds : List ℕ) → list_all is_digit ds ≡ true → AllDigits 10 ds

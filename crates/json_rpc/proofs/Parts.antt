@@ -42,7 +42,7 @@ scan-done : (n line k d v : ℕ) (t : Bool) (bs : List ℕ) → n < 8192 → sca
 unfolding scan_from step
 scan-done n line k d v t bs l = let f : nat_le 8192 n ≡ false = grind (arith, l) in pick_false (nat_le 8192 n) (Bad n) _ f
 
-line-last : (k d v : ℕ) (t : Bool) → run (known Line k t d v) (13 ∷ []) ≡ Some (known LastEnd k t d v)
+pub line-last : (k d v : ℕ) (t : Bool) → run (known Line k t d v) (13 ∷ []) ≡ Some (known LastEnd k t d v)
 unfolding run step at_line
 line-last k d v t = refl
 

@@ -1,10 +1,11 @@
 -- How a header part ends, in the words of its lines, and so that what is read is a frame.
-use Rattle.std.proofs.Common.{◌≡◌, ℕ, ◌+◌, ◌<◌, ◌≤◌, ◌⊎◌, inl, inr, ap, sym, ◌∙◌, drop, take, arith, List, [], ◌∷◌, refl, Bool, true, false, ◌++◌, length, nat_le, if◌then◌else◌, subst, append_assoc, append-nil, lit≤}
+use Rattle.std.proofs.Common.{◌≡◌, ℕ, ◌+◌, ◌<◌, ◌≤◌, ◌⊎◌, inl, inr, ap, sym, ◌∙◌, drop, take, arith, List, [], ◌∷◌, refl, Bool, true, false, ◌++◌, length, nat_le, if◌then◌else◌, subst, append_assoc, append-nil, lit≤, Some, None, Option}
 use Rattle.std.proofs.lemmas.List.{length-append, length-drop, length-take, take-append-drop}
 use Rattle.std.proofs.Math.Seq.{drop-append_seam, drop-append-add}
 use Rattle.json_rpc.specs.Heads.{start, step, after, line_after, scan_from}
 use Rattle.json_rpc.specs.Spelled.{BeginsFrame, AreHeaderLines}
 use Rattle.json_rpc.specs.Streams.{whole, by_length, by_reading, next_of}
+use Rattle.json_rpc.proofs.Lines.{onward, run, run-on}
 use Rattle.json_rpc.proofs.Parsed.{Read, read-start, read-on, read-done, IsRead}
 use Rattle.json_rpc.proofs.Tails.{length_whole}
 use Rattle.json_rpc.specs.declared.header.Head.{Head}
@@ -13,10 +14,31 @@ use Rattle.json_rpc.specs.declared.header.Step.TheVariants.{On, Done, Stop, Twic
 use Rattle.json_rpc.specs.declared.header.Reading.{Reading}
 use Rattle.json_rpc.specs.declared.header.Reading.TheVariants.{More, Whole, Bad}
 
+-- runs one after the other
+pub run-nil : (h : Head) → run h [] ≡ Some h
+unfolding run
+run-nil h = refl
+
+append-step : (s : Step) (xs ys : List ℕ) (k : Head) → onward s (λ g. run g xs) ≡ Some k → ((g : Head) → run g xs ≡ Some k → run g (xs ++ ys) ≡ run k ys) → onward s (λ g. run g (xs ++ ys)) ≡ run k ys
+append-step (On g) xs ys k e f = f g e
+append-step Done xs ys k e f = absurd cc
+append-step Stop xs ys k e f = absurd cc
+append-step Twice xs ys k e f = absurd cc
+
+pub run-append : (xs ys : List ℕ) (h k : Head) → run h xs ≡ Some k → run h (xs ++ ys) ≡ run k ys
+unfolding run
+run-append [] ys h k e = let same : h ≡ k = cc in ap (λ g. run g ys) same
+run-append (b ∷ xs) ys h k e = append-step (step h b) xs ys k e (λ g f. run-append xs ys g k f)
+
+-- these bytes have led to h, and say what they say
+pub record Reached (h : Head) (line : ℕ) (bytes : List ℕ) : Type 0 where
+  pub read : Read h line bytes
+  pub ran : run start bytes ≡ Some h
+
 pub record AtMore (bytes bs : List ℕ) (n : ℕ) : Type 0 where
   pub head : Head
   pub line : ℕ
-  pub read : Read head line (bytes ++ bs)
+  pub read : Reached head line (bytes ++ bs)
   pub fits : n + length bs ≤ 8192
 
 pub record AtWhole (bytes bs : List ℕ) (n k : ℕ) (h : Head) : Type 0 where
@@ -39,7 +61,7 @@ pub record AtBad (bytes bs : List ℕ) (n k : ℕ) : Type 0 where
   pub spelled : bs ≡ front ++ (byte ∷ rest)
   pub head : Head
   pub line : ℕ
-  pub read : Read head line (bytes ++ front)
+  pub read : Reached head line (bytes ++ front)
   pub at : ℕ
   pub place : at ≡ n + length front
   pub fits : at ≤ 8192
@@ -55,7 +77,7 @@ ends-later : (bytes bs : List ℕ) (n b : ℕ) (r : Reading) → Ends (bytes ++ 
 ends-later bytes bs n b More e = record {
   head = e.head;
   line = e.line;
-  read = let P : List ℕ → Type 0 = λ v. Read e.head e.line v in subst P (append_assoc bytes (b ∷ []) bs) e.read;
+  read = let P : List ℕ → Type 0 = λ v. Reached e.head e.line v in subst P (append_assoc bytes (b ∷ []) bs) e.read;
   fits = omega (arith, e.fits);
 }
 ends-later bytes bs n b (Whole k h) e = record {
@@ -73,14 +95,14 @@ ends-later bytes bs n b (Bad k) e = record {
   spelled = ap (λ v. b ∷ v) e.spelled;
   head = e.head;
   line = e.line;
-  read = let P : List ℕ → Type 0 = λ v. Read e.head e.line v in subst P (append_assoc bytes (b ∷ []) e.front) e.read;
+  read = let P : List ℕ → Type 0 = λ v. Reached e.head e.line v in subst P (append_assoc bytes (b ∷ []) e.front) e.read;
   at = e.at;
   place = omega (arith, e.place);
   fits = e.fits;
   why = e.why;
 }
 
-ends-here : (h : Head) (line n k b : ℕ) (bytes bs : List ℕ) → Read h line bytes → n ≤ 8192 → Stops k n line (step h b) → AtBad bytes (b ∷ bs) n k
+ends-here : (h : Head) (line n k b : ℕ) (bytes bs : List ℕ) → Reached h line bytes → n ≤ 8192 → Stops k n line (step h b) → AtBad bytes (b ∷ bs) n k
 ends-here h line n k b bytes bs r l w = record {
   front = [];
   byte = b;
@@ -88,14 +110,14 @@ ends-here h line n k b bytes bs r l w = record {
   spelled = refl;
   head = h;
   line = line;
-  read = let P : List ℕ → Type 0 = λ v. Read h line v in subst P (sym (append-nil bytes)) r;
+  read = let P : List ℕ → Type 0 = λ v. Reached h line v in subst P (sym (append-nil bytes)) r;
   at = n;
   place = omega arith;
   fits = l;
   why = w;
 }
 
-step-ends : (h : Head) (line n b : ℕ) (bytes bs : List ℕ) (f : Head → Reading) (s : Step) → Read h line bytes → n < 8192 → step h b ≡ s → ((k : Head) → step h b ≡ On k → Ends (bytes ++ (b ∷ [])) bs (n + 1) (f k)) → Ends bytes (b ∷ bs) n (after n line h s f)
+step-ends : (h : Head) (line n b : ℕ) (bytes bs : List ℕ) (f : Head → Reading) (s : Step) → Reached h line bytes → n < 8192 → step h b ≡ s → ((k : Head) → step h b ≡ On k → Ends (bytes ++ (b ∷ [])) bs (n + 1) (f k)) → Ends bytes (b ∷ bs) n (after n line h s f)
 step-ends h line n b bytes bs f (On k) r l q more = ends-later bytes bs n b (f k) (more k q)
 step-ends h line n b bytes bs f Done r l q more = record {
   front = b ∷ [];
@@ -103,7 +125,7 @@ step-ends h line n b bytes bs f Done r l q more = record {
   spelled = refl;
   place = omega arith;
   short = omega (arith, l);
-  part = read-done h line b bytes r q;
+  part = read-done h line b bytes r.read q;
 }
 step-ends h line n b bytes bs f Stop r l q more = ends-here h line n n b bytes bs r (omega (arith, l)) (inr (inl (refl, l, q)))
 step-ends h line n b bytes bs f Twice r l q more = ends-here h line n line b bytes bs r (omega (arith, l)) (inr (inr (refl, l, q)))
@@ -112,24 +134,25 @@ test-ends : (bytes bs : List ℕ) (n : ℕ) (c : Bool) (y : Reading) → nat_le 
 test-ends bytes bs n true y q f g = f (grind (arith, q))
 test-ends bytes bs n false y q f g = g (grind (arith, q))
 
-pub scan-ends : (bs : List ℕ) (n line : ℕ) (h : Head) (bytes : List ℕ) → Read h line bytes → length bytes ≡ n → n ≤ 8192 → Ends bytes bs n (scan_from n line h bs)
+pub scan-ends : (bs : List ℕ) (n line : ℕ) (h : Head) (bytes : List ℕ) → Reached h line bytes → length bytes ≡ n → n ≤ 8192 → Ends bytes bs n (scan_from n line h bs)
 unfolding scan_from
 scan-ends [] n line h bytes r e l = record {
   head = h;
   line = line;
-  read = let P : List ℕ → Type 0 = λ v. Read h line v in subst P (sym (append-nil bytes)) r;
+  read = let P : List ℕ → Type 0 = λ v. Reached h line v in subst P (sym (append-nil bytes)) r;
   fits = omega (arith, l);
 }
 scan-ends (b ∷ bs) n line h bytes r e l =
     test-ends bytes (b ∷ bs) n (nat_le 8192 n) _ refl
     (λ m. ends-here h line n n b bytes bs r l (inl (refl, m)))
     (λ m. step-ends h line n b bytes bs (λ g. scan_from (n + 1) (line_after n line g.mode) g bs) (step h b) r m refl (λ k q.
-    let grown = read-on h k line b bytes r q in
+    let grown = read-on h k line b bytes r.read q in
     let P : ℕ → Type 0 = λ v. Read k (line_after v line k.mode) (bytes ++ (b ∷ [])) in
-    scan-ends bs (n + 1) (line_after n line k.mode) k (bytes ++ (b ∷ [])) (subst P e grown) (omega (arith, e, length-append bytes (b ∷ []))) (omega (arith, m))))
+    let ran : run start (bytes ++ (b ∷ [])) ≡ Some k = run-append bytes (b ∷ []) start h r.ran ∙ run-on h k b [] q ∙ run-nil k in
+    scan-ends bs (n + 1) (line_after n line k.mode) k (bytes ++ (b ∷ [])) (record { read = subst P e grown; ran = ran }) (omega (arith, e, length-append bytes (b ∷ []))) (omega (arith, m))))
 
 pub start-ends : (bs : List ℕ) → Ends [] bs 0 (scan_from 0 0 start bs)
-start-ends bs = scan-ends bs 0 0 start [] read-start refl (lit≤ tt)
+start-ends bs = scan-ends bs 0 0 start [] (record { read = read-start; ran = run-nil start }) refl (lit≤ tt)
 
 reading-frame : (at : ℕ) (bytes body rest : List ℕ) (r : Reading) → Ends [] bytes 0 r → by_reading at bytes r ≡ whole body rest → BeginsFrame bytes body rest
 unfolding by_reading by_length

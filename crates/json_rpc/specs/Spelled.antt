@@ -1,5 +1,5 @@
 -- Frames in the words of LSP 3.17, "Header Part": header lines, an empty line, and a body.
-use Rattle.std.specs.Prelude.{◌≡◌, ◌≢◌, ℕ, ◌<◌, ◌≤◌, ◌==◌, List, [], ◌∷◌, ◌++◌, length, codes, All}
+use Rattle.std.specs.Prelude.{◌≡◌, ◌≢◌, ℕ, ◌+◌, ◌<◌, ◌≤◌, ◌==◌, ◌⊎◌, take, List, [], ◌∷◌, ◌++◌, length, codes, All}
 use Rattle.std.specs.List.{AllPass, flat_map}
 use Rattle.std.specs.Str.{str_to_ascii_lowercase}
 use Rattle.std.specs.Str.Parse.{digits_value}
@@ -70,3 +70,44 @@ pub record BeginsFrame (bytes body rest : List ℕ) : Type 0 where
   pub frame : List ℕ
   pub is : IsFrame frame body
   pub spelled : bytes ≡ frame ++ rest
+
+-- With these bytes added, the bytes are header lines of which at most one tells the length, and an empty line.
+pub record BeginsLines (bytes more : List ℕ) : Type 0 where
+  pub lengths : List ℕ
+  pub one : length lengths ≤ 1
+  pub lines : AreHeaderLines (bytes ++ more) lengths
+
+-- The bytes begin such lines, and aren't all of them.
+pub record GoesOn (bytes : List ℕ) : Type 0 where
+  pub more : List ℕ
+  pub some : 0 < length more
+  pub begins : BeginsLines bytes more
+
+-- A second line with the length begins at `line`, and the colon after its name stands at `colon`.
+pub record SecondLength (bytes : List ℕ) (line colon : ℕ) : Type 0 where
+  pub lines : List HeaderLine
+  pub name : List ℕ
+  pub rest : List ℕ
+  pub each : All IsHeaderLine lines
+  pub first : ℕ
+  pub told : lengths_of lines ≡ first ∷ []
+  pub named : str_to_ascii_lowercase name ≡ length_name
+  pub place : line ≡ length (flat_map line_text lines)
+  pub colon_place : colon ≡ line + length name
+  pub spelled : bytes ≡ flat_map line_text lines ++ (name ++ (58 ∷ rest))
+
+-- The byte at this place is the first that can't stand there: no header part begins with the bytes up to and with it. A
+-- second length is left to the next definition.
+pub record IsUnfit (bytes : List ℕ) (place : ℕ) : Type 0 where
+  pub short : place < 8192
+  pub within : place < length bytes
+  pub before : GoesOn (take place bytes)
+  pub none : (more : List ℕ) → BeginsLines (take (place + 1) bytes) more → ⊥
+  pub no_second : (line : ℕ) → SecondLength (take (place + 1) bytes) line place → ⊥
+
+-- Where a header part is refused: at its 8,193rd byte, at the first byte that can't stand there, or at the start of a
+-- second line with the length, which is met at its colon.
+abbrev pub IsRefusedAt : List ℕ → ℕ → Type 0
+IsRefusedAt bytes place =
+    ((place ≡ 8192) × (8192 < length bytes) × GoesOn (take 8192 bytes))
+    ⊎ (IsUnfit bytes place ⊎ ((colon : ℕ) × (colon < 8192) × SecondLength bytes place colon))
