@@ -1,5 +1,5 @@
 -- Where a header part is refused, in the words of its lines.
-use Rattle.std.proofs.Common.{◌≡◌, ◌≢◌, ℕ, suc, zero, ◌+◌, ◌-◌, ◌<◌, ◌≤◌, ◌⊎◌, inl, inr, ap, sym, ◌∙◌, drop, take, arith, List, [], ◌∷◌, refl, Bool, true, false, ◌++◌, length, nat_le, nat_lt, ◌==◌, if◌then◌else◌, subst, append_assoc, append-nil, lit≤, lit<, map, All, Some, None, Option}
+use Rattle.std.proofs.Common.{◌≡◌, ◌≢◌, ℕ, ◌+◌, ◌<◌, ◌≤◌, inl, inr, ap, sym, ◌∙◌, drop, take, arith, List, [], ◌∷◌, refl, Bool, true, false, ◌++◌, length, nat_le, nat_lt, ◌==◌, if◌then◌else◌, subst, append_assoc, append-nil, lit≤, lit<, All, Some}
 use Rattle.std.proofs.lemmas.List.{length-append, length-map}
 use Rattle.std.proofs.lemmas.List.Elements.{All-push}
 use Rattle.std.proofs.lemmas.List.Folds.{list_all-append}
@@ -7,18 +7,17 @@ use Rattle.std.proofs.lemmas.List.Sums.{AllPass-from_list_all}
 use Rattle.std.proofs.lemmas.Grind.{flat_map-append}
 use Rattle.std.proofs.lemmas.Bool.{eqb-true}
 use Rattle.std.proofs.Math.Seq.{take-append_seam, drop-append_seam, take-append-add}
-use Rattle.std.specs.List.{list_all, flat_map}
+use Rattle.std.specs.List.{flat_map}
 use Rattle.std.specs.Char.{to_ascii_lowercase}
 use Rattle.std.specs.Str.{str_to_ascii_lowercase}
 use Rattle.std.specs.Str.Parse.{digits_value}
 use Rattle.json_rpc.specs.Heads.{start, step, scan_from, is_name, is_value, is_blank, is_digit, length_name, at_line, at_name, at_value, at_blank, at_digits, at_tail}
-use Rattle.json_rpc.specs.Spelled.{HeaderLine, length_line, other_line, line_text, line_end, IsHeaderLine, TellsLength, TellsOther, lengths_of, AreHeaderLines, BeginsLines, GoesOn, SecondLength, IsUnfit, IsRefusedAt}
-use Rattle.json_rpc.specs.Streams.{Next, partial, whole, wrong, by_length, by_reading, next_of}
-use Rattle.json_rpc.proofs.Lines.{known, onward, run, run-on, run-none, run-one, run-line, length-some, matched_by, matched-is, matched-back, run-name, all-and, length-visible}
-use Rattle.json_rpc.proofs.Parsed.{Read, Told, InName, InValue, InBlank, InDigits, InTail, AtEnd, lengths-append, told-length, told-other, branch}
+use Rattle.json_rpc.specs.Spelled.{HeaderLine, length_line, other_line, line_text, line_end, IsHeaderLine, lengths_of, BeginsLines, GoesOn, SecondLength, IsUnfit, IsRefusedAt}
+use Rattle.json_rpc.specs.Streams.{partial, whole, wrong, by_length, by_reading, next_of}
+use Rattle.json_rpc.proofs.Lines.{known, onward, run, run-none, run-one, run-line, length-some, matched-is, matched-back, all-and, length-visible}
+use Rattle.json_rpc.proofs.Parsed.{Read, Told, lengths-append, told-other}
 use Rattle.json_rpc.proofs.Parts.{line-last}
-use Rattle.json_rpc.proofs.Wholes.{Reached, AtBad, Ends, Stops, start-ends, run-append, run-nil}
-use Rattle.json_rpc.specs.declared.fault.FrameFault.{FrameFault}
+use Rattle.json_rpc.proofs.Wholes.{AtBad, Ends, start-ends, run-nil}
 use Rattle.json_rpc.specs.declared.fault.FrameFault.TheVariants.{Header, NoLength, TooLong}
 use Rattle.json_rpc.specs.declared.header.Mode.{Mode}
 use Rattle.json_rpc.specs.declared.header.Mode.TheVariants.{Line, Name, Value, Blank, Digits, Tail, LineEnd, LastEnd}
