@@ -35,7 +35,7 @@ room true zero e = absurd cc
 room true (suc left) e = omega arith
 room false left e = omega arith
 
-no_test : (b : Bool) (left : ℕ) → width b ≤ suc left → (b && eqb left 0) ≡ false
+pub no_test : (b : Bool) (left : ℕ) → width b ≤ suc left → (b && eqb left 0) ≡ false
 no_test true zero e = absurd (omega (arith, e))
 no_test true (suc left) e = search rules
 no_test false left e = refl
@@ -65,7 +65,7 @@ decided false h = refl
 pub none_some : (n : ℕ) → None ≡ Some n → ⊥
 none_some n e = cc
 
-not_text : (tag n : ℕ) → tag_size tag ≡ Some n → eqb tag 1 ≡ false
+pub not_text : (tag n : ℕ) → tag_size tag ≡ Some n → eqb tag 1 ≡ false
 not_text tag n e = decided (eqb tag 1) (λ h. none_some n (subst (λ (t : ℕ). tag_size t ≡ Some n) (eqb-true _ _ h) e))
 
 pub entry_takes : (total left : ℕ) (bytes : List ℕ) (x : Entry) (rest : List ℕ) → IsBytes bytes → entry_at total left bytes ≡ Ok (x, rest) → Takes bytes (entry x) rest × Room left x

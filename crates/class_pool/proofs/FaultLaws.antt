@@ -1,13 +1,10 @@
 -- Where a pool can't be read, good entries stand up to there, and no entry stands there.
-use Rattle.std.proofs.Common.{◌≡◌, ◌≢◌, ℕ, zero, suc, ◌+◌, ◌-◌, ◌<◌, ◌≤◌, ◌&&◌, Bool, true, false, cond, eqb, ltb, List, [], ◌∷◌, ◌++◌, length, take, drop, Option, Some, None, Result, Ok, Err, refl, sym, ap, subst, ◌∙◌, append_assoc, arith, inl, inr, ◌⊎◌}
-use Rattle.std.specs.List.{flat_map, AllByRecursion}
+use Rattle.std.proofs.Common.{◌≡◌, ◌≢◌, ℕ, zero, suc, ◌+◌, ◌-◌, ◌≤◌, Bool, true, false, List, [], ◌∷◌, ◌++◌, length, Result, Ok, Err, refl, sym, ap, subst, ◌∙◌, append_assoc, arith, inl, inr, ◌⊎◌}
 use Rattle.std.proofs.lemmas.List.Concat.{flat_map-cons}
-use Rattle.byteorder.specs.Endian.{big_number}
 use Rattle.class_pool.specs.declared.fault.ClassFault.{ClassFault}
-use Rattle.class_pool.specs.Spelling.{Entry, utf8, tag_size, is_wide, takes_two, width, entry, entries, IsEntry, places, Front, front, IsFront, Head}
+use Rattle.class_pool.specs.Spelling.{Entry, takes_two, width, entry, entries, places, Front, front, IsFront, Head}
 use Rattle.class_pool.specs.Faults.{Room, gap, Stops}
-use Rattle.class_pool.specs.Reading.{IsBytes, ◌>>=◌, number_at, block_at, text_at, fixed_at, entry_at, entries_at, cut, bad_tag, Gives, front_at, head_at, head_read}
-use Rattle.class_pool.proofs.Codec.{Takes}
+use Rattle.class_pool.specs.Reading.{IsBytes, ◌>>=◌, entry_at, entries_at, Gives, front_at, head_at, head_read}
 use Rattle.class_pool.proofs.Heads.{front_takes, front_again}
 use Rattle.class_pool.specs.declared.fault.ClassCause.TheVariants.{OutOfMemory}
 use Rattle.std.specs.Prelude.{IfErr}
@@ -98,10 +95,10 @@ before_front bytes d e = rw e refl
 
 pub entry_fault : {P : Type 0} (view : P → Head) (bytes : List ℕ) (r : Result P ClassFault) (f : Front) (rest : List ℕ) → IsBytes bytes → Gives view r (head_read (head_at (length bytes) bytes)) → IsFront f → bytes ≡ front f ++ rest → IfErr r (λ e. e.cause ≢ OutOfMemory → Stops (length bytes) false (f.count - 1) rest e)
 entry_fault view bytes (Ok p) f rest fits given is parts = tt
-entry_fault view bytes (Err d) f rest fits given is parts = λ no_want.
+entry_fault view bytes (Err d) f rest fits given is parts = λ some.
     let first : front_at (length bytes) bytes ≡ Ok (f, rest) = ap (front_at (length bytes)) parts ∙ front_again (length bytes) f rest is in
     let t = front_takes (length bytes) bytes f rest fits first in
-    stops (length bytes) false (f.count - 1) rest d (omega arith) t.0.rest_fits (after_front bytes f rest d first (read_err _ d (given no_want)))
+    stops (length bytes) false (f.count - 1) rest d (omega arith) t.0.rest_fits (after_front bytes f rest d first (read_err _ d (given (λ e. some (ap (λ (f : ClassFault). f.cause) e)))))
 
 pub header_fault : {P : Type 0} (view : P → Head) (bytes : List ℕ) (r : Result P ClassFault) (d : ClassFault) → front_at (length bytes) bytes ≡ failed {A = Front × List ℕ} d → Gives view r (head_read (head_at (length bytes) bytes)) → Gives view r (failed {A = Head} d)
 header_fault view bytes r d e given = subst (λ (x : Result Head ClassFault). Gives view r x) (ap head_read (before_front bytes d e)) given

@@ -4,7 +4,7 @@ use Rattle.std.proofs.lemmas.Bool.{eqb-true}
 use Rattle.std.specs.Prelude.{IfOk}
 use Rattle.byteorder.specs.Endian.{big_bytes}
 use Rattle.class_pool.specs.declared.fault.ClassFault.{ClassFault}
-use Rattle.class_pool.specs.Spelling.{Entry, entries, magic, Front, front, IsFront, Head, head, IsHead, IsPoolOf}
+use Rattle.class_pool.specs.Spelling.{entries, magic, Front, front, IsFront, Head, head, IsHead, IsPoolOf}
 use Rattle.class_pool.specs.Reading.{IsBytes, front_at, head_at, entries_at, head_read, Gives}
 use Rattle.class_pool.proofs.Codec.{Takes, Takes-then, Codec, bind_ok, ok_is, need_ok, step, number_2, number_4}
 use Rattle.class_pool.proofs.Entries.{entries_take, entries_again}

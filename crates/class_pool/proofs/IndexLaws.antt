@@ -9,7 +9,7 @@ use Rattle.byteorder.specs.Endian.{big_bytes, big_number}
 use Rattle.class_pool.specs.declared.fault.ClassFault.{ClassFault}
 use Rattle.class_pool.specs.declared.fault.ClassCause.TheVariants.{Truncated, OutOfMemory}
 use Rattle.class_pool.specs.Spelling.{Entry, utf8, fixed, tag_size, takes_two, entry, entries, IsEntry, front, Head, head}
-use Rattle.class_pool.specs.Reading.{cut, text_at, head_at}
+use Rattle.class_pool.specs.Reading.{no_memory, cut, text_at, head_at}
 use Rattle.class_pool.specs.Index.{Kept, starts, slots, slot, flat, blank, kept, head_found, head_of, IsKept, start_in, IsAt, text_in, class_index}
 use Rattle.class_pool.proofs.Codec.{ok_is}
 use Rattle.class_pool.proofs.Entries.{text_again, none_some, decided}
@@ -195,8 +195,8 @@ pub uncons : (b : List ℕ) → 1 ≤ length b → b ≡ get_or b 0 0 ∷ take (
 uncons [] le = absurd (omega (arith, le))
 uncons (x ∷ b) le = ap (λ (t : List ℕ). x ∷ t) (sym (take_all (length (x ∷ b) - 1) b (omega arith)))
 
-pub no_want : (total : ℕ) (d : ClassFault) → d ≡ cut total → d.cause ≢ OutOfMemory
-no_want total d is h = other (sym (ap (λ (f : ClassFault). f.cause) is) ∙ h)
+pub no_want : (total : ℕ) (d : ClassFault) → d ≡ cut total → d ≢ no_memory
+no_want total d is h = other (sym (ap (λ (f : ClassFault). f.cause) is) ∙ ap (λ (f : ClassFault). f.cause) h)
   where
     other : Truncated ≡ OutOfMemory → ⊥
     other e = cc

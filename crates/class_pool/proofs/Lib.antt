@@ -4,4 +4,6 @@ pub mod Steps
 pub mod Heads
 pub mod IndexLaws
 pub mod FaultLaws
+pub mod CauseLaws
+pub mod FrontLaws
 pub mod UnitLaws

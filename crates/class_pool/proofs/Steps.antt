@@ -2,9 +2,8 @@
 use Rattle.std.proofs.Common.{◌≡◌, ◌≢◌, ℕ, suc, ◌+◌, ◌-◌, ◌<◌, ◌≤◌, Bool, true, false, List, ◌∷◌, ◌++◌, length, Result, Ok, Err, refl, sym, ap, subst, ◌∙◌, append_assoc, arith}
 use Rattle.std.proofs.lemmas.List.{length-append, append-nil}
 use Rattle.class_pool.specs.declared.fault.ClassFault.{ClassFault}
-use Rattle.class_pool.specs.declared.fault.ClassCause.TheVariants.{OutOfMemory}
 use Rattle.class_pool.specs.Spelling.{Entry, takes_two, entry}
-use Rattle.class_pool.specs.Reading.{IsBytes, ◌>>=◌, on_ok, passed, entry_at, entries_at}
+use Rattle.class_pool.specs.Reading.{IsBytes, ◌>>=◌, no_memory, on_ok, passed, entry_at, entries_at}
 use Rattle.class_pool.specs.Index.{after, blank, starts}
 use Rattle.class_pool.proofs.Entries.{entry_takes}
 
@@ -62,12 +61,12 @@ entry_step total count place front bytes next wide whole lt le p so_far =
     sym one ∙ so_far
 
 pub entry_ends : (total count place : ℕ) (front bytes : List ℕ) (d : ClassFault) (whole : Result (List ℕ × List ℕ) ClassFault) → place < count
-    → (d.cause ≢ OutOfMemory → on_ok passed (entry_at total (count - place - 1) bytes) ≡ Err d)
-    → after front (total - length bytes) (entries_at total false (count - place) bytes) ≡ whole → d.cause ≢ OutOfMemory → whole ≡ Err d
+    → (d ≢ no_memory → on_ok passed (entry_at total (count - place - 1) bytes) ≡ Err d)
+    → after front (total - length bytes) (entries_at total false (count - place) bytes) ≡ whole → d ≢ no_memory → whole ≡ Err d
 unfolding entries_at
-entry_ends total count place front bytes d whole lt given so_far no_memory =
+entry_ends total count place front bytes d whole lt given so_far some =
     let k : count - place ≡ suc (count - place - 1) = omega arith in
-    let h = on_err_is passed (entry_at total (count - place - 1) bytes) d (given no_memory) in
+    let h = on_err_is passed (entry_at total (count - place - 1) bytes) d (given some) in
     let one : after front (total - length bytes) (entries_at total false (count - place) bytes) ≡ Err d = rw (k, h) refl in
     sym so_far ∙ one
 

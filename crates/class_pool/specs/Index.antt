@@ -1,5 +1,5 @@
 -- Where the entries of a pool stand, and what stands at a place of the pool.
-use Rattle.std.specs.Prelude.{◌≡◌, ℕ, zero, suc, ◌+◌, ◌-◌, Bool, true, false, List, [], ◌∷◌, ◌++◌, length, Option, Some, None, Result, Ok, Err, slice_get, get_or, ◌<◌, ◌≤◌, ◌==◌, if◌then◌else◌}
+use Rattle.std.specs.Prelude.{◌≡◌, ℕ, zero, suc, ◌+◌, ◌-◌, Bool, true, false, List, [], ◌∷◌, ◌++◌, length, Option, Some, None, Result, Ok, Err, slice_get, get_or, ◌≤◌, ◌==◌, if◌then◌else◌}
 use Rattle.byteorder.specs.Endian.{big_number}
 use Rattle.class_pool.specs.declared.fault.ClassFault.{ClassFault}
 use Rattle.class_pool.specs.Spelling.{Entry, utf8, fixed, takes_two, entry, IsEntry, Head}

@@ -1,4 +1,5 @@
 pub mod Spelling
+pub mod Causes
 pub mod Reading
 pub mod Index
 pub mod Faults

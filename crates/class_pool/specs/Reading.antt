@@ -1,6 +1,6 @@
 -- Reading a class file from its front. A part that is read is a value and the bytes after it; where it can't be
 -- read, the fault with its place. `total` is the length of the whole file.
-use Rattle.std.specs.Prelude.{◌≡◌, ◌≢◌, ℕ, zero, suc, ◌+◌, ◌-◌, ◌&&◌, Bool, true, false, List, [], ◌∷◌, ◌++◌, length, take, drop, Option, Some, None, Result, Ok, Err, nat_lt, nat_le, get_or, ◌<◌, ◌==◌, if◌then◌else◌}
+use Rattle.std.specs.Prelude.{◌≡◌, ◌≢◌, ℕ, zero, suc, ◌-◌, ◌&&◌, Bool, true, false, List, [], ◌∷◌, length, take, drop, Option, Some, None, Result, Ok, Err, nat_lt, nat_le, get_or, ◌<◌, ◌==◌, if◌then◌else◌}
 use Rattle.byteorder.specs.Endian.{big_number}
 use Rattle.class_pool.specs.declared.fault.ClassFault.{ClassFault}
 use Rattle.class_pool.specs.declared.fault.ClassCause.TheVariants.{Truncated, Magic, Version, Tag, OutOfMemory}
@@ -11,10 +11,14 @@ abbrev pub ◌>>=◌ : {A B : Type 0} → Result A ClassFault → (A → Result 
 (Ok x) >>= f = f x
 (Err e) >>= f = Err e
 
+-- Memory ran out: the place is 0, and says nothing about the bytes.
+abbrev pub no_memory : ClassFault
+no_memory = record { at = 0; cause = OutOfMemory }
+
 -- What a function returned, seen by `view`, is what reading gives, unless memory ran out.
 abbrev pub Gives : {X Y : Type 0} → (X → Y) → Result X ClassFault → Result Y ClassFault → Type 0
 Gives view (Ok x) read = read ≡ Ok (view x)
-Gives view (Err e) read = e.cause ≢ OutOfMemory → read ≡ Err e
+Gives view (Err e) read = e ≢ no_memory → read ≡ Err e
 
 -- The file ends within a part: the place is its length.
 abbrev pub cut : ℕ → ClassFault

@@ -1,5 +1,4 @@
 -- How the definitions see the reader's own structures.
-use Rattle.std.specs.Prelude.{ℕ, List}
 use Rattle.class_pool.specs.declared.pool.Header.{Header}
 use Rattle.class_pool.specs.declared.pool.PoolIndex.{PoolIndex}
 use Rattle.class_pool.specs.Spelling.{Front}

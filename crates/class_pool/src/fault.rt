@@ -1,5 +1,6 @@
 ghost use Rattle.std.specs.Prelude.{◌≡◌};
-ghost use Rattle.class_pool.specs.declared.fault.ClassCause.TheVariants.{OutOfMemory};
+ghost use Rattle.class_pool.specs.Causes.{cause_number};
+ghost use Rattle.class_pool.specs.Reading.{no_memory};
 
 use std::alloc::{AllocError, AllocFailed};
 
@@ -37,24 +38,48 @@ pub struct ClassFault {
     pub cause: ClassCause,
 }
 
-impl From<AllocError> for ClassFault {
-    ghost from_gives = { λ _ e. e.cause ≡ OutOfMemory };
-
-    fn from(_e: AllocError) -> ClassFault {
-        ClassFault {
-            at: 0,
-            cause: ClassCause::OutOfMemory,
+impl ClassCause {
+    /// The number by which replies tell a cause; None for want of memory.
+    pub fn number(self) -> Option<u32>
+        ensures is { result ≡ cause_number self }
+    {
+        match self {
+            ClassCause::Truncated => Some(1),
+            ClassCause::Magic => Some(2),
+            ClassCause::Version => Some(3),
+            ClassCause::Tag => Some(4),
+            ClassCause::Place => Some(5),
+            ClassCause::Extra => Some(6),
+            ClassCause::Descriptor => Some(7),
+            ClassCause::Name => Some(8),
+            ClassCause::Attribute => Some(9),
+            ClassCause::OutOfMemory => None,
         }
     }
 }
 
+/// Memory ran out.
+pub fn no_memory() -> ClassFault
+    ensures is { result ≡ no_memory }
+{
+    ClassFault {
+        at: 0,
+        cause: ClassCause::OutOfMemory,
+    }
+}
+
+impl From<AllocError> for ClassFault {
+    ghost from_gives = { λ _ e. e ≡ no_memory };
+
+    fn from(_e: AllocError) -> ClassFault {
+        no_memory()
+    }
+}
+
 impl<T: Drop> From<AllocFailed<T>> for ClassFault {
-    ghost from_gives = { λ _ e. e.cause ≡ OutOfMemory };
+    ghost from_gives = { λ _ e. e ≡ no_memory };
 
     fn from(_e: AllocFailed<T>) -> ClassFault {
-        ClassFault {
-            at: 0,
-            cause: ClassCause::OutOfMemory,
-        }
+        no_memory()
     }
 }

@@ -10,7 +10,7 @@ mod parts;
 mod pool;
 mod reading;
 
-pub use fault::{ClassCause, ClassFault};
+pub use fault::{ClassCause, ClassFault, no_memory};
 pub use modified::decode_modified;
 pub use parts::{block_of, u16_at, u32_at};
 pub use pool::{Pool, read_pool};

@@ -6,7 +6,7 @@ use byteorder::{BigEndian, ByteOrder};
 
 /// The file, which has `total` bytes, ends within a part.
 pub fn cut(total: u32) -> ClassFault
-    ensures { result ≡ cut total }
+    ensures is { result ≡ cut total }
 {
     ClassFault {
         at: total,

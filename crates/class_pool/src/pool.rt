@@ -2,6 +2,7 @@ ghost use Rattle.std.specs.Prelude.{◌≡◌, ◌≢◌, ◌≤◌, ◌<◌, �
 ghost use Rattle.std.specs.Option.{option_map};
 ghost use Rattle.class_pool.specs.declared.fault.ClassFault.{ClassFault};
 ghost use Rattle.class_pool.specs.declared.fault.ClassCause.TheVariants.{OutOfMemory};
+ghost use Rattle.class_pool.specs.Causes.{IsPoolCause};
 ghost use Rattle.class_pool.specs.Spelling.{Entry, Front, front, IsFront, Head, IsPoolOf, entries};
 ghost use Rattle.class_pool.specs.Reading.{Gives, front_at, head_at, head_read};
 ghost use Rattle.class_pool.specs.Index.{Kept, kept, slot, start_in, class_index, IsAt, text_in, name_in};
@@ -121,6 +122,10 @@ pub fn read_pool(alloc: Global, bytes: &[u8]) -> Result<Pool<'_>, ClassFault>
     ensures entry_fault { (header : Front) (rest : List ℕ) → IsFront header → bytes.now ≡ front header ++ rest → IfErr result (λ fault. fault.cause ≢ OutOfMemory → Stops (length bytes.now) false (header.count - 1) rest fault) }
     // Both in one.
     ensures exact { Gives (λ p. p) result (head_read (head_at (length bytes.now) bytes.now)) }
+    // No other cause comes from a header and a pool.
+    ensures causes { IfErr result (λ fault. fault.cause ≢ OutOfMemory → IsPoolCause fault.cause) }
+    // Want of memory has no place.
+    ensures memory { IfErr result (λ fault. fault.cause ≡ OutOfMemory → fault.at ≡ 0) }
 {
     pool_of(alloc, bytes)
 }

@@ -1,4 +1,4 @@
-use crate::{ClassCause, decode_modified, read_pool};
+use crate::{ClassCause, decode_modified, no_memory, read_pool};
 use std::test::*;
 
 /// `class A extends java/lang/Object`, without members.
@@ -81,6 +81,25 @@ fn the_first_fault_of_a_pool_is_answered(rt: HostRuntime) -> Result<(), Fail> {
         }
     }
     Ok(())
+}
+
+#[test]
+fn each_cause_has_its_number(rt: HostRuntime) {
+    let causes = [
+        ClassCause::Truncated,
+        ClassCause::Magic,
+        ClassCause::Version,
+        ClassCause::Tag,
+        ClassCause::Place,
+        ClassCause::Extra,
+        ClassCause::Descriptor,
+        ClassCause::Name,
+        ClassCause::Attribute,
+    ];
+    for i in 0..causes.len() {
+        assert_eq!(rt; causes[i].number(), Some(i as u32 + 1));
+    }
+    assert_eq!(rt; no_memory().cause.number(), None);
 }
 
 #[test]

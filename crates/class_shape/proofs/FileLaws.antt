@@ -1,13 +1,13 @@
 -- The parts of a class file: what is read is spelled so, and what is spelled so is read.
-use Rattle.std.proofs.Common.{◌≡◌, ℕ, zero, suc, ◌+◌, ◌-◌, ◌<◌, ◌^◌, Bool, true, eqb, List, [], ◌∷◌, ◌++◌, length, Result, Ok, Err, refl, sym, ap, subst, ◌∙◌, append_assoc, arith}
+use Rattle.std.proofs.Common.{◌≡◌, ℕ, zero, suc, ◌-◌, eqb, List, [], ◌∷◌, ◌++◌, length, Result, Ok, refl, sym, ap, subst, ◌∙◌, append_assoc, arith}
 use Rattle.std.specs.Prelude.{⊤}
 use Rattle.std.specs.List.{AllByRecursion}
 use Rattle.std.proofs.lemmas.Bool.{eqb-true}
 use Rattle.std.proofs.lemmas.List.{append-nil, nil_from_length}
 use Rattle.byteorder.specs.Endian.{big_bytes}
 use Rattle.class_pool.specs.declared.fault.ClassFault.{ClassFault}
-use Rattle.class_pool.specs.Reading.{IsBytes, ◌>>=◌, number_at, block_at, need}
-use Rattle.class_pool.proofs.Codec.{Takes, Takes-then, Codec, ok_is, need_ok, step, number_2, number_4, block_codec, block_again}
+use Rattle.class_pool.specs.Reading.{IsBytes}
+use Rattle.class_pool.proofs.Codec.{Takes, Takes-then, ok_is, need_ok, step, number_2, number_4, block_codec, block_again}
 use Rattle.class_shape.specs.declared.parts.IndexAt.{IndexAt}
 use Rattle.class_shape.specs.declared.parts.MemberAt.{MemberAt}
 use Rattle.class_shape.specs.declared.parts.OwnAt.{OwnAt}

@@ -3,3 +3,5 @@ mod SeenCodec
 mod FileLaws
 mod MeaningLaws
 mod ShapeLaws
+mod CauseLaws
+mod LayoutLaws

@@ -1,10 +1,9 @@
 -- The loops of the reader: what was read so far, before what is still to be read.
-use Rattle.std.proofs.Common.{◌≡◌, ◌≢◌, ℕ, zero, suc, ◌+◌, ◌-◌, ◌<◌, ◌≤◌, List, [], ◌∷◌, ◌++◌, length, drop, get_or, Result, Ok, Err, refl, sym, ap, ◌∙◌, append_assoc, arith}
+use Rattle.std.proofs.Common.{◌≡◌, ◌≢◌, ℕ, suc, ◌+◌, ◌-◌, ◌<◌, ◌≤◌, List, [], ◌∷◌, ◌++◌, length, drop, get_or, Result, Ok, Err, refl, sym, ap, ◌∙◌, append_assoc, arith}
 use Rattle.std.proofs.lemmas.List.{append-nil, drop_all}
 use Rattle.std.proofs.Math.Seq.{drop-cons}
 use Rattle.class_pool.specs.declared.fault.ClassFault.{ClassFault}
-use Rattle.class_pool.specs.declared.fault.ClassCause.TheVariants.{OutOfMemory}
-use Rattle.class_pool.specs.Reading.{◌>>=◌}
+use Rattle.class_pool.specs.Reading.{◌>>=◌, no_memory}
 use Rattle.class_shape.specs.Reading.{many_at, rest_of, on_value}
 use Rattle.class_shape.specs.Meaning.{each, joined}
 
@@ -46,10 +45,10 @@ module _ {B : Type 0} (read : List ℕ → Result (B × List ℕ) ClassFault) wh
   unfolding many_at
   stopped n front bytes d e = rw e refl
 
-  pub one_ends : (count place : ℕ) (front : List B) (bytes : List ℕ) (d : ClassFault) (whole : Result (List B × List ℕ) ClassFault) → place < count → SoFar (count - place) front bytes whole → (d.cause ≢ OutOfMemory → read bytes ≡ Err d) → d.cause ≢ OutOfMemory → whole ≡ Err d
-  one_ends count place front bytes d whole lt so_far given no_want =
+  pub one_ends : (count place : ℕ) (front : List B) (bytes : List ℕ) (d : ClassFault) (whole : Result (List B × List ℕ) ClassFault) → place < count → SoFar (count - place) front bytes whole → (d ≢ no_memory → read bytes ≡ Err d) → d ≢ no_memory → whole ≡ Err d
+  one_ends count place front bytes d whole lt so_far given some =
       let k : count - place ≡ suc (count - (place + 1)) = omega arith in
-      whole_err whole d (sym (ap (λ (n : ℕ). on_value (prefixed front) (many_at read n bytes)) k ∙ stopped (count - (place + 1)) front bytes d (given no_want)) ∙ so_far)
+      whole_err whole d (sym (ap (λ (n : ℕ). on_value (prefixed front) (many_at read n bytes)) k ∙ stopped (count - (place + 1)) front bytes d (given some)) ∙ so_far)
 
   ended : (front : List B) (bytes : List ℕ) → on_value (prefixed front) (many_at read 0 bytes) ≡ Ok (front, bytes)
   unfolding many_at
@@ -78,10 +77,10 @@ module _ {B : Type 0} (read : List ℕ → Result (B × List ℕ) ClassFault) wh
   unfolding many_at
   pass_stopped n bytes d e = rw e refl
 
-  pub pass_ends : (count place : ℕ) (bytes : List ℕ) (d : ClassFault) (whole : Result (List ℕ) ClassFault) → place < count → (d.cause ≢ OutOfMemory → read bytes ≡ Err d) → on_value rest_of (many_at read (count - place) bytes) ≡ whole → d.cause ≢ OutOfMemory → whole ≡ Err d
-  pass_ends count place bytes d whole lt given so_far no_want =
+  pub pass_ends : (count place : ℕ) (bytes : List ℕ) (d : ClassFault) (whole : Result (List ℕ) ClassFault) → place < count → (d ≢ no_memory → read bytes ≡ Err d) → on_value rest_of (many_at read (count - place) bytes) ≡ whole → d ≢ no_memory → whole ≡ Err d
+  pass_ends count place bytes d whole lt given so_far some =
       let k : count - place ≡ suc (count - (place + 1)) = omega arith in
-      sym so_far ∙ (ap (λ (n : ℕ). on_value rest_of (many_at read n bytes)) k ∙ pass_stopped (count - (place + 1)) bytes d (given no_want))
+      sym so_far ∙ (ap (λ (n : ℕ). on_value rest_of (many_at read n bytes)) k ∙ pass_stopped (count - (place + 1)) bytes d (given some))
 
   pass_ended : (bytes : List ℕ) → on_value rest_of (many_at read 0 bytes) ≡ Ok bytes
   unfolding many_at
@@ -127,8 +126,8 @@ module _ {A B : Type 0} (f : A → Result B ClassFault) where
   pub each_more : (i : ℕ) (d : A) (front : List B) (xs : List A) (y : B) → i < length xs → f (get_or xs i d) ≡ Ok y → EachSoFar i front xs → EachSoFar (i + 1) (front ++ (y ∷ [])) xs
   each_more i d front xs y lt e so_far = sym (ap (λ (t : List A). on_value (joined_to front) (each f t)) (drop_one xs i d lt) ∙ each_step front (get_or xs i d) (drop (i + 1) xs) y e) ∙ so_far
 
-  pub each_ends : (i : ℕ) (d : A) (front : List B) (xs : List A) (fault : ClassFault) → i < length xs → (fault.cause ≢ OutOfMemory → f (get_or xs i d) ≡ Err fault) → EachSoFar i front xs → fault.cause ≢ OutOfMemory → each f xs ≡ Err fault
-  each_ends i d front xs fault lt given so_far no_want = list_err (each f xs) fault (sym (ap (λ (t : List A). on_value (joined_to front) (each f t)) (drop_one xs i d lt) ∙ each_stopped front (get_or xs i d) (drop (i + 1) xs) fault (given no_want)) ∙ so_far)
+  pub each_ends : (i : ℕ) (d : A) (front : List B) (xs : List A) (fault : ClassFault) → i < length xs → (fault ≢ no_memory → f (get_or xs i d) ≡ Err fault) → EachSoFar i front xs → fault ≢ no_memory → each f xs ≡ Err fault
+  each_ends i d front xs fault lt given so_far some = list_err (each f xs) fault (sym (ap (λ (t : List A). on_value (joined_to front) (each f t)) (drop_one xs i d lt) ∙ each_stopped front (get_or xs i d) (drop (i + 1) xs) fault (given some)) ∙ so_far)
 
   pub each_done : (i : ℕ) (front : List B) (xs : List A) → length xs ≤ i → EachSoFar i front xs → each f xs ≡ Ok front
   each_done i front xs le so_far = list_ok (each f xs) front (sym (ap (λ (t : List A). on_value (joined_to front) (each f t)) (drop_all i xs le) ∙ each_ended front) ∙ so_far)
@@ -157,8 +156,8 @@ module _ {A B : Type 0} (f : A → Result (List B) ClassFault) where
   pub joined_more : (i : ℕ) (d : A) (front : List B) (xs : List A) (ys : List B) → i < length xs → f (get_or xs i d) ≡ Ok ys → JoinedSoFar i front xs → JoinedSoFar (i + 1) (front ++ ys) xs
   joined_more i d front xs ys lt e so_far = sym (ap (λ (t : List A). on_value (joined_to front) (joined f t)) (drop_one xs i d lt) ∙ joined_step front (get_or xs i d) (drop (i + 1) xs) ys e) ∙ so_far
 
-  pub joined_ends : (i : ℕ) (d : A) (front : List B) (xs : List A) (fault : ClassFault) → i < length xs → (fault.cause ≢ OutOfMemory → f (get_or xs i d) ≡ Err fault) → JoinedSoFar i front xs → fault.cause ≢ OutOfMemory → joined f xs ≡ Err fault
-  joined_ends i d front xs fault lt given so_far no_want = list_err (joined f xs) fault (sym (ap (λ (t : List A). on_value (joined_to front) (joined f t)) (drop_one xs i d lt) ∙ joined_stopped front (get_or xs i d) (drop (i + 1) xs) fault (given no_want)) ∙ so_far)
+  pub joined_ends : (i : ℕ) (d : A) (front : List B) (xs : List A) (fault : ClassFault) → i < length xs → (fault ≢ no_memory → f (get_or xs i d) ≡ Err fault) → JoinedSoFar i front xs → fault ≢ no_memory → joined f xs ≡ Err fault
+  joined_ends i d front xs fault lt given so_far some = list_err (joined f xs) fault (sym (ap (λ (t : List A). on_value (joined_to front) (joined f t)) (drop_one xs i d lt) ∙ joined_stopped front (get_or xs i d) (drop (i + 1) xs) fault (given some)) ∙ so_far)
 
   pub joined_done : (i : ℕ) (front : List B) (xs : List A) → length xs ≤ i → JoinedSoFar i front xs → joined f xs ≡ Ok front
   joined_done i front xs le so_far = list_ok (joined f xs) front (sym (ap (λ (t : List A). on_value (joined_to front) (joined f t)) (drop_all i xs le) ∙ joined_ended front) ∙ so_far)

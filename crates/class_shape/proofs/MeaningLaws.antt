@@ -1,5 +1,5 @@
 -- What an index means: what is answered is what the definition says, and the other way round.
-use Rattle.std.proofs.Common.{◌≡◌, ◌≢◌, ℕ, ◌+◌, Bool, true, false, cond, eqb, List, [], ◌∷◌, ◌++◌, length, Option, Some, None, Result, Ok, Err, refl, sym, ap, subst, ◌∙◌, arith}
+use Rattle.std.proofs.Common.{◌≡◌, ℕ, ◌+◌, Bool, true, false, cond, eqb, List, [], ◌∷◌, ◌++◌, Option, Some, None, Result, Ok, Err, refl, sym, ap, subst, ◌∙◌}
 use Rattle.std.specs.Prelude.{MatchOption, IfSome}
 use Rattle.std.specs.List.{AllByRecursion}
 use Rattle.std.specs.Str.{bytes_eq}
@@ -15,7 +15,6 @@ use Rattle.class_pool.specs.Units.{IsText, text_of}
 use Rattle.class_pool.proofs.Codec.{bind_ok, ok_is}
 use Rattle.class_pool.proofs.UnitLaws.{text_again, text_take}
 use Rattle.type_names.specs.Names.{is_internal}
-use Rattle.type_names.specs.Descriptors.{field, IsField, method, IsMethod}
 use Rattle.type_names.specs.Reading.{field_in, method_in}
 use Rattle.type_names.specs.declared.kinds.Erased.{Erased}
 use Rattle.type_names.specs.declared.kinds.MethodKind.{MethodKind}
@@ -27,11 +26,10 @@ use Rattle.class_shape.specs.declared.shapes.MemberKind.{MemberKind}
 use Rattle.class_shape.specs.declared.shapes.MemberKind.TheVariants.{Field, Method}
 use Rattle.class_shape.specs.declared.parts.MemberAt.{MemberAt}
 use Rattle.class_shape.specs.declared.parts.RowAt.{RowAt}
-use Rattle.class_shape.specs.Parts.{Attribute, Member, Row, row, IsRow, Counted, counted, AreRows}
-use Rattle.class_shape.specs.Shapes.{Pairwise, IsClassName, OrNone, IsTextAt, Decodes, IsDescriptor, IsMemberShape, IsInnerRow, inner_classes, SaysOfAttribute, SaysOfAttributes}
+use Rattle.class_shape.specs.Parts.{Attribute, Member, Row, row, counted, AreRows}
+use Rattle.class_shape.specs.Shapes.{Pairwise, IsClassName, OrNone, IsTextAt, IsDescriptor, IsMemberShape, IsInnerRow, inner_classes, SaysOfAttribute, SaysOfAttributes}
 use Rattle.class_shape.specs.Reading.{counted_at, row_at, AttributeSeen}
 use Rattle.class_shape.specs.Meaning.{needed, text_use, class_use, internal, spelled, class_name, plain_name, given, or_none, is_given, is_descriptor, well_formed, member_shape, row_shape, each, joined, rows_to_end, rows_in, inner_rows, attribute_rows}
-use Rattle.class_shape.proofs.SeenCodec.{Seen}
 use Rattle.class_shape.proofs.FileLaws.{SameMember, SameRow, SameAttribute, GoodAttribute, rows_codec}
 
 abbrev some : {A : Type 0} → A → Option A

@@ -1,13 +1,12 @@
 -- Reading parts that carry places: what is read is spelled so but for its places, and what is spelled so is read.
-use Rattle.std.proofs.Common.{◌≡◌, ℕ, zero, suc, ◌+◌, ◌<◌, List, [], ◌∷◌, ◌++◌, length, Result, Ok, Err, refl, sym, ap, subst, ◌∙◌, append_assoc, arith}
-use Rattle.std.specs.Prelude.{⊤}
+use Rattle.std.proofs.Common.{◌≡◌, ℕ, zero, suc, List, [], ◌∷◌, ◌++◌, length, Result, Ok, refl, sym, ap, subst, ◌∙◌, append_assoc, arith}
 use Rattle.std.specs.List.{flat_map, AllByRecursion}
 use Rattle.std.proofs.lemmas.List.Concat.{flat_map-cons}
 use Rattle.byteorder.specs.Endian.{big_bytes}
 use Rattle.class_pool.specs.declared.fault.ClassFault.{ClassFault}
-use Rattle.class_pool.specs.Reading.{IsBytes, ◌>>=◌, number_at}
+use Rattle.class_pool.specs.Reading.{IsBytes, ◌>>=◌}
 use Rattle.class_pool.proofs.Codec.{Takes, Takes-then, bind_ok, ok_is, step, number_2}
-use Rattle.class_shape.specs.Parts.{counted, Counted, IsShort}
+use Rattle.class_shape.specs.Parts.{counted, Counted}
 use Rattle.class_shape.specs.Shapes.{Pairwise}
 use Rattle.class_shape.specs.Reading.{many_at, counted_at}
 

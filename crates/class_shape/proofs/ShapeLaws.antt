@@ -1,16 +1,16 @@
 -- The whole file: what is read is a class file of the shape, a class file is read, and no other shape fits.
-use Rattle.std.proofs.Common.{◌≡◌, ◌≢◌, ℕ, ◌+◌, ◌-◌, ◌≤◌, List, [], ◌∷◌, ◌++◌, length, drop, Option, Some, None, Result, Ok, Err, refl, sym, ap, subst, ◌∙◌, arith}
+use Rattle.std.proofs.Common.{◌≡◌, ◌≢◌, ℕ, ◌+◌, ◌≤◌, List, ◌++◌, length, drop, Some, None, Result, Ok, Err, refl, sym, ap, subst, ◌∙◌, arith}
 use Rattle.std.specs.Prelude.{IfOk, IfErr, ◌↔◌}
 use Rattle.std.proofs.lemmas.List.{length-append, drop_at}
 use Rattle.class_pool.specs.declared.fault.ClassFault.{ClassFault}
 use Rattle.class_pool.specs.declared.fault.ClassCause.TheVariants.{OutOfMemory}
-use Rattle.class_pool.specs.Spelling.{Entry, Head, head, front, entries, IsHead, IsPoolOf}
+use Rattle.class_pool.specs.Spelling.{Entry, Head, head, front, entries, IsPoolOf}
 use Rattle.class_pool.specs.Reading.{IsBytes, ◌>>=◌, head_at, head_read, Gives}
 use Rattle.class_pool.proofs.Codec.{bind_ok, ok_is, step}
 use Rattle.class_pool.proofs.Heads.{head_codec}
 use Rattle.class_shape.specs.declared.shapes.ClassShape.{ClassShape}
 use Rattle.class_shape.specs.declared.shapes.MemberKind.TheVariants.{Field, Method}
-use Rattle.class_shape.specs.Parts.{Body, body, IsBody, IsFile}
+use Rattle.class_shape.specs.Parts.{Body, body}
 use Rattle.class_shape.specs.Shapes.{IsClassName, OrNone, Pairwise, IsMemberShape, SaysOfAttributes, Says, IsClassFile}
 use Rattle.class_shape.specs.Reading.{BodySeen, ListsSeen, body_at}
 use Rattle.class_shape.specs.Meaning.{class_name, or_none, own_names, OwnNames, list_shapes, ListShapes, shape_of, each, joined, index_name, member_shape, attribute_rows}
@@ -18,7 +18,7 @@ use Rattle.class_shape.specs.Violations.{shape_read, fault_in, first_violation}
 use Rattle.class_shape.specs.declared.parts.IndexAt.{IndexAt}
 use Rattle.class_shape.specs.declared.parts.OwnAt.{OwnAt}
 use Rattle.class_shape.specs.Parts.{Own, Lists}
-use Rattle.class_shape.proofs.FileLaws.{SameIndex, SameOwn, SameLists, SameBody, GoodLists, WholeBody, body_takes, body_again}
+use Rattle.class_shape.proofs.FileLaws.{SameIndex, SameOwn, SameLists, SameBody, GoodLists, body_takes, body_again}
 use Rattle.class_shape.proofs.MeaningLaws.{class_name_ok, class_name_again, or_none_ok, or_none_again, each_ok, each_again, members_ok, members_back, attributes_ok, attributes_back}
 
 index_ok : (es : List Entry) (v : IndexAt) (n : ℕ) (name : List ℕ) → SameIndex v n → index_name es v ≡ Ok name → IsClassName es n name
@@ -143,7 +143,7 @@ is_only bytes r s c given = subst (λ (x : Result ClassShape ClassFault). Gives 
 
 pub is_first : (bytes : List ℕ) (r : Result ClassShape ClassFault) → Gives (λ x. x) r (shape_read bytes) → IfErr r (λ fault. fault.cause ≢ OutOfMemory → first_violation bytes ≡ Some fault)
 is_first bytes (Ok s) given = tt
-is_first bytes (Err d) given = λ no_want. ap fault_in (given no_want)
+is_first bytes (Err d) given = λ some. ap fault_in (given (λ e. some (ap (λ (f : ClassFault). f.cause) e)))
 
 fault_is : (r : Result ClassShape ClassFault) (d : ClassFault) → fault_in r ≡ Some d → r ≡ Err d
 fault_is (Ok s) d e = absurd cc

@@ -3,4 +3,5 @@ pub mod Shapes
 pub mod Reading
 pub mod Meaning
 pub mod Violations
+pub mod Layout
 pub mod Views

@@ -1,6 +1,6 @@
 -- Reading the parts after the pool from left to right, each index with its place in the file. A place is the length of
 -- the file, less the bytes that are left.
-use Rattle.std.specs.Prelude.{◌≡◌, ℕ, zero, suc, ◌-◌, Bool, true, false, List, [], ◌∷◌, ◌++◌, length, Result, Ok, Err, ◌==◌}
+use Rattle.std.specs.Prelude.{ℕ, zero, suc, ◌-◌, List, [], ◌∷◌, length, Result, Ok, Err, ◌==◌}
 use Rattle.class_pool.specs.declared.fault.ClassFault.{ClassFault}
 use Rattle.class_pool.specs.declared.fault.ClassCause.TheVariants.{Extra}
 use Rattle.class_pool.specs.Reading.{◌>>=◌, number_at, block_at, need}

@@ -1,5 +1,5 @@
 -- What a class file says: its names and descriptors, through the pool. No place of the file stands here.
-use Rattle.std.specs.Prelude.{◌≡◌, ◌≢◌, ℕ, zero, suc, true, List, [], ◌∷◌, ◌++◌, Option, Some, None, MatchOption, IfSome, ⊤}
+use Rattle.std.specs.Prelude.{◌≡◌, ◌≢◌, ℕ, true, List, [], ◌∷◌, ◌++◌, Option, Some, None, MatchOption, IfSome, ⊤}
 use Rattle.class_pool.specs.Spelling.{Entry, Head}
 use Rattle.class_pool.specs.Index.{text_in, name_in}
 use Rattle.class_pool.specs.Units.{IsText}

@@ -1,6 +1,8 @@
 -- The first violation of a class file.
-use Rattle.std.specs.Prelude.{◌≡◌, ℕ, List, length, Option, Some, None, Result, Ok, Err}
+use Rattle.std.specs.Prelude.{ℕ, List, length, Option, Some, None, Result, Ok, Err, ⊤}
 use Rattle.class_pool.specs.declared.fault.ClassFault.{ClassFault}
+use Rattle.class_pool.specs.declared.fault.ClassCause.{ClassCause}
+use Rattle.class_pool.specs.declared.fault.ClassCause.TheVariants.{Truncated, Magic, Version, Tag, Place, Extra, Descriptor, Name, Attribute, OutOfMemory}
 use Rattle.class_pool.specs.Reading.{◌>>=◌, head_at}
 use Rattle.class_shape.specs.declared.shapes.ClassShape.{ClassShape}
 use Rattle.class_shape.specs.Reading.{body_at}
@@ -20,3 +22,29 @@ fault_in (Err e) = Some e
 -- The first fault in the order of the two passes, or None.
 abbrev pub first_violation : List ℕ → Option ClassFault
 first_violation bytes = fault_in (shape_read bytes)
+
+-- The causes of the first pass: the bytes aren't the parts of a class file, end to end.
+abbrev pub IsLayoutCause : ClassCause → Type 0
+IsLayoutCause Truncated = ⊤
+IsLayoutCause Magic = ⊤
+IsLayoutCause Version = ⊤
+IsLayoutCause Tag = ⊤
+IsLayoutCause Place = ⊥
+IsLayoutCause Extra = ⊤
+IsLayoutCause Descriptor = ⊥
+IsLayoutCause Name = ⊥
+IsLayoutCause Attribute = ⊥
+IsLayoutCause OutOfMemory = ⊥
+
+-- The causes of the second pass: a used index, or what it names, doesn't serve for its use.
+abbrev pub IsMeaningCause : ClassCause → Type 0
+IsMeaningCause Truncated = ⊥
+IsMeaningCause Magic = ⊥
+IsMeaningCause Version = ⊥
+IsMeaningCause Tag = ⊥
+IsMeaningCause Place = ⊤
+IsMeaningCause Extra = ⊥
+IsMeaningCause Descriptor = ⊤
+IsMeaningCause Name = ⊤
+IsMeaningCause Attribute = ⊤
+IsMeaningCause OutOfMemory = ⊥

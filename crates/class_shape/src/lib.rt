@@ -13,7 +13,7 @@ mod reader;
 mod shapes;
 mod texts;
 
-pub use laws::{fits_or_faults, one_shape};
+pub use laws::{fits_or_faults, layout_laws, one_shape};
 pub use reader::read_class;
 pub use shapes::{ClassShape, InnerRow, MemberKind, MemberShape};
 

@@ -9,7 +9,7 @@ use crate::lists_read::counted_rows;
 use crate::meaning::{class_name, fault, member_shape, row_shape, text_use};
 use crate::parts::{AttributeAt, IndexAt, MemberAt, RowAt};
 use crate::shapes::{InnerRow, MemberKind, MemberShape};
-use class_pool::{ClassCause, ClassFault, Pool};
+use class_pool::{ClassCause, ClassFault, Pool, no_memory};
 use lists::{Items, Text};
 use std::alloc::Global;
 
@@ -70,10 +70,12 @@ fn rows_in(alloc: Global, len_at: u32, end: u32, body: &[u8]) -> Result<Vec<RowA
             }
             Ok(rows)
         }
-        Err(error) => match error.cause {
-            ClassCause::OutOfMemory => Err(error),
-            _ => Err(fault(len_at, ClassCause::Attribute)),
-        },
+        Err(error) => {
+            if error == no_memory() {
+                return Err(error);
+            }
+            Err(fault(len_at, ClassCause::Attribute))
+        }
     }
 }
 

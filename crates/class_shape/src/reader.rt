@@ -13,8 +13,8 @@ use crate::lists_meant::{all_rows, class_names, member_shapes};
 use crate::lists_read::{Body, body_of};
 use crate::meaning::{class_name, class_or_none};
 use crate::shapes::{ClassShape, MemberKind};
-use crate::texts::{are_texts_within, too_much_text};
-use class_pool::{ClassFault, Pool, read_pool};
+use crate::texts::are_texts_within;
+use class_pool::{ClassFault, Pool, no_memory, read_pool};
 use std::alloc::Global;
 
 /// What the used indices of a body mean, in file order.
@@ -59,7 +59,7 @@ fn shape_in(alloc: Global, bytes: &[u8]) -> Result<ClassShape, ClassFault>
     let rest = after_pool(&pool, bytes);
     let body = body_of(alloc, bytes.len() as u32, rest)?;
     if !are_texts_within(&pool, &body, bytes.len()) {
-        return Err(too_much_text());
+        return Err(no_memory());
     }
     shape_of(alloc, &pool, &body)
 }
@@ -80,6 +80,8 @@ pub fn read_class(alloc: Global, bytes: &[u8]) -> Result<ClassShape, ClassFault>
     ensures first { IfErr result (λ fault. fault.cause ≢ OutOfMemory → first_violation bytes.now ≡ Some fault) }
     // Every violation is answered, unless memory runs out.
     ensures refused { (fault : ClassFault) → first_violation bytes.now ≡ Some fault → Gives (λ s. s) result (Err fault) }
+    // Want of memory has no place.
+    ensures memory { IfErr result (λ fault. fault.cause ≡ OutOfMemory → fault.at ≡ 0) }
 {
     shape_in(alloc, bytes)
 }

@@ -9,6 +9,14 @@ const A: [u8; 53] = [
     0x21, 0, 1, 0, 3, 0, 0, 0, 0, 0, 0, 0, 0,
 ];
 
+/// The class of `A` behind a Long at places 1 and 2. The Class entry at place 3, which is this class, names
+/// place 2, the second one of the Long.
+const LONG: [u8; 62] = [
+    0xCA, 0xFE, 0xBA, 0xBE, 0, 0, 0, 0x34, 0, 7, 5, 0, 0, 0, 0, 0, 0, 0, 0, 7, 0, 2, 1, 0, 1, 0x41,
+    7, 0, 4, 1, 0, 0x10, 0x6A, 0x61, 0x76, 0x61, 0x2F, 0x6C, 0x61, 0x6E, 0x67, 0x2F, 0x4F, 0x62,
+    0x6A, 0x65, 0x63, 0x74, 0, 0x21, 0, 3, 0, 3, 0, 0, 0, 0, 0, 0, 0, 0,
+];
+
 /// A run of places of `A`, and the fault where one of these bytes is changed. At all other places the
 /// changed file is read.
 type Run = (usize, usize, u32, ClassCause);
@@ -176,6 +184,7 @@ fn uses_are_followed_in_file_order(rt: HostRuntime) -> Result<(), Fail> {
         change(&mut bytes, place, value);
         assert!(rt; has(&read_class(rt.alloc(), &bytes), at, cause));
     }
+    assert!(rt; has(&read_class(rt.alloc(), &LONG), 20, ClassCause::Place));
     for (place, value) in READ {
         let mut bytes = B;
         change(&mut bytes, place, value);

@@ -1,21 +1,8 @@
-ghost use Rattle.std.specs.Prelude.{◌≡◌};
-ghost use Rattle.class_pool.specs.declared.fault.ClassCause.TheVariants.{OutOfMemory};
-
 use crate::lists_meant::is_inner_classes;
 use crate::lists_read::Body;
 use crate::parts::{AttributeAt, IndexAt, MemberAt};
 use byteorder::{BigEndian, ByteOrder};
-use class_pool::{ClassCause, ClassFault, Pool};
-
-/// The answer to a file whose shape would hold too much text.
-pub fn too_much_text() -> ClassFault
-    ensures { result.cause ≡ OutOfMemory }
-{
-    ClassFault {
-        at: 0,
-        cause: ClassCause::OutOfMemory,
-    }
-}
+use class_pool::Pool;
 
 /// Whether the texts of a shape are together at most sixteen times as long as the file and 64 MiB. A
 /// file can name one long text many times, so that its shape would be tens of thousands of times as long;

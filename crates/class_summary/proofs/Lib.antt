@@ -1,4 +1,5 @@
 pub mod Bounds
+pub mod Canonical
 pub mod CalledEnds
 pub mod CalledTexts
 pub mod CalledPlaces
@@ -13,4 +14,4 @@ pub mod Searches
 pub mod Sources
 pub mod Steps
 pub mod Tables
-pub mod Totals
+pub mod Ways

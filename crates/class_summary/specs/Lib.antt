@@ -7,3 +7,4 @@ pub mod Variables
 pub mod Outwards
 pub mod Names
 pub mod SourceSummaries
+pub mod Laws

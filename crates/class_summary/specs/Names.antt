@@ -10,10 +10,9 @@ use Rattle.java_units.specs.declared.types.SourceClass.{SourceClass}
 use Rattle.java_units.specs.declared.types.Unit as unit
 use Rattle.class_summary.specs.Known.{class_named, class_called, canonical, lesser, outer_in, simple_in}
 use Rattle.class_summary.specs.Sources.{followed, joined, name_at, around, internal_name, canonical_name}
-use Rattle.class_summary.specs.Variables.{end_of, scopes_at}
+use Rattle.class_summary.specs.Variables.{End, end_of, scopes_at}
 use Rattle.class_summary.specs.declared.summary.ClassSummary.{ClassSummary}
 use Rattle.class_summary.specs.declared.summary.Nesting.{Nesting}
-use Rattle.class_summary.specs.declared.variables.End.{End}
 use Rattle.class_summary.specs.declared.rules.Denoted.{Denoted}
 use Rattle.class_summary.specs.declared.rules.Denoted.TheVariants.{Own, Other}
 

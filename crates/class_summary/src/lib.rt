@@ -7,6 +7,7 @@
 mod called;
 mod classes;
 mod known;
+mod laws;
 mod merged;
 mod naming;
 mod paths;
@@ -17,6 +18,7 @@ mod summary;
 mod variables;
 
 pub use classes::Classes;
+pub use laws::canonical_names;
 pub use merged::Merged;
 pub use naming::resolve_name;
 pub use paths::{canonical_name, internal_name};

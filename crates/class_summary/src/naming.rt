@@ -1,4 +1,5 @@
 ghost use Rattle.std.specs.Prelude.{◌≡◌, ◌+◌, ◌<◌, ◌^◌, length, IfOk};
+ghost use Rattle.std.specs.Option.{option_copied};
 ghost use Rattle.java_units.specs.UnitLaws.{IsNested};
 ghost use Rattle.java_units.specs.Dimensions.{dims_of_bounds};
 ghost use Rattle.class_summary.specs.Names.{internal_of, simple_class, canonical_of, member_class, dotted_class, in_package_else, class_of_name, primitive, primitive_of, base_of, denoted_type};
@@ -8,9 +9,9 @@ use crate::classes::Classes;
 use crate::known::canonical;
 use crate::paths::{canonical_name, follow, joined};
 use crate::rules::{Denoted, class_with, internal_of, is, joined_with, simple_class, spelled};
-use crate::variables::{End, end_of, scopes_at};
+use crate::variables::{end_of, scopes_at};
 use java_units::{TypeText, Unit};
-use lists::{Copies, Items, Text};
+use lists::{Copies, Text};
 use std::alloc::{AllocError, Global};
 use type_names::{Base, Erased};
 
@@ -151,17 +152,17 @@ fn base_of<C: Classes>(
     unit: &Unit,
     class: usize,
     known: &C,
-    parts: &Option<Items<Text>>,
+    parts: Option<&[Text]>,
 ) -> Result<Base, AllocError>
-    ensures { IfOk result (λ base. base ≡ base_of unit.now class (C.listed known.now) parts.now) }
+    ensures { IfOk result (λ base. base ≡ base_of unit.now class (C.listed known.now) (option_copied parts.entry)) }
 {
     let Some(parts) = parts else {
         return Ok(Base::Class(Text::from_str(alloc, "java/lang/Object")?));
     };
-    if let Some(base) = primitive_of(parts.as_slice()) {
+    if let Some(base) = primitive_of(parts) {
         return Ok(base);
     }
-    let found = class_of_name(alloc, unit, class, known, parts.as_slice())?;
+    let found = class_of_name(alloc, unit, class, known, parts)?;
     Ok(Base::Class(internal_of(alloc, unit, &found)?))
 }
 
@@ -189,8 +190,8 @@ pub fn resolve_at<C: Classes>(
     ensures { IfOk result (λ kind. kind ≡ denoted_type unit.now class method name.now (C.listed known.now)) }
 {
     let scopes = scopes_at(alloc, unit.classes.as_slice(), class, method)?;
-    let end = end_of(alloc, scopes, class, name)?;
-    let base = base_of(alloc, unit, end.class, known, &end.parts)?;
+    let end = end_of(scopes.as_slice(), class, name)?;
+    let base = base_of(alloc, unit, end.class, known, end.parts)?;
     Ok(Erased {
         dims: end.dims,
         base,

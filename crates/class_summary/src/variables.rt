@@ -1,243 +1,221 @@
-ghost use Rattle.std.specs.Prelude.{◌≡◌, ◌+◌, ◌<◌, ◌^◌, map, reverse, IfOk};
-ghost use Rattle.java_units.specs.Dimensions.{bound_dims};
-ghost use Rattle.class_summary.specs.Variables.{bound_of, without_bound, variable_in, variable_of, end_of, over_scopes, class_scope, method_scope, scopes_at, IsPlaceOfVar, IsMet};
+ghost use Rattle.std.specs.Prelude.{◌≡◌, ◌-◌, ◌<◌, ◌≤◌, ◌++◌, suc, length, drop, map, Some, None, IfOk, IfSome, MatchOption};
+ghost use Rattle.std.specs.Option.{option_copied, option_map};
+ghost use Rattle.class_summary.specs.Variables.{Scope, bound_of, variable_in, variable_of, variables, end_at, end_of, class_scope, method_scope, scopes_at};
 
 use crate::paths::around;
 use java_units::{SourceClass, TypeText, TypeVar};
-use lists::{Copies, Items, Text, at, copy_all};
+use lists::{Text, at};
 use std::alloc::{AllocError, Global};
+use std::marker::Model;
 
-/// Type variables with the class at which they are declared.
+/// The type variables that a class or a method declares, with the number of that class.
 #[derive(Drop)]
-pub struct Scope {
-    pub class: usize,
-    pub vars: Items<TypeVar>,
+pub struct Declared<'a> {
+    class: usize,
+    vars: &'a [TypeVar],
+}
+
+impl<'a> Model for Declared<'a> {
+    ghost use Rattle.class_summary.specs.Variables.{Scope};
+
+    ghost Value = { Scope };
+
+    ghost view = { λ d. record { class = d.class; vars = d.vars.now } };
+}
+
+impl<'a> Declared<'a> {
+    fn class(&self) -> usize
+        ensures { result ≡ self.now.class }
+    {
+        self.class
+    }
+
+    fn vars(&self) -> &'a [TypeVar]
+        ensures { result.now ≡ self.now.vars }
+    {
+        self.vars
+    }
 }
 
 /// Where a type ends after the bounds of its variables: its dimensions, the class at which its last name
 /// stands, and the parts of that name, or None for `java/lang/Object`.
 #[derive(Drop)]
-pub struct End {
+pub struct Ending<'a> {
     pub dims: u64,
     pub class: usize,
-    pub parts: Option<Items<Text>>,
+    pub parts: Option<&'a [Text]>,
 }
 
-/// A variable that was found: the class at which it is declared, and its bound.
+/// A variable that was found: the place of its scope, the class at which it is declared, and its bound.
 #[derive(Drop)]
-struct Met {
+struct Met<'a> {
+    level: usize,
     class: usize,
-    bound: Option<TypeText>,
+    bound: Option<&'a TypeText>,
 }
 
-fn copy_bound(alloc: Global, bound: &Option<TypeText>) -> Result<Option<TypeText>, AllocError>
-    ensures { IfOk result (λ copy. copy ≡ bound.now) }
-{
-    let Some(bound) = bound else {
-        return Ok(None);
-    };
-    Ok(Some(TypeText {
-        parts: copy_all(alloc, &bound.parts)?,
-        dims: bound.dims,
-    }))
-}
-
-fn copy_var(alloc: Global, var: &TypeVar) -> Result<TypeVar, AllocError>
-    ensures { IfOk result (λ copy. copy ≡ var.now) }
-{
-    Ok(TypeVar {
-        name: var.name.copy(alloc)?,
-        bound: copy_bound(alloc, &var.bound)?,
-    })
-}
-
-fn copy_vars(alloc: Global, vars: &[TypeVar]) -> Result<Items<TypeVar>, AllocError>
-    ensures { IfOk result (λ copies. copies ≡ vars.now) }
-{
-    let mut copies = Items::new(alloc);
-    for i in 0..vars.len() {
-        copies.push(copy_var(alloc, &vars[i])?)?;
-    }
-    Ok(copies)
-}
-
-/// The place of the first variable with this name.
-fn place_of(vars: &[TypeVar], name: &Text) -> Option<usize>
-    ensures { IsPlaceOfVar name.now vars.now result }
+/// The first variable with this name.
+fn variable_named<'a>(vars: &'a [TypeVar], name: &Text) -> Option<&'a TypeVar>
+    ensures { option_map (λ v. v.now.bound) result ≡ bound_of name.now vars.now }
 {
     for i in 0..vars.len() {
-        if name.same(&vars[i].name) {
-            return Some(i);
+        let var = &vars[i];
+        if name.same(&var.name) {
+            return Some(var);
         }
     }
     None
 }
 
-/// Takes the bound of the first variable with this name: None where there is no such variable.
-fn take_bound(
-    alloc: Global,
-    scope: &mut Scope,
-    name: &Text,
-) -> Result<Option<Option<TypeText>>, AllocError>
-    ensures bound { IfOk result (λ bound. bound ≡ bound_of name.now scope.old.vars) }
-    ensures rest { IfOk result (λ bound. scope.new ≡ record { class = scope.old.class; vars = without_bound name.now scope.old.vars }) }
+/// The variable with this name in the first scope from a place on that declares one.
+fn variable_in<'a>(scopes: &[Declared<'a>], from: usize, name: &Text) -> Option<Met<'a>>
+    ensures { MatchOption result (variable_in name.now (drop from scopes.now) ≡ None) (λ m. variable_in name.now (drop from scopes.now) ≡ Some (record { bound = option_copied m.bound; class = m.class; scopes = drop m.level scopes.now })) }
 {
-    let Some(place) = place_of(scope.vars.as_slice(), name) else {
-        return Ok(None);
-    };
-    let var = &scope.vars.as_slice()[place];
-    let bound = copy_bound(alloc, &var.bound)?;
-    let bare = TypeVar {
-        name: var.name.copy(alloc)?,
-        bound: None,
-    };
-    scope.vars.set(place, bare);
-    Ok(Some(bound))
-}
-
-/// The variable with this name in the last scope that declares one, which then stands last and in which the
-/// variable has no bound any more.
-fn variable_in(
-    alloc: Global,
-    scopes: &mut Vec<Scope>,
-    name: &Text,
-) -> Result<Option<Met>, AllocError>
-    ensures { IfOk result (λ met. IsMet met (variable_in name.now (reverse scopes.old.items)) (reverse scopes.new.items)) }
-{
-    while let Some(mut scope) = scopes.pop() {
-        let Some(bound) = take_bound(alloc, &mut scope, name)? else {
+    for i in from..scopes.len() {
+        let scope = &scopes[i];
+        let Some(var) = variable_named(scope.vars(), name) else {
             continue;
         };
-        let class = scope.class;
-        scopes.push(scope)?;
-        return Ok(Some(Met { class, bound }));
+        return Some(Met {
+            level: i,
+            class: scope.class(),
+            bound: var.bound.as_ref(),
+        });
     }
-    Ok(None)
+    None
 }
 
 /// The variable that a type is, where it is a single name.
 #[tactic(auto, unfolding(crate::specs::Variables::variable_of))]
-fn variable_of(
-    alloc: Global,
-    scopes: &mut Vec<Scope>,
-    parts: &[Text],
-) -> Result<Option<Met>, AllocError>
-    ensures { IfOk result (λ met. IsMet met (variable_of parts.now (reverse scopes.old.items)) (reverse scopes.new.items)) }
+fn variable_of<'a>(scopes: &[Declared<'a>], from: usize, parts: &[Text]) -> Option<Met<'a>>
+    ensures { MatchOption result (variable_of parts.now (drop from scopes.now) ≡ None) (λ m. variable_of parts.now (drop from scopes.now) ≡ Some (record { bound = option_copied m.bound; class = m.class; scopes = drop m.level scopes.now })) }
 {
     match parts {
-        [name] => variable_in(alloc, scopes, name),
-        _ => Ok(None),
+        [name] => variable_in(scopes, from, name),
+        _ => None,
     }
 }
 
-/// Where a type ends through the bounds of its variables. The scopes stand from the outermost inwards.
-pub fn end_of(
-    alloc: Global,
-    mut scopes: Vec<Scope>,
-    class: usize,
-    kind: &TypeText,
-) -> Result<End, AllocError>
-    requires { kind.now.dims + over_scopes bound_dims (reverse scopes.items) < 2 ^ 64 }
-    ensures { IfOk result (λ end. end ≡ end_of (reverse scopes.items) class kind.now) }
+/// How many variables the scopes declare, and one more; None where that can't be counted.
+fn most_steps(scopes: &[Declared<'_>]) -> Option<usize>
+    ensures { IfSome result (λ n. n ≡ suc (variables scopes.now)) }
 {
-    let mut here = class;
-    let mut dims = kind.dims;
-    let mut parts = copy_all(alloc, &kind.parts)?;
-    'bounds: loop {
-        let Some(met) = variable_of(alloc, &mut scopes, parts.as_slice())? else {
-            return Ok(End {
-                dims,
-                class: here,
-                parts: Some(parts),
-            });
-        };
-        let Met { class, bound } = met;
-        let Some(bound) = bound else {
-            return Ok(End {
-                dims,
-                class,
-                parts: None,
-            });
-        };
-        let TypeText {
-            parts: more,
-            dims: own,
-        } = bound;
-        here = class;
-        dims += own;
-        parts = more;
+    let mut count = 1usize;
+    for i in 0..scopes.len() {
+        count = count.checked_add(scopes[i].vars().len())?;
     }
+    Some(count)
+}
+
+/// The sum of dimensions, where it fits.
+fn more_dims(dims: Option<u64>, own: u64) -> Option<u64>
+    ensures { IfSome result (λ sum. (own ≤ sum) × (dims ≡ Some (sum - own))) }
+{
+    dims?.checked_add(own)
+}
+
+/// An end with these dimensions; want of memory where they don't fit.
+fn ended<'a>(
+    dims: Option<u64>,
+    class: usize,
+    parts: Option<&'a [Text]>,
+) -> Result<Ending<'a>, AllocError>
+    ensures { IfOk result (λ end. (dims ≡ Some end.dims) × (end.class ≡ class) × (option_copied end.parts ≡ option_copied parts.entry)) }
+{
+    let Some(dims) = dims else {
+        return Err(AllocError);
+    };
+    Ok(Ending { dims, class, parts })
+}
+
+/// Where a type ends through the bounds of its variables; want of memory also where the variables or the
+/// dimensions are too many to be counted.
+pub fn end_of<'a>(
+    scopes: &[Declared<'a>],
+    class: usize,
+    kind: &'a TypeText,
+) -> Result<Ending<'a>, AllocError>
+    ensures { IfOk result (λ end. end_at end.dims end.class (option_copied end.parts) ≡ end_of scopes.now class kind.now) }
+{
+    let Some(steps) = most_steps(scopes) else {
+        return Err(AllocError);
+    };
+    let mut level: usize = 0;
+    let mut here = class;
+    let mut dims = Some(kind.dims);
+    let mut parts = kind.parts.as_slice();
+    for _step in 0..steps {
+        let Some(met) = variable_of(scopes, level, parts) else {
+            return ended(dims, here, Some(parts));
+        };
+        let Some(bound) = met.bound else {
+            return ended(dims, met.class, None);
+        };
+        level = met.level;
+        here = met.class;
+        dims = more_dims(dims, bound.dims);
+        parts = bound.parts.as_slice();
+    }
+    ended(Some(kind.dims), class, None)
 }
 
 /// The variables that the class number i declares.
-fn class_scope(alloc: Global, classes: &[SourceClass], class: usize) -> Result<Scope, AllocError>
-    ensures { IfOk result (λ scope. scope ≡ class_scope classes.now class) }
+fn class_scope(classes: &[SourceClass], class: usize) -> Declared<'_>
+    ensures { result ≡ class_scope classes.now class }
 {
-    let Some(declared) = at(classes, class) else {
-        return Ok(Scope {
+    match at(classes, class) {
+        Some(declared) => Declared {
             class,
-            vars: Items::new(alloc),
-        });
-    };
-    let vars = copy_vars(alloc, declared.vars.as_slice())?;
-    Ok(Scope { class, vars })
+            vars: declared.vars.as_slice(),
+        },
+        None => Declared { class, vars: &[] },
+    }
 }
 
 /// The variables that a method of the class number i declares.
-fn method_scope(
-    alloc: Global,
-    classes: &[SourceClass],
-    class: usize,
-    method: usize,
-) -> Result<Scope, AllocError>
-    ensures { IfOk result (λ scope. scope ≡ method_scope classes.now class method) }
+fn method_scope(classes: &[SourceClass], class: usize, method: usize) -> Declared<'_>
+    ensures { result ≡ method_scope classes.now class method }
 {
     let Some(declared) = at(classes, class) else {
-        return Ok(Scope {
-            class,
-            vars: Items::new(alloc),
-        });
+        return Declared { class, vars: &[] };
     };
-    let Some(method) = at(declared.methods.as_slice(), method) else {
-        return Ok(Scope {
+    match at(declared.methods.as_slice(), method) {
+        Some(method) => Declared {
             class,
-            vars: Items::new(alloc),
-        });
-    };
-    let vars = copy_vars(alloc, method.vars.as_slice())?;
-    Ok(Scope { class, vars })
+            vars: method.vars.as_slice(),
+        },
+        None => Declared { class, vars: &[] },
+    }
 }
 
-/// The scopes of these classes.
-fn class_scopes(
-    alloc: Global,
-    classes: &[SourceClass],
+/// These scopes, and then those of these classes.
+fn with_classes<'a>(
+    mut scopes: Vec<Declared<'a>>,
+    classes: &'a [SourceClass],
     numbers: &[usize],
-) -> Result<Vec<Scope>, AllocError>
-    ensures { IfOk result (λ scopes. scopes.items ≡ map (class_scope classes.now) numbers.now) }
+) -> Result<Vec<Declared<'a>>, AllocError>
+    ensures { IfOk result (λ all. all.items ≡ scopes.entry.items ++ map (class_scope classes.now) numbers.now) }
 {
-    let mut scopes = Vec::new(alloc);
     for i in 0..numbers.len() {
-        scopes.push(class_scope(alloc, classes, numbers[i])?)?;
+        scopes.push(class_scope(classes, numbers[i]))?;
     }
     Ok(scopes)
 }
 
-/// The scopes at a class, or at a method of it, from the outermost inwards.
-pub fn scopes_at(
+/// The scopes at a class, or at a method of it, from the innermost outwards.
+pub fn scopes_at<'a>(
     alloc: Global,
-    classes: &[SourceClass],
+    classes: &'a [SourceClass],
     class: usize,
     method: Option<usize>,
-) -> Result<Vec<Scope>, AllocError>
-    ensures { IfOk result (λ scopes. reverse scopes.items ≡ scopes_at classes.now class method) }
+) -> Result<Vec<Declared<'a>>, AllocError>
+    ensures { IfOk result (λ scopes. scopes.items ≡ scopes_at classes.now class method) }
 {
-    let mut numbers = around(alloc, classes, class)?;
-    numbers.reverse();
-    let mut scopes = class_scopes(alloc, classes, numbers.as_slice())?;
+    let numbers = around(alloc, classes, class)?;
+    let mut first = Vec::new(alloc);
     let Some(method) = method else {
-        return Ok(scopes);
+        return with_classes(first, classes, numbers.as_slice());
     };
-    scopes.push(method_scope(alloc, classes, class, method)?)?;
-    Ok(scopes)
+    first.push(method_scope(classes, class, method))?;
+    with_classes(first, classes, numbers.as_slice())
 }

@@ -1,5 +1,5 @@
 -- Maps from keys to counts.
-use Rattle.std.proofs.Common.{◌≡◌, ℕ, ◌+◌, ◌<◌, ◌≤◌, Bool, true, false, cond, List, [], ◌∷◌, ◌++◌, length, map, get_or, take, arith, Option, Some, None, refl, sym, ap, subst, ◌∙◌, bytes_eq}
+use Rattle.std.proofs.Common.{◌≡◌, ℕ, ◌+◌, ◌<◌, ◌≤◌, Bool, true, false, cond, List, [], ◌∷◌, ◌++◌, length, map, get_or, take, arith, Option, Some, None, Less, refl, sym, ap, subst, ◌∙◌, bytes_eq}
 use Rattle.std.specs.Prelude.{String, string_bytes, string_cmp, unwrap_or}
 use Rattle.std.specs.List.{AllZip}
 use Rattle.std.specs.BTreeMap.{BTreeMap, UpdatesBy, is_at, get_by_text}
@@ -9,11 +9,14 @@ use Rattle.std.specs.Ordering.{nat_cmp, is_eq}
 use Rattle.std.proofs.lemmas.Cmp.{nat_list_eq_equiv}
 use Rattle.std.proofs.lemmas.List.{take_more, take_all}
 use Rattle.std.proofs.lemmas.Map.Text.{btree_map_updates_text, is_eq-slice_cmp}
-use Rattle.decl_index.specs.History.{Name, Rises, IsState, or_else, counted, use_of, use_in, class_in, decided}
+use Rattle.decl_index.specs.History.{Name, order, Rises, IsState, or_else, counted, use_of, count_at, CountsRise, class_in, decided}
 use Rattle.class_summary.specs.declared.summary.ClassSummary.{ClassSummary}
 use Rattle.class_summary.specs.Known.{class_named}
 use Rattle.decl_index.specs.Places.{count_pairs}
-use Rattle.decl_index.proofs.State.{counted-append, unwrap_or-or_else}
+use Rattle.std.specs.List.{AllByRecursion}
+use Rattle.std.specs.List.Sorted.{IsStrictlySortedBy}
+use Rattle.std.specs.Map.{keys_of}
+use Rattle.decl_index.proofs.State.{counted-append}
 
 -- A map's pairs have its counts.
 abbrev at_key : {Y : Type 0} → Name → String Y → Bool
@@ -32,6 +35,34 @@ pairs_use (e ∷ es) key = pair_use (is_eq (slice_cmp nat_cmp key (string_bytes 
 
 pub pairs-use : {Y : Type 0} (m : BTreeMap (String Y) ℕ) (key : Name) → use_of (count_pairs m) key ≡ unwrap_or (get_by_text m key) 0
 pairs-use m key = pairs_use m.entries key
+
+pair_at : (a b : Bool) (n : ℕ) (r p : Option ℕ) → a ≡ b → r ≡ p → cond b (Some n) r ≡ cond a (Some n) p
+pair_at true true n r p e h = refl
+pair_at true false n r p e h = absurd cc
+pair_at false true n r p e h = absurd cc
+pair_at false false n r p e h = h
+
+pairs_at : {Y : Type 0} (es : List (String Y × ℕ)) (key : Name) → count_at (map (λ e. (string_bytes e.0, e.1)) es) key ≡ lookup (is_at (λ k. slice_cmp nat_cmp key (string_bytes k))) es
+unfolding count_at
+pairs_at [] key = refl
+pairs_at (e ∷ es) key = pair_at (is_eq (slice_cmp nat_cmp key (string_bytes e.0))) (bytes_eq key (string_bytes e.0)) e.1 (count_at (map (λ p. (string_bytes p.0, p.1)) es) key) (lookup (is_at (λ k. slice_cmp nat_cmp key (string_bytes k))) es) (is_eq-slice_cmp key (string_bytes e.0)) (pairs_at es key)
+
+pub pairs-at : {Y : Type 0} (m : BTreeMap (String Y) ℕ) (key : Name) → count_at (count_pairs m) key ≡ get_by_text m key
+pairs-at m key = pairs_at m.entries key
+
+-- They rise by key.
+above_from : {Y : Type 0} (k : String Y) (es : List (String Y × ℕ)) → AllByRecursion {X = String Y} (λ j. string_cmp k j ≡ Less) (keys_of es) → AllByRecursion {X = Name × ℕ} (λ q. order (string_bytes k) q.0 ≡ Less) (map (λ e. (string_bytes e.0, e.1)) es)
+unfolding order
+above_from k [] h = h
+above_from k (e ∷ es) h = (h.0, above_from k es h.1)
+
+rise_from : {Y : Type 0} (es : List (String Y × ℕ)) → IsStrictlySortedBy string_cmp (keys_of es) → CountsRise (map (λ e. (string_bytes e.0, e.1)) es)
+unfolding CountsRise IsStrictlySortedBy
+rise_from [] h = h
+rise_from (e ∷ es) h = (above_from e.0 es h.0, rise_from es h.1)
+
+pub pairs-rise : {Y : Type 0} (m : BTreeMap (String Y) ℕ) → IsStrictlySortedBy string_cmp (keys_of m.entries) → CountsRise (count_pairs m)
+pairs-rise m h = rise_from m.entries h
 
 -- A copy of a map has its counts.
 abbrev pub IsCopied : {Y : Type 0} → String Y × ℕ → String Y × ℕ → Type 0
@@ -79,19 +110,21 @@ set-all m xs i first l h key = h key ∙ ap (λ ps. or_else (counted key ps) (fi
 
 -- No change.
 pub empty-state : {A Y : Type 0} (f : A → ClassSummary) (xs : List A) (m : BTreeMap (String Y) ℕ) → xs ≡ [] → m.entries ≡ [] → IsState [] (record { classes = map f xs; counts = count_pairs m; number = 0 })
-unfolding Rises class_named decided use_of counted
+unfolding Rises class_named decided count_at CountsRise counted
 empty-state {A} {Y} f xs m e n = record {
   classes = record {
     rises = subst (λ ys. Rises (map f ys)) (sym e) tt;
     named = λ k. subst (λ ys. class_named (map f ys) k ≡ class_in [] k) (sym e) refl;
   };
-  counts = λ key. subst (λ (ps : List (String Y × ℕ)). use_of (map (λ p. (string_bytes p.0, p.1)) ps) key ≡ use_in [] key) (sym n) refl;
+  counts = record {
+    rises = subst (λ (ps : List (String Y × ℕ)). CountsRise (map (λ p. (string_bytes p.0, p.1)) ps)) (sym n) tt;
+    keyed = λ key. subst (λ (ps : List (String Y × ℕ)). count_at (map (λ p. (string_bytes p.0, p.1)) ps) key ≡ None) (sym n) refl;
+  };
   number = refl;
 }
 
-pub counted-use : {Y : Type 0} (m n : BTreeMap (String Y) ℕ) (more : List (Name × ℕ)) → ((key : Name) → get_by_text n key ≡ or_else (counted key more) (get_by_text m key)) → (key : Name) → use_of (count_pairs n) key ≡ unwrap_or (counted key more) (use_of (count_pairs m) key)
-counted-use m n more h key =
-    pairs-use n key ∙ ap (λ p. unwrap_or p 0) (h key) ∙ unwrap_or-or_else (counted key more) (get_by_text m key) 0 ∙ ap (unwrap_or (counted key more)) (sym (pairs-use m key))
+pub counted-at : {Y : Type 0} (m n : BTreeMap (String Y) ℕ) (more : List (Name × ℕ)) → ((key : Name) → get_by_text n key ≡ or_else (counted key more) (get_by_text m key)) → (key : Name) → count_at (count_pairs n) key ≡ or_else (counted key more) (count_at (count_pairs m) key)
+counted-at m n more h key = pairs-at n key ∙ h key ∙ ap (or_else (counted key more)) (sym (pairs-at m key))
 
 pub with-none : {Y : Type 0} (m n : BTreeMap (String Y) ℕ) (more : List (Name × ℕ)) → more ≡ [] → n ≡ m → (key : Name) → get_by_text n key ≡ or_else (counted key more) (get_by_text m key)
 unfolding counted

@@ -11,3 +11,6 @@ pub mod Results
 pub mod Searches
 pub mod Kept
 pub mod Outline
+pub mod Keyed
+pub mod HistoryLaws
+pub mod Merges

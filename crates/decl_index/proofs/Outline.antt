@@ -1,10 +1,10 @@
 -- Canonical names stay where each class keeps its name and its nesting.
-use Rattle.std.proofs.Common.{◌≡◌, ℕ, zero, suc, Bool, true, false, cond, List, [], ◌∷◌, ◌++◌, map, length, Option, Some, None, Less, refl, sym, ap, subst, ◌∙◌, ◌⊎◌, inl, inr}
+use Rattle.std.proofs.Common.{◌≡◌, ℕ, zero, suc, Bool, true, false, cond, List, [], ◌∷◌, ◌++◌, map, length, Option, Some, None, refl, sym, ap, subst, ◌∙◌, ◌⊎◌, inl, inr}
 use Rattle.std.specs.Prelude.{bytes_eq, option_map}
 use Rattle.std.proofs.lemmas.List.{length-map}
 use Rattle.class_summary.specs.declared.summary.ClassSummary.{ClassSummary}
 use Rattle.class_summary.specs.Known.{class_named, canonical, canonical_by, circles, comes_to, outer_of, outer_in, nesting_at, simple_in, nested_name, dotted}
-use Rattle.decl_index.specs.History.{Name, order, Rises, put, remove}
+use Rattle.decl_index.specs.History.{Name, Rises, put, remove}
 use Rattle.decl_index.specs.Places.{canonical_names, Leaves}
 use Rattle.decl_index.specs.Changed.{Each, KeepsNesting}
 use Rattle.decl_index.proofs.Sorted.{Above}

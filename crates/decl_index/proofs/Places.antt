@@ -161,7 +161,7 @@ leaves-next f xs i x ds bs cs l e p q =
 pub leaves-all : {B : Type 0} (f : B → Edit) (xs : List B) (i : ℕ) (ds bs : List ClassSummary) → length xs ≤ i → Leaves (map f (take i xs)) ds bs → Leaves (map f xs) ds bs
 leaves-all f xs i ds bs l p = subst (λ ys. Leaves (map f ys) ds bs) (take_all i xs l) p
 
-none_or : (d : Option (Option ClassSummary)) → told d ≡ told_or d None
+pub none_or : (d : Option (Option ClassSummary)) → told d ≡ told_or d None
 none_or (Some c) = refl
 none_or None = refl
 

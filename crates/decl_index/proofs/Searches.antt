@@ -6,7 +6,7 @@ use Rattle.std.proofs.lemmas.Option.{slice_get_within, get_or_from_slice_get}
 use Rattle.class_summary.specs.declared.summary.ClassSummary.{ClassSummary}
 use Rattle.class_summary.specs.Known.{class_named}
 use Rattle.decl_index.specs.History.{Name}
-use Rattle.decl_index.specs.Refusals.{IsOneOf, supers_of, outers_of, Steps, IsWay, ReachesItself}
+use Rattle.decl_index.specs.Refusals.{IsOneOf, supers_of, outers_of, IsWay, ReachesItself}
 use Rattle.decl_index.specs.Changed.{Each, Meets, HasLinks, Follows, IsClosed, IsReached, AvoidsItself, IsFree}
 use Rattle.decl_index.proofs.Names.{same, same-true, same-of}
 use Rattle.decl_index.proofs.Circles.{first_known}

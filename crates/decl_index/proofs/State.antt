@@ -1,6 +1,6 @@
 -- The state after one change more.
 use Rattle.std.proofs.Common.{◌≡◌, ℕ, ◌+◌, Bool, true, false, cond, List, [], ◌∷◌, ◌++◌, map, Option, Some, None, Ordering, Less, Equal, Greater, refl, sym, ap, subst, ◌∙◌, append_assoc, append-nil, arith}
-use Rattle.std.specs.Prelude.{bytes_eq, unwrap_or}
+use Rattle.std.specs.Prelude.{bytes_eq}
 use Rattle.std.specs.List.{flat_map}
 use Rattle.std.proofs.lemmas.List.{length_push}
 use Rattle.class_summary.specs.declared.summary.ClassSummary.{ClassSummary}
@@ -9,9 +9,9 @@ use Rattle.decl_index.specs.declared.change.Change.{Change}
 use Rattle.decl_index.specs.declared.change.Change.TheVariants.{Publish, Withdraw}
 use Rattle.decl_index.specs.declared.change.ChangeFault.{ChangeFault}
 use Rattle.decl_index.specs.declared.change.ChangeFault.TheVariants.{Cyclic, Full, TooHigh, JournalFull, NestCycle, OutOfMemory}
-use Rattle.decl_index.specs.History.{Name, order, Rises, State, IsState, AreClasses, remove, put, decided, edits_of, or_else, counted, counts_of, use_in}
+use Rattle.decl_index.specs.History.{Name, order, Rises, State, IsState, AreClasses, remove, put, decided, edits_of, or_else, counted, counts_of, count_at, CountsRise}
 use Rattle.decl_index.specs.Places.{told_or, Leaves}
-use Rattle.decl_index.specs.Refusals.{IsFaultOf, IsSound, Refuses, IsTooHigh}
+use Rattle.decl_index.specs.Refusals.{IsFaultOf, IsSound, RefusesFor, IsTooHigh}
 use Rattle.decl_index.specs.Steps.{IsPublished, IsPublishFault, IsWithdrawn}
 use Rattle.decl_index.proofs.Names.{same, same-itself, same-true, greater, exact}
 use Rattle.decl_index.proofs.Sorted.{Above, above_more, none_above}
@@ -77,19 +77,12 @@ counted-append key [] ys = or_none (counted key ys)
 counted-append key (x ∷ xs) ys =
     ap (λ a. or_else a (cond (bytes_eq key x.0) (Some x.1) None)) (counted-append key xs ys) ∙ or_assoc (counted key ys) (counted key xs) (cond (bytes_eq key x.0) (Some x.1) None)
 
-pub unwrap_or-or_else : (a b : Option ℕ) (n : ℕ) → unwrap_or (or_else a b) n ≡ unwrap_or a (unwrap_or b n)
-unwrap_or-or_else (Some x) b n = refl
-unwrap_or-or_else None b n = refl
-
-counts_more : (h : List Change) (c : Change) → flat_map counts_of (h ++ c ∷ []) ≡ flat_map counts_of h ++ counts_of c
+pub counts_more : (h : List Change) (c : Change) → flat_map counts_of (h ++ c ∷ []) ≡ flat_map counts_of h ++ counts_of c
 counts_more [] c = append-nil (counts_of c)
 counts_more (d ∷ h) c = ap (λ es. counts_of d ++ es) (counts_more h c) ∙ sym (append_assoc (counts_of d) (flat_map counts_of h) (counts_of c))
 
-use_more : (h : List Change) (c : Change) (key : Name) → use_in (h ++ c ∷ []) key ≡ unwrap_or (counted key (counts_of c)) (use_in h key)
-use_more h c key =
-    ap (λ ps. unwrap_or (counted key ps) 0) (counts_more h c)
-    ∙ ap (λ a. unwrap_or a 0) (counted-append key (flat_map counts_of h) (counts_of c))
-    ∙ unwrap_or-or_else (counted key (counts_of c)) (counted key (flat_map counts_of h)) 0
+pub counted_more : (h : List Change) (c : Change) (key : Name) → counted key (flat_map counts_of (h ++ c ∷ [])) ≡ or_else (counted key (counts_of c)) (counted key (flat_map counts_of h))
+counted_more h c key = ap (counted key) (counts_more h c) ∙ counted-append key (flat_map counts_of h) (counts_of c)
 
 -- A publication.
 left_classes : (h : List Change) (puts : List ClassSummary) (removes : List Name) (counts : List (Name × ℕ)) (cs ds : List ClassSummary) → AreClasses h cs → Leaves (map remove removes ++ map put puts) cs ds → AreClasses (h ++ Publish puts removes counts ∷ []) ds
@@ -101,11 +94,14 @@ left_classes h puts removes counts cs ds is l = record {
 pub add_published : (h : List Change) (puts : List ClassSummary) (removes : List Name) (counts : List (Name × ℕ)) (old new : State) → IsState h old → IsPublished puts removes counts old new → IsState (h ++ Publish puts removes counts ∷ []) new
 add_published h puts removes counts old new is p = record {
   classes = left_classes h puts removes counts old.classes new.classes is.classes p.classes;
-  counts = λ key. p.counts key ∙ ap (unwrap_or (counted key counts)) (is.counts key) ∙ sym (use_more h (Publish puts removes counts) key);
+  counts = record {
+    rises = p.keys;
+    keyed = λ key. p.counts key ∙ ap (or_else (counted key counts)) (is.counts.keyed key) ∙ sym (counted_more h (Publish puts removes counts) key);
+  };
   number = p.number ∙ ap (λ m. m + 1) is.number ∙ sym (length_push h (Publish puts removes counts));
 }
 
-pub publish_refused : (h : List Change) (puts : List ClassSummary) (removes : List Name) (counts : List (Name × ℕ)) (old : State) (f : ChangeFault) → IsState h old → IsPublishFault puts removes old f → Refuses h (Publish puts removes counts) f
+pub publish_refused : (h : List Change) (puts : List ClassSummary) (removes : List Name) (counts : List (Name × ℕ)) (old : State) (f : ChangeFault) → IsState h old → IsPublishFault puts removes old f → RefusesFor h (Publish puts removes counts) f
 publish_refused h puts removes counts old f is p = record {
   left = p.left;
   classes = left_classes h puts removes counts old.classes p.left is.classes p.classes;
@@ -120,7 +116,7 @@ sound_free cs (TooHigh n) s w = w
 sound_free cs JournalFull s w = w
 sound_free cs OutOfMemory s w = w
 
-pub publish_lawful : (h : List Change) (puts : List ClassSummary) (removes : List Name) (counts : List (Name × ℕ)) (old new : State) → IsState h old → IsPublished puts removes counts old new → (f : ChangeFault) → Refuses h (Publish puts removes counts) f → ⊥
+pub publish_lawful : (h : List Change) (puts : List ClassSummary) (removes : List Name) (counts : List (Name × ℕ)) (old new : State) → IsState h old → IsPublished puts removes counts old new → (f : ChangeFault) → RefusesFor h (Publish puts removes counts) f → ⊥
 publish_lawful h puts removes counts old new is p f r =
     let next : IsState (h ++ Publish puts removes counts ∷ []) new = add_published h puts removes counts old new is p in
     let one : new.classes ≡ r.left = one_list new.classes r.left next.classes.rises r.classes.rises (λ n. next.classes.named n ∙ sym (r.classes.named n)) in
@@ -134,14 +130,17 @@ add_withdrawn h m old new is w = record {
     rises = w.rises;
     named = λ n. ap (λ cs. class_named cs n) w.classes ∙ is.classes.named n ∙ sym (class_more h (Withdraw m) n);
   };
-  counts = λ key. w.counts key ∙ is.counts key ∙ sym (use_more h (Withdraw m) key);
+  counts = record {
+    rises = subst CountsRise (sym w.counts) is.counts.rises;
+    keyed = λ key. ap (λ ps. count_at ps key) w.counts ∙ is.counts.keyed key ∙ sym (counted_more h (Withdraw m) key);
+  };
   number = w.number ∙ ap (λ k. k + 1) is.number ∙ sym (length_push h (Withdraw m));
 }
 
-pub withdraw_refused : (h : List Change) (m : ℕ) (old : State) (f : ChangeFault) → IsState h old → IsTooHigh old.number m f → Refuses h (Withdraw m) f
+pub withdraw_refused : (h : List Change) (m : ℕ) (old : State) (f : ChangeFault) → IsState h old → IsTooHigh old.number m f → RefusesFor h (Withdraw m) f
 withdraw_refused h m old f is t = subst (λ k. IsTooHigh k m f) is.number t
 
-pub withdraw_lawful : (h : List Change) (m : ℕ) (old new : State) → IsState h old → IsWithdrawn m old new → (f : ChangeFault) → Refuses h (Withdraw m) f → ⊥
+pub withdraw_lawful : (h : List Change) (m : ℕ) (old new : State) → IsState h old → IsWithdrawn m old new → (f : ChangeFault) → RefusesFor h (Withdraw m) f → ⊥
 withdraw_lawful h m old new is w (TooHigh n) r = omega (arith, w.low, is.number, r.1)
 withdraw_lawful h m old new is w (Cyclic n) r = r
 withdraw_lawful h m old new is w (NestCycle n) r = r

@@ -1,6 +1,6 @@
 -- Canonical names: how they are made, and where they stand.
-use Rattle.std.proofs.Common.{◌≡◌, ℕ, zero, suc, ◌+◌, ◌<◌, ◌≤◌, Bool, true, false, cond, List, [], ◌∷◌, ◌++◌, length, map, get_or, take, drop, Option, Some, None, refl, sym, ap, subst, ◌∙◌, arith, ◌⊎◌, inl, inr, bytes_eq, Ordering, Less, Equal, Greater, append_assoc, add-one, drop-cons}
-use Rattle.std.specs.Prelude.{option_map, Vec, reverse, is_some, ◌==◌}
+use Rattle.std.proofs.Common.{◌≡◌, ℕ, zero, suc, ◌+◌, ◌<◌, ◌≤◌, Bool, true, false, cond, List, [], ◌∷◌, ◌++◌, length, map, get_or, drop, Option, Some, None, refl, sym, ap, subst, ◌∙◌, arith, ◌⊎◌, inl, inr, bytes_eq, Ordering, Less, Equal, Greater, append_assoc, add-one, drop-cons}
+use Rattle.std.specs.Prelude.{option_map, Vec, reverse, ◌==◌}
 use Rattle.std.specs.BTreeMap.{BTreeMap, UpdatesBy, is_at}
 use Rattle.std.specs.Map.{KeepsOthers, lookup}
 use Rattle.std.proofs.lemmas.Map.Text.{is_eq-slice_cmp}
@@ -12,7 +12,7 @@ use Rattle.std.proofs.lemmas.List.{drop_all, length-map, reverse-append, reverse
 use Rattle.std.proofs.lemmas.Option.{slice_get_within}
 use Rattle.class_summary.specs.declared.summary.ClassSummary.{ClassSummary}
 use Rattle.class_summary.specs.Known.{class_named, class_called, lesser, canonical, canonical_by, circles, comes_to, outer_of, outer_in, nesting_at, simple_in, nested_name, dotted, IsPlaceOf}
-use Rattle.decl_index.specs.History.{Name, order, Rises, or_else}
+use Rattle.decl_index.specs.History.{Name, order, Rises}
 use Rattle.decl_index.specs.Refusals.{IsOneOf, Steps, IsWay, HasNoCircle, outers_of, at_most_one}
 use Rattle.decl_index.specs.Places.{place_among, canonical_names, called_place}
 use Rattle.decl_index.proofs.Names.{same-true, less_back}

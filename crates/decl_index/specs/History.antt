@@ -76,12 +76,27 @@ pub record AreClasses (history : List Change) (cs : List ClassSummary) : Type 0 
   pub rises : Rises cs
   pub named : (n : Name) → class_named cs n ≡ class_in history n
 
+-- The count of a key in a list, where it has one.
+unfoldable pub count_at : List (Name × ℕ) → Name → Option ℕ
+count_at [] key = None
+count_at (p ∷ ps) key = if bytes_eq key p.0 then Some p.1 else count_at ps key
+
+-- Strictly in rising order of keys.
+unfoldable pub CountsRise : List (Name × ℕ) → Type 0
+CountsRise [] = Unit {0}
+CountsRise (p ∷ ps) = AllByRecursion (λ q. order p.0 q.0 ≡ Less) ps × CountsRise ps
+
+-- The counts in rising order of keys are those of each key after the changes; one that was given as 0 is there.
+pub record AreCounts (history : List Change) (counts : List (Name × ℕ)) : Type 0 where
+  pub rises : CountsRise counts
+  pub keyed : (key : Name) → count_at counts key ≡ counted key (flat_map counts_of history)
+
 -- The count of a key in a list, 0 where it has none.
 unfoldable pub use_of : List (Name × ℕ) → Name → ℕ
 use_of [] key = 0
 use_of (p ∷ ps) key = if bytes_eq key p.0 then p.1 else use_of ps key
 
--- Classes in rising order of names, counts of keys, and the number of changes.
+-- Classes in rising order of names, counts in rising order of keys, and the number of changes.
 pub record State : Type 0 where
   pub classes : List ClassSummary
   pub counts : List (Name × ℕ)
@@ -90,7 +105,7 @@ pub record State : Type 0 where
 -- The state is what the changes leave.
 pub record IsState (history : List Change) (s : State) : Type 0 where
   pub classes : AreClasses history s.classes
-  pub counts : (key : Name) → use_of s.counts key ≡ use_in history key
+  pub counts : AreCounts history s.counts
   pub number : s.number ≡ length history
 
 -- The number of the first change that withdraws version n, where there is one. The first change has the number 1.

@@ -4,3 +4,5 @@ pub mod Places
 pub mod Rows
 pub mod Steps
 pub mod Changed
+pub mod Laws
+pub mod Merging

@@ -104,7 +104,24 @@ IsTooHigh number m (Full n) = ⊥
 IsTooHigh number m JournalFull = ⊥
 IsTooHigh number m OutOfMemory = ⊥
 
--- The change is refused after the history, for this fault.
+-- The change is refused after the history for what it would leave, with this fault.
+abbrev pub RefusesFor : List Change → Change → ChangeFault → Type 0
+RefusesFor history (Publish puts removes counts) fault = IsFaultAfter (history ++ Publish puts removes counts ∷ []) fault
+RefusesFor history (Withdraw m) fault = IsTooHigh (length history) m fault
+
+-- The most changes of a history.
+abbrev pub most_changes : ℕ
+most_changes = 100000
+
+-- The change is refused after the history with this fault: where the history is full that comes first.
 abbrev pub Refuses : List Change → Change → ChangeFault → Type 0
-Refuses history (Publish puts removes counts) fault = IsFaultAfter (history ++ Publish puts removes counts ∷ []) fault
-Refuses history (Withdraw m) fault = IsTooHigh (length history) m fault
+Refuses history change fault = ((most_changes ≤ length history) × (fault ≡ JournalFull)) ⊎ ((length history < most_changes) × RefusesFor history change fault)
+
+-- The number of a fault; want of memory has none.
+abbrev pub fault_number : ChangeFault → Option ℕ
+fault_number (Cyclic name) = Some 1
+fault_number (Full parts) = Some 2
+fault_number (TooHigh through) = Some 3
+fault_number JournalFull = Some 4
+fault_number (NestCycle name) = Some 5
+fault_number OutOfMemory = None

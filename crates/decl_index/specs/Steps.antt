@@ -1,15 +1,16 @@
 -- What one change does to the state of an index.
-use Rattle.std.specs.Prelude.{◌≡◌, ◌≤◌, ◌+◌, ℕ, List, ◌++◌, map, unwrap_or}
+use Rattle.std.specs.Prelude.{◌≡◌, ◌≤◌, ◌+◌, ℕ, List, ◌++◌, map}
 use Rattle.class_summary.specs.declared.summary.ClassSummary.{ClassSummary}
 use Rattle.decl_index.specs.declared.change.ChangeFault.{ChangeFault}
-use Rattle.decl_index.specs.History.{Name, State, Rises, remove, put, counted, use_of}
+use Rattle.decl_index.specs.History.{Name, State, Rises, remove, put, or_else, counted, count_at, CountsRise}
 use Rattle.decl_index.specs.Refusals.{IsFaultOf, IsSound}
 use Rattle.decl_index.specs.Places.{Leaves}
 
 -- A publication makes the second state of the first.
 pub record IsPublished (puts : List ClassSummary) (removes : List Name) (more : List (Name × ℕ)) (old new : State) : Type 0 where
   pub classes : Leaves (map remove removes ++ map put puts) old.classes new.classes
-  pub counts : (key : Name) → use_of new.counts key ≡ unwrap_or (counted key more) (use_of old.counts key)
+  pub counts : (key : Name) → count_at new.counts key ≡ or_else (counted key more) (count_at old.counts key)
+  pub keys : CountsRise new.counts
   pub number : new.number ≡ old.number + 1
   pub sound : IsSound new.classes
 
@@ -23,6 +24,6 @@ pub record IsPublishFault (puts : List ClassSummary) (removes : List Name) (old 
 pub record IsWithdrawn (through : ℕ) (old new : State) : Type 0 where
   pub rises : Rises new.classes
   pub classes : new.classes ≡ old.classes
-  pub counts : (key : Name) → use_of new.counts key ≡ use_of old.counts key
+  pub counts : new.counts ≡ old.counts
   pub number : new.number ≡ old.number + 1
   pub low : through ≤ old.number

@@ -1,5 +1,6 @@
 ghost use Rattle.std.specs.Prelude.{◌≡◌, IfOk};
 ghost use Rattle.decl_index.specs.declared.change.ChangeFault.TheVariants.{OutOfMemory};
+ghost use Rattle.decl_index.specs.Refusals.{fault_number};
 
 use class_summary::ClassSummary;
 use lists::{Copies, Items, Text, copy_all};
@@ -19,7 +20,7 @@ pub enum Change {
     Withdraw(u32),
 }
 
-/// Why a change was refused. The variants but the last have the numbers 1 to 5.
+/// Why a change was refused.
 #[derive(Debug, Drop)]
 pub enum ChangeFault {
     /// A class reaches itself by supers; the least name.
@@ -34,6 +35,22 @@ pub enum ChangeFault {
     NestCycle(Text),
     /// There was no memory.
     OutOfMemory,
+}
+
+impl ChangeFault {
+    /// The number of the fault, 1 to 5 in the order of the variants; want of memory has none.
+    pub fn number(&self) -> Option<u32>
+        ensures number { result ≡ fault_number self.now }
+    {
+        match self {
+            ChangeFault::Cyclic(_) => Some(1),
+            ChangeFault::Full(_) => Some(2),
+            ChangeFault::TooHigh(_) => Some(3),
+            ChangeFault::JournalFull => Some(4),
+            ChangeFault::NestCycle(_) => Some(5),
+            ChangeFault::OutOfMemory => None,
+        }
+    }
 }
 
 impl From<AllocError> for ChangeFault {

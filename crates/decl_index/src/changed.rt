@@ -51,7 +51,13 @@ fn follow(alloc: Global, found: &mut Items<Text>, class: &ClassSummary) -> Resul
     Ok(())
 }
 
-/// The names that a class leads to by supers and outer classes; None where they are many.
+/// Whether the class has more supers than a search follows names.
+fn has_many_supers(class: &ClassSummary) -> bool {
+    class.supers.len() > MOST_FOLLOWED
+}
+
+/// The names that a class leads to by supers and outer classes; None where they are many. A class with many
+/// supers isn't followed, since each is looked for among the names that were found.
 fn reached(
     alloc: Global,
     classes: &[Shared],
@@ -60,6 +66,9 @@ fn reached(
     requires { Rises (map arc_value classes.now) }
     ensures { IfOk result (λ found. IfSome found (λ names. IsReached (map arc_value classes.now) from.now names)) }
 {
+    if has_many_supers(from) {
+        return Ok(None);
+    }
     let mut found = Items::new(alloc);
     follow(alloc, &mut found, from)?;
     for next in 0..MOST_FOLLOWED {
@@ -69,7 +78,11 @@ fn reached(
         let Some(place) = find(classes, name.as_str()) else {
             continue;
         };
-        follow(alloc, &mut found, &*classes[place])?;
+        let class = &*classes[place];
+        if has_many_supers(class) {
+            return Ok(None);
+        }
+        follow(alloc, &mut found, class)?;
     }
     Ok(None)
 }

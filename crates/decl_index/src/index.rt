@@ -3,14 +3,15 @@ ghost use Rattle.decl_index.specs.declared.change.Change.{Change};
 ghost use Rattle.decl_index.specs.declared.change.ChangeFault.{ChangeFault};
 ghost use Rattle.decl_index.specs.declared.change.ChangeFault.TheVariants.{OutOfMemory};
 ghost use Rattle.decl_index.specs.History.{IsState, use_of};
-ghost use Rattle.decl_index.specs.Refusals.{Refuses, IsTooHigh};
+ghost use Rattle.decl_index.specs.Refusals.{RefusesFor, IsTooHigh};
 ghost use Rattle.decl_index.specs.Steps.{IsPublished, IsPublishFault, IsWithdrawn};
 
 use crate::called::{Called, called_after};
 use crate::change::{Change, ChangeFault};
 use crate::checks::check;
 use crate::counts::{Counts, with_counts};
-use crate::table::{Shared, find, put_all, share, take_all};
+use crate::merging::{put_all, take_all};
+use crate::table::{Shared, find, share};
 use class_summary::{ClassSummary, Classes};
 use lists::Text;
 use std::alloc::{AllocError, Global};
@@ -57,14 +58,14 @@ impl Index {
 
     /// How many changes were applied.
     pub fn number(&self) -> u32
-        ensures { result ≡ self.now.number }
+        ensures changes { result ≡ self.now.number }
     {
         self.number
     }
 
     /// The usage count of a key `owner.name:descriptor`, 0 where none was given.
     pub fn usage(&self, key: &str) -> u32
-        ensures { result ≡ use_of self.now.counts key.now }
+        ensures count { result ≡ use_of self.now.counts key.now }
     {
         self.counts.get(key).copied().unwrap_or(0)
     }
@@ -82,7 +83,7 @@ impl Index {
         ensures refused { IfErr result (λ fault. (fault ≡ OutOfMemory) ⊎ IsPublishFault puts.now removes.now self.now fault) }
     {
         let mut classes = share(alloc, &self.classes)?;
-        take_all(&mut classes, removes);
+        take_all(alloc, &mut classes, removes)?;
         put_all(alloc, &mut classes, puts)?;
         check(alloc, &self.classes, &classes, removes, puts)?;
         let called = called_after(alloc, &self.called, &self.classes, &classes, removes, puts)?;
@@ -117,8 +118,8 @@ impl Index {
     pub fn apply(&self, alloc: Global, change: &Change) -> Result<Index, ChangeFault>
         requires { self.now.number < 4294967295 }
         ensures state { (history : List Change) → IsState history self.now → IfOk result (λ next. IsState (history ++ change.now ∷ []) next) }
-        ensures lawful { (history : List Change) → IsState history self.now → IfOk result (λ next. (fault : ChangeFault) → Refuses history change.now fault → ⊥) }
-        ensures refused { (history : List Change) → IsState history self.now → IfErr result (λ fault. (fault ≡ OutOfMemory) ⊎ Refuses history change.now fault) }
+        ensures lawful { (history : List Change) → IsState history self.now → IfOk result (λ next. (fault : ChangeFault) → RefusesFor history change.now fault → ⊥) }
+        ensures refused { (history : List Change) → IsState history self.now → IfErr result (λ fault. (fault ≡ OutOfMemory) ⊎ RefusesFor history change.now fault) }
     {
         match change {
             Change::Publish {

@@ -1,6 +1,6 @@
 // The index of classes after a history of changes. The main definition is `IsState`: of all puts and removes
-// of one name the last decides, and `Refuses` says which changes are refused. An index shares the classes
-// that a change doesn't touch. It stands on `class_summary` and `graphs`.
+// of one name the last decides, each history has one state, and `Refuses` says which changes are refused. An
+// index shares the classes that a change doesn't touch. It stands on `class_summary` and `graphs`.
 #![tactic(auto)]
 
 mod called;
@@ -9,10 +9,13 @@ mod changed;
 mod checks;
 mod counts;
 mod index;
+mod laws;
+mod merging;
 mod table;
 
 pub use change::{Change, ChangeFault};
 pub use index::Index;
+pub use laws::history_laws;
 
 #[cfg(test)]
 mod merged_tests;

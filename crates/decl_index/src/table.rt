@@ -29,7 +29,7 @@ pub fn share(alloc: Global, classes: &[Shared]) -> Result<Vec<Shared>, AllocErro
 
 /// How a class's name stands to a name.
 #[tactic(auto, unfolding(crate::specs::History::order))]
-fn compare(class: &ClassSummary, name: &str) -> Ordering
+pub fn compare(class: &ClassSummary, name: &str) -> Ordering
     ensures { result ≡ order class.now.name name.now }
 {
     class.name.as_str().cmp(name)
@@ -114,8 +114,8 @@ fn take_out(classes: &mut Vec<Shared>, name: &str)
     }
 }
 
-/// Takes the classes of these names out.
-pub fn take_all(classes: &mut Vec<Shared>, names: &[Text])
+/// Takes the classes of these names out, one after the other.
+pub fn take_each(classes: &mut Vec<Shared>, names: &[Text])
     requires { Rises (map arc_value classes.old.items) }
     ensures { Leaves (map remove names.now) (map arc_value classes.old.items) (map arc_value classes.new.items) }
 {
@@ -125,7 +125,7 @@ pub fn take_all(classes: &mut Vec<Shared>, names: &[Text])
 }
 
 /// Puts copies of these classes in, one after the other.
-pub fn put_all(
+pub fn put_each(
     alloc: Global,
     classes: &mut Vec<Shared>,
     puts: &[ClassSummary],

@@ -1,4 +1,4 @@
-use crate::{Change, ChangeFault, Index};
+use crate::{Change, ChangeFault, Index, history_laws};
 use class_summary::{ClassSummary, Classes, Nesting};
 use lists::{Copies, Items, Text};
 use std::alloc::{AllocError, Global};
@@ -48,6 +48,35 @@ fn publication(alloc: Global, classes: &[(&str, &str, &str, &str)]) -> Result<Ch
     Ok(Change::Publish {
         puts,
         removes: Items::new(alloc),
+        counts: Items::new(alloc),
+    })
+}
+
+/// The publication of `p/C0` to the class before this one, each with the next as its super class.
+fn chain(alloc: Global, classes: usize) -> Result<Change, AllocError> {
+    let mut puts = Items::new(alloc);
+    for number in 0..classes {
+        let name = format!(in alloc; "p/C{number}")?;
+        let next = number + 1;
+        let parent = format!(in alloc; "p/C{next}")?;
+        puts.push(class(alloc, name.as_str(), parent.as_str(), "", "")?)?;
+    }
+    Ok(Change::Publish {
+        puts,
+        removes: Items::new(alloc),
+        counts: Items::new(alloc),
+    })
+}
+
+/// The publication that takes `p/C0` to the class before this one out.
+fn removal(alloc: Global, classes: usize) -> Result<Change, AllocError> {
+    let mut removes = Items::new(alloc);
+    for number in 0..classes {
+        removes.push(Text::from_string(format!(in alloc; "p/C{number}")?))?;
+    }
+    Ok(Change::Publish {
+        puts: Items::new(alloc),
+        removes,
         counts: Items::new(alloc),
     })
 }
@@ -299,5 +328,64 @@ fn later_circles_are_refused(rt: HostRuntime) -> Result<(), Fail> {
         let answer = fault_of(rt.alloc(), &applied(rt.alloc(), &old, &change))?;
         assert_eq!(rt; answer.as_str(), row.1);
     }
+    Ok(())
+}
+
+#[test]
+fn forty_classes_are_put_and_removed(rt: HostRuntime) -> Result<(), Fail> {
+    let empty = Index::empty(rt.alloc())?;
+    let forty = applied(rt.alloc(), &empty, &chain(rt.alloc(), 40)?)?;
+    assert_eq!(rt; forty.count(), 40);
+    assert_eq!(rt; parent_of(&forty, "p/C17"), "p/C18");
+    assert_eq!(rt; forty.find("p/C10"), Some(2));
+    let ten = applied(rt.alloc(), &forty, &removal(rt.alloc(), 30)?)?;
+    assert_eq!(rt; ten.count(), 10);
+    assert_eq!(rt; ten.find("p/C29"), None);
+    assert_eq!(rt; parent_of(&ten, "p/C30"), "p/C31");
+    Ok(())
+}
+
+#[test]
+fn a_long_chain_is_taken_and_may_not_be_closed(rt: HostRuntime) -> Result<(), Fail> {
+    let empty = Index::empty(rt.alloc())?;
+    let long = applied(rt.alloc(), &empty, &chain(rt.alloc(), 300)?)?;
+    let below = publication(rt.alloc(), &[("A", "p/C0", "", "")])?;
+    let next = applied(rt.alloc(), &long, &below)?;
+    assert_eq!(rt; next.count(), 301);
+    assert_eq!(rt; parent_of(&next, "A"), "p/C0");
+    let back = publication(rt.alloc(), &[("p/C299", "p/C0", "", "")])?;
+    let answer = fault_of(rt.alloc(), &applied(rt.alloc(), &next, &back))?;
+    assert_eq!(rt; answer.as_str(), "supers p/C0");
+    Ok(())
+}
+
+/// The numbers of the faults in the order of the variants.
+const NUMBERS: [Option<u32>; 6] = [Some(1), Some(2), Some(3), Some(4), Some(5), None];
+
+#[test]
+fn faults_have_numbers(rt: HostRuntime) -> Result<(), Fail> {
+    let faults = [
+        ChangeFault::Cyclic(Text::new(rt.alloc())),
+        ChangeFault::Full(0),
+        ChangeFault::TooHigh(0),
+        ChangeFault::JournalFull,
+        ChangeFault::NestCycle(Text::new(rt.alloc())),
+        ChangeFault::OutOfMemory,
+    ];
+    for place in 0..6 {
+        assert!(rt; faults[place].number() == NUMBERS[place]);
+    }
+    Ok(())
+}
+
+/// Several threads may read one index.
+fn shared<T: Send + Sync>(_index: &T) -> bool {
+    true
+}
+
+#[test]
+fn an_index_may_be_shared(rt: HostRuntime) -> Result<(), Fail> {
+    history_laws();
+    assert!(rt; shared(&Index::empty(rt.alloc())?));
     Ok(())
 }

@@ -7,7 +7,6 @@ use Rattle.documents.specs.Places.{from_line, from_unit, IsRest, offset_of}
 use Rattle.documents.specs.Edits.{Edit, within, edited, refused, edit_between, edit_of, then_change, document_after}
 use Rattle.documents.specs.declared.change.TextChange.{TextChange}
 use Rattle.documents.specs.declared.change.EditFault.TheVariants.{Range, TooLong}
-use Rattle.documents.proofs.LineStarts.{after-none, place-after}
 use Rattle.documents.proofs.Rests.{byte_len-chars, rest_drop}
 
 pub offset-some : (text start rest : List ℕ) (l u : ℕ) → IsUtf8 text → IsUtf8 rest → from_line l (chars text) ≡ Some (chars start) → chars rest ≡ from_unit u (chars start) → offset_of (chars text) l u ≡ Some (length text - length rest)
@@ -63,4 +62,4 @@ pub edit-all : (bytes new : List ℕ) → edit_of bytes new None ≡ within new
 unfolding edit_of
 edit-all bytes new = refl
 
-pub ruleset edits = (after-none, place-after, document_after-one, edit-range, edit-all, offset-some, offset-none, boundary, rest_drop, length-replaced, all-replaced, within-long, between-none, between-none2, between-back, between-some, IsCharBoundary-start, IsCharBoundary-end)
+pub ruleset edits = (document_after-one, edit-range, edit-all, offset-some, offset-none, boundary, rest_drop, length-replaced, all-replaced, within-long, between-none, between-none2, between-back, between-some, IsCharBoundary-start, IsCharBoundary-end)

@@ -1,3 +1,7 @@
 mod Edits
 mod Rests
 mod LineStarts
+mod Laws
+mod Ends
+mod Begins
+mod Moves

@@ -18,7 +18,7 @@ byte_len-chars bs u = byte_len-encodes (chars bs) ∙ ap length (encodes-chars b
 pub rest-same : (text : List ℕ) → IsRest text text
 rest-same text = record { le = omega arith; is = grind arith }
 
-drop_front : (xs ys : List ℕ) (n : ℕ) → n ≡ length xs → drop n (xs ++ ys) ≡ ys
+pub drop_front : (xs ys : List ℕ) (n : ℕ) → n ≡ length xs → drop n (xs ++ ys) ≡ ys
 drop_front [] ys n e = rw e refl
 drop_front (x ∷ xs) ys zero e = absurd (omega arith)
 drop_front (x ∷ xs) ys (suc n) e = drop_front xs ys n (omega arith)

@@ -1,7 +1,6 @@
 -- Places in a text by lines and UTF-16 units (LSP 3.17, "Position"), on its characters.
-use Rattle.std.specs.Prelude.{◌≡◌, ℕ, zero, suc, ◌+◌, ◌-◌, ◌≤◌, ◌<◌, Bool, false, List, [], ◌∷◌, if◌then◌else◌, nat_lt, ◌==◌, ◌&&◌, ◌||◌, not, length, drop, get_or, Option, Some, None}
+use Rattle.std.specs.Prelude.{◌≡◌, ℕ, zero, suc, ◌+◌, ◌-◌, ◌≤◌, ◌<◌, Bool, false, List, [], ◌∷◌, ◌++◌, if◌then◌else◌, nat_lt, ◌==◌, ◌&&◌, ◌||◌, not, length, drop, get_or, Option, Some, None, All, sum_by}
 use Rattle.std.specs.Char.{len_utf8}
-use Rattle.std.specs.Str.{chars, IsCharBoundary}
 
 -- CR or LF.
 unfoldable pub is_newline : ℕ → Bool
@@ -58,20 +57,65 @@ position_from l u n (c ∷ cs) =
 abbrev pub position_of : List ℕ → ℕ → ℕ × ℕ
 position_of cs n = position_from 0 0 n cs
 
+-- Whether the text ends with CR.
+unfoldable pub ends_with_cr : List ℕ → Bool
+ends_with_cr [] = false
+ends_with_cr (c ∷ []) = c == 13
+ends_with_cr (c ∷ d ∷ cs) = ends_with_cr (d ∷ cs)
+
+-- Whether the place between these two parts of a text is between the CR and the LF of one line end.
+abbrev pub splits_newline : List ℕ → List ℕ → Bool
+splits_newline before after = ends_with_cr before && starts_with_lf after
+
+-- A place within a line: these characters of the line stand before it, and take so many units.
+pub record IsPlaceIn (cs : List ℕ) (line unit : ℕ) (before after : List ℕ) : Type 0 where
+  pub on : from_line line cs ≡ Some (before ++ after)
+  pub within : All (λ c. is_newline c ≡ false) before
+  pub units_are : sum_by units before ≡ unit
+
 -- The second text is what follows some place of the first.
 pub record IsRest (text rest : List ℕ) : Type 0 where
   pub le : length rest ≤ length text
   pub is : rest ≡ drop (length text - length rest) text
 
--- The line begins at this byte of the text.
-pub record IsStart (text : List ℕ) (line at : ℕ) : Type 0 where
-  pub boundary : IsCharBoundary text at
-  pub is : from_line line (chars text) ≡ Some (chars (drop at text))
+-- Where lines end in a part of a text that begins at a place of it and that the rest follows: behind each LF, and behind
+-- each CR that no LF follows. The texts are bytes: in UTF-8 CR and LF are one byte each, and no other character has these bytes.
+unfoldable pub ends_in : ℕ → List ℕ → List ℕ → List ℕ
+ends_in at [] rest = []
+ends_in at (c ∷ cs) rest = if ends_line c (cs ++ rest) then (at + 1) ∷ ends_in (at + 1) cs rest else ends_in (at + 1) cs rest
 
--- These are where the first lines of the text begin, as many as there are entries.
+-- Where the lines of a text begin.
+abbrev pub line_starts : List ℕ → List ℕ
+line_starts text = 0 ∷ ends_in 0 text []
+
+-- These are where the lines of a text begin, unless there are none, which says that nobody has looked for them.
 abbrev pub AreStarts : List ℕ → List ℕ → Type 0
-AreStarts text starts = (l : ℕ) → l < length starts → IsStart text l (get_or starts l 0)
+AreStarts text starts = 0 < length starts → starts ≡ line_starts text
 
--- Each line before this one begins before the offset.
-unfoldable pub IsAfterLines : List ℕ → ℕ → ℕ → Type 0
-IsAfterLines text line offset = (l a : ℕ) → l < line → IsStart text l a → a < offset
+-- No line of the text ends.
+abbrev pub EndsNever : List ℕ → Type 0
+EndsNever text = (at : ℕ) → ends_in at text [] ≡ []
+
+-- The first line of the text ends behind so many bytes.
+pub record EndsAfter (text : List ℕ) (count : ℕ) : Type 0 where
+  pub some : 0 < count
+  pub le : count ≤ length text
+  pub is : (at : ℕ) → ends_in at text [] ≡ (at + count) ∷ ends_in (at + count) (drop count text) []
+
+-- The starts are those of a text that differs from this one only between two places: from `edge` up to `to` there, and up to `end`
+-- here. Behind the edge both have an LF, or neither, unless the text begins there.
+pub record IsEdited (starts text : List ℕ) (edge to end : ℕ) : Type 0 where
+  pub front : List ℕ
+  pub before : List ℕ
+  pub after : List ℕ
+  pub rest : List ℕ
+  pub were : AreStarts (front ++ (before ++ rest)) starts
+  pub is : text ≡ front ++ (after ++ rest)
+  pub seam : 0 < length front → starts_with_lf (before ++ rest) ≡ starts_with_lf (after ++ rest)
+  pub edge_is : edge ≡ length front
+  pub to_is : to ≡ length front + length before
+  pub end_is : end ≡ length front + length after
+
+-- No entry is greater than a later one.
+abbrev pub IsRising : List ℕ → Type 0
+IsRising xs = (i j : ℕ) → i ≤ j → j < length xs → get_or xs i 0 ≤ get_or xs j 0

@@ -1,12 +1,12 @@
-ghost use Rattle.std.specs.Prelude.{◌≡◌, ◌≤◌, ◌<◌, ◌++◌, ◌∷◌, ◌-◌, [], IsTrue, IsFalse, Some, length, drop, vec_len};
+ghost use Rattle.std.specs.Prelude.{◌≡◌, ◌≤◌, ◌<◌, ◌+◌, ◌-◌, ◌^◌, IsTrue, IfSome, MatchOption, None, Some, All, map, length, drop, take};
 ghost use Rattle.std.specs.Str.{chars, IsCharBoundary};
-ghost use Rattle.documents.specs.Places.{from_line, AreStarts, IsRest};
+ghost use Rattle.documents.specs.Places.{from_line, line_starts, AreStarts, IsEdited, IsRest, IsRising};
 
-use crate::text::from_line;
+use crate::lines::find_ends;
 
 /// The text from a byte on.
 #[tactic(auto, using(crate::proofs::LineStarts::places))]
-fn from_byte(text: &str, at: u32) -> &str
+pub fn from_byte(text: &str, at: u32) -> &str
     requires { IsCharBoundary text.now at }
     ensures value { result.now ≡ drop at text.now }
     ensures rest { IsRest text.now result.now }
@@ -14,111 +14,112 @@ fn from_byte(text: &str, at: u32) -> &str
     &text[at as usize..]
 }
 
-/// The nearest line at or before a line whose start is known, and the text from there on.
-#[tactic(auto, using(crate::proofs::LineStarts::places))]
-pub fn nearest<'a>(text: &'a str, starts: &[u32], line: u32) -> (u32, &'a str)
-    requires { AreStarts text.now starts.now }
-    ensures before { result.0 ≤ line }
-    ensures value { from_line result.0 (chars text.now) ≡ Some (chars result.1.now) }
-    ensures rest { IsRest text.now result.1.now }
-{
-    if starts.is_empty() {
-        return (0, text);
-    }
-    let known = (line as usize).min(starts.len() - 1);
-    (known as u32, from_byte(text, starts[known]))
-}
-
-/// The last line whose start is known to be at or before an offset, by halving; or 0.
-fn last_before(starts: &[u32], offset: u32) -> u32
-    ensures { result ≤ length starts.now }
+/// How many starts are at or before an offset, by halving.
+fn count_upto(starts: &[u32], offset: u32) -> usize
+    requires { IsRising starts.now }
+    ensures within { result ≤ length starts.now }
+    ensures before { All (λ a. a ≤ offset) (take result starts.now) }
+    ensures after { All (λ a. offset < a) (drop result starts.now) }
 {
     let mut low = 0;
-    let mut high = starts.len().min(u32::MAX as usize) as u32;
+    let mut high = starts.len();
     while low < high {
         let middle = low + (high - low) / 2;
-        if starts[middle as usize] <= offset {
+        if starts[middle] <= offset {
             low = middle + 1;
         } else {
             high = middle;
         }
     }
-    low.saturating_sub(1)
+    low
 }
 
-/// The same as `nearest` for a place that is given by its offset.
-#[tactic(auto, using(crate::proofs::LineStarts::places))]
-pub fn nearest_before<'a>(text: &'a str, starts: &[u32], offset: u32) -> (u32, &'a str)
-    requires { AreStarts text.now starts.now }
+/// The text from a line on.
+pub fn known_line<'a>(text: &'a str, starts: &[u32], line: u32) -> Option<&'a str>
+    requires some { 0 < length starts.now }
+    requires starts { AreStarts text.now starts.now }
+    ensures value { MatchOption result (from_line line (chars text.now) ≡ None) (λ r. from_line line (chars text.now) ≡ Some (chars r.now)) }
+    ensures rest { IfSome result (λ r. IsRest text.now r.now) }
+{
+    if line as usize >= starts.len() {
+        return None;
+    }
+    Some(from_byte(text, starts[line as usize]))
+}
+
+/// The line that an offset is on, and the text from its start on.
+pub fn line_before<'a>(text: &'a str, starts: &[u32], offset: u32) -> (u32, &'a str)
+    requires some { 0 < length starts.now }
+    requires starts { AreStarts text.now starts.now }
+    requires size { length text.now ≤ 16777216 }
     ensures before { length text.now - length result.1.now ≤ offset }
     ensures few { result.0 ≤ length text.now }
     ensures value { from_line result.0 (chars text.now) ≡ Some (chars result.1.now) }
     ensures rest { IsRest text.now result.1.now }
 {
-    let line = last_before(starts, offset);
-    if line as usize >= starts.len() {
-        return (0, text);
-    }
-    let at = starts[line as usize];
-    if at > offset {
-        return (0, text);
-    }
-    (line, from_byte(text, at))
+    let line = count_upto(starts, offset) - 1;
+    (line as u32, from_byte(text, starts[line]))
 }
 
-/// Whether there was room for one start more.
-fn keep(starts: &mut Vec<u32>, at: u32) -> bool
-    ensures kept { IsTrue result → starts.new.items ≡ starts.old.items ++ at ∷ [] }
-    ensures full { IsFalse result → starts.new.items ≡ starts.old.items }
-{
-    starts.push(at).is_ok()
-}
-
-/// Whether the start of a line is known, once that of the first one has been put down.
-fn begin(text: &str, starts: &mut Vec<u32>) -> bool
-    requires { AreStarts text.now starts.old.items }
-    ensures starts { AreStarts text.now starts.new.items }
-    ensures some { IsTrue result → 0 < length starts.new.items }
-{
-    if !starts.is_empty() {
-        return true;
-    }
-    if !keep(starts, 0) {
-        return false;
-    }
-    true
-}
-
-/// The text from the last known start on.
-#[tactic(auto, using(crate::proofs::LineStarts::places))]
-fn from_last<'a>(text: &'a str, starts: &[u32]) -> &'a str
-    requires some { 0 < length starts.now }
-    requires starts { AreStarts text.now starts.now }
-    ensures value { from_line (length starts.now - 1) (chars text.now) ≡ Some (chars result.now) }
-    ensures rest { IsRest text.now result.now }
-{
-    from_byte(text, starts[starts.len() - 1])
-}
-
-/// Finds the starts of further lines, from the last known one up to `line`, as long as there are lines
-/// and memory. What has been found stays found.
-#[tactic(auto, using(crate::proofs::LineStarts::places))]
-pub fn learn(text: &str, starts: &mut Vec<u32>, line: u32)
-    requires length { length text.now ≤ 16777216 }
+/// Finds where the lines of a text begin, unless it is known already or memory is wanting.
+pub fn learn(text: &str, starts: &mut Vec<u32>)
     requires starts { AreStarts text.now starts.old.items }
+    requires size { length text.now ≤ 16777216 }
     ensures { AreStarts text.now starts.new.items }
 {
-    if !begin(text, starts) {
+    if !starts.is_empty() {
         return;
     }
-    let mut rest = from_last(text, starts.as_slice());
-    while starts.len() <= line as usize {
-        let Some(next) = from_line(rest, 1) else {
-            return;
-        };
-        if !keep(starts, (text.len() - next.len()) as u32) {
-            return;
-        }
-        rest = next;
+    if starts.push(0).is_err() {
+        return;
+    }
+    if !find_ends(text.as_bytes(), 0, text.len() as u32, starts) {
+        starts.truncate(0);
+    }
+}
+
+/// Moves starts as the text before them grows or shrinks: what ended at `from` ends at `to`.
+fn shift(starts: &mut [u32], from: u32, to: u32)
+    requires low { All (λ a. from ≤ a) starts.old }
+    requires high { All (λ a. a - from + to < 2 ^ 32) starts.old }
+    ensures { starts.new ≡ map (λ a. a - from + to) starts.old }
+{
+    for start in starts.iter_mut() {
+        *start = *start - from + to;
+    }
+}
+
+/// The starts of the lines of an edited text, made of the old ones; false where memory was wanting.
+fn move_starts(text: &str, starts: &mut Vec<u32>, edge: u32, to: u32, end: u32) -> bool
+    requires some { 0 < length starts.old.items }
+    requires edited { IsEdited starts.old.items text.now edge to end }
+    requires size { length text.now ≤ 16777216 }
+    ensures { IsTrue result → starts.new.items ≡ line_starts text.now }
+{
+    let low = count_upto(starts.as_slice(), edge);
+    let high = count_upto(starts.as_slice(), to);
+    let Ok(mut later) = starts.split_off(high) else {
+        return false;
+    };
+    starts.truncate(low);
+    if !find_ends(text.as_bytes(), edge, end, starts) {
+        return false;
+    }
+    shift(later.as_mut_slice(), to, end);
+    starts.append(&mut later).is_ok()
+}
+
+/// Brings the starts of lines up to date with an edit, or forgets them where memory is wanting. It looks
+/// at what was put in and at the line ends next to it alone.
+pub fn update(text: &str, starts: &mut Vec<u32>, edge: u32, to: u32, end: u32)
+    requires edited { IsEdited starts.old.items text.now edge to end }
+    requires size { length text.now ≤ 16777216 }
+    ensures { AreStarts text.now starts.new.items }
+{
+    if starts.is_empty() {
+        return;
+    }
+    if !move_starts(text, starts, edge, to, end) {
+        starts.truncate(0);
     }
 }

@@ -1,6 +1,7 @@
 use crate::{Document, EditFault, TextChange};
 use lists::Text;
 use std::alloc::{AllocError, Global};
+use std::process::Abort;
 
 type Place = (u32, u32);
 
@@ -139,36 +140,26 @@ fn changes_are_made_or_refused(rt: HostRuntime) -> Result<(), AllocError> {
     Ok(())
 }
 
-/// The document of so many letters.
-fn letters(alloc: Global, count: usize) -> Result<Option<Document>, AllocError> {
-    let text = "a".repeat(alloc, count)?;
-    if text.len() > 16_777_216 {
-        return Ok(None);
-    }
-    Ok(Some(Document::from_text(alloc, text)))
-}
-
 /// The answer to a change that puts so many letters in place of the first `end` of the longest text.
 fn answer_to(
+    rt: &impl Abort,
     alloc: Global,
     end: Option<u32>,
     count: usize,
 ) -> Result<Result<(), EditFault>, AllocError> {
-    let Some(mut document) = letters(alloc, 16_777_216)? else {
-        return Ok(Ok(()));
-    };
-    let text = "b".repeat(alloc, count)?;
+    let longest = "a".repeat(alloc, 16_777_216)?;
+    assert!(rt; longest.len() <= 16_777_216);
+    let mut document = Document::from_text(alloc, longest);
+    let new = "b".repeat(alloc, count)?;
     let change = TextChange {
         range: match end {
             Some(end) => Some(((0, 0), (0, end))),
             None => None,
         },
-        text: Text::from_str(alloc, text.as_str())?,
+        text: Text::from_str(alloc, new.as_str())?,
     };
     let answer = document.apply(&change);
-    if answer.is_err() && document.text().len() != 16_777_216 {
-        return Ok(Ok(()));
-    }
+    assert_eq!(rt; document.text().len(), 16_777_216);
     Ok(answer)
 }
 
@@ -177,18 +168,18 @@ fn answer_to(
 fn a_text_that_would_be_too_long_is_refused(rt: HostRuntime) -> Result<(), AllocError> {
     let alloc = rt.alloc();
     assert_eq!(rt;
-        answer_to(alloc, Some(0), 1)?,
+        answer_to(&rt, alloc, Some(0), 1)?,
         Err(EditFault::TooLong(16_777_217))
     );
     assert_eq!(rt;
-        answer_to(alloc, Some(2), 7)?,
+        answer_to(&rt, alloc, Some(2), 7)?,
         Err(EditFault::TooLong(16_777_221))
     );
     assert_eq!(rt;
-        answer_to(alloc, None, 16_777_218)?,
+        answer_to(&rt, alloc, None, 16_777_218)?,
         Err(EditFault::TooLong(16_777_218))
     );
-    assert_eq!(rt; answer_to(alloc, Some(1), 1)?, Ok(()));
+    assert_eq!(rt; answer_to(&rt, alloc, Some(1), 1)?, Ok(()));
     Ok(())
 }
 

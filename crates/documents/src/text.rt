@@ -1,7 +1,7 @@
-ghost use Rattle.std.specs.Prelude.{◌≡◌, ◌<◌, false, ◌≤◌, ◌+◌, ◌^◌, ◌++◌, ◌∷◌, [], MatchOption, IfSome, IfNone, None, Some, length};
+ghost use Rattle.std.specs.Prelude.{◌≡◌, ◌<◌, false, ◌≤◌, ◌+◌, ◌^◌, ◌++◌, ◌∷◌, [], MatchOption, length};
 ghost use Rattle.std.specs.Str.{chars};
 ghost use Rattle.std.specs.Char.{len_utf8};
-ghost use Rattle.documents.specs.Places.{is_newline, units, ends_line, starts_with_lf, from_line, from_unit, position_from, IsRest};
+ghost use Rattle.documents.specs.Places.{is_newline, units, ends_line, starts_with_lf, from_unit, position_from, IsRest};
 ghost use lib.Utf8.{encode};
 
 /// Whether the character is CR or LF.
@@ -49,26 +49,6 @@ fn ends_line(c: char, more: &str) -> bool
     ensures { result ≡ ends_line c (chars more.now) }
 {
     c == '\n' || c == '\r' && !starts_with_lf(more)
-}
-
-/// The text from a line on.
-#[tactic(auto, using(crate::proofs::Rests::rests))]
-pub fn from_line(text: &str, line: u32) -> Option<&str>
-    ensures value { MatchOption result (from_line line (chars text.now) ≡ None) (λ r. from_line line (chars text.now) ≡ Some (chars r.now)) }
-    ensures rest { IfSome result (λ r. IsRest text.now r.now) }
-{
-    let mut rest = text;
-    let mut lines = line;
-    while lines > 0 {
-        let Some((c, more)) = first(rest) else {
-            return None;
-        };
-        if ends_line(c, more) {
-            lines -= 1;
-        }
-        rest = more;
-    }
-    Some(rest)
 }
 
 /// The text from a unit of its first line on.

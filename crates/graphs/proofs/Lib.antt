@@ -2,3 +2,5 @@ pub mod Marks
 pub mod Ranks
 pub mod Lists
 pub mod Rows
+pub mod Once
+pub mod Turning

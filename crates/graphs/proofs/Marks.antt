@@ -135,11 +135,11 @@ pub first_in : (b : ℕ) (bs : List ℕ) → IsIn b (b ∷ bs)
 unfolding IsIn
 first_in b bs = inl refl
 
-rest_in : (k b : ℕ) (bs : List ℕ) → IsIn k bs → IsIn k (b ∷ bs)
+pub rest_in : (k b : ℕ) (bs : List ℕ) → IsIn k bs → IsIn k (b ∷ bs)
 unfolding IsIn
 rest_in k b bs h = inr h
 
-marked : (w : Work) (b : ℕ) → b < length w.0 → IsMarked w (b ∷ []) (mark w b)
+pub marked : (w : Work) (b : ℕ) → b < length w.0 → IsMarked w (b ∷ []) (mark w b)
 unfolding mark
 marked w b l = one (is_marked w.0 b) w b l refl
 
@@ -171,7 +171,7 @@ unfolding IsPath
 step_path g a [] b c h e = (h, e)
 step_path g a (d ∷ cs) b c h e = (h.0, step_path g d cs b c h.1 e)
 
-first_path : (g : List (List ℕ)) (a b : ℕ) → IsIn b (edges g a) → IsPath g a [] b
+pub first_path : (g : List (List ℕ)) (a b : ℕ) → IsIn b (edges g a) → IsPath g a [] b
 unfolding IsPath
 first_path g a b e = e
 

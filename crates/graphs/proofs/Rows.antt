@@ -7,16 +7,16 @@ use Rattle.graphs.proofs.Marks.{in-left, in-right, in-either, in-one, in_at, sin
 use Rattle.graphs.proofs.Ranks.{last_or, low, from_node, within}
 
 -- a node among the first i + 1 is among the first i or is the next
-first-more : (bs : List ℕ) (i : ℕ) (b : ℕ) → i < length bs → IsIn b (take (i + 1) bs) → IsIn b (take i bs) ⊎ (get_or bs i 0 ≡ b)
+pub first-more : (bs : List ℕ) (i : ℕ) (b : ℕ) → i < length bs → IsIn b (take (i + 1) bs) → IsIn b (take i bs) ⊎ (get_or bs i 0 ≡ b)
 first-more bs i b l h = elim (in-either b (take i bs) (get_or bs i 0 ∷ []) (subst (IsIn b) (take_more bs i 0 l) h)) [
   | inl a ↦ inl a
   | inr a ↦ inr (in-one b (get_or bs i 0) a)
 ]
 
-first-before : (bs : List ℕ) (i : ℕ) (b : ℕ) → i < length bs → IsIn b (take i bs) → IsIn b (take (i + 1) bs)
+pub first-before : (bs : List ℕ) (i : ℕ) (b : ℕ) → i < length bs → IsIn b (take i bs) → IsIn b (take (i + 1) bs)
 first-before bs i b l h = subst (IsIn b) (sym (take_more bs i 0 l)) (in-left b (take i bs) (get_or bs i 0 ∷ []) h)
 
-first-last : (bs : List ℕ) (i : ℕ) → i < length bs → IsIn (get_or bs i 0) (take (i + 1) bs)
+pub first-last : (bs : List ℕ) (i : ℕ) → i < length bs → IsIn (get_or bs i 0) (take (i + 1) bs)
 first-last bs i l = subst (IsIn (get_or bs i 0)) (sym (take_more bs i 0 l)) (in-right (get_or bs i 0) (take i bs) (get_or bs i 0 ∷ []) (single (get_or bs i 0) (get_or bs i 0) refl))
 
 -- bounds

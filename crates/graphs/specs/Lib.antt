@@ -1,3 +1,4 @@
 pub mod Graph
 pub mod Marking
 pub mod Numbers
+pub mod Joined

@@ -1,8 +1,10 @@
 ghost use Rattle.std.specs.Prelude.{◌≡◌, true, IfOk, MatchOption};
 ghost use Rattle.graphs.specs.Graph.{InRange, Reaches, IsLeastCycle, IsAcyclic, IsForwardRow, IsForward};
+ghost use Rattle.graphs.specs.Joined.{IsJoined};
 ghost use Rattle.graphs.specs.Numbers.{number_of, all_below, NeverRises};
 
-use crate::components::components;
+use crate::components::components_of;
+use crate::joined::{Joined, join};
 use crate::reach::{reached, row};
 use lists::Items;
 use std::alloc::{AllocError, Global};
@@ -70,17 +72,19 @@ fn reaches_itself(
     }
 }
 
-/// Whether the node that an edge leads to reaches the node that the edge comes from. Where no edge rises and
-/// this one falls, nothing is searched.
+/// Whether the node that an edge leads to reaches the node that the edge comes from. Nothing is searched
+/// where no edge rises and this one falls, nor where both nodes lie on circles with one root.
 fn comes_back(
     alloc: Global,
     graph: &[Items<usize>],
     numbers: &[u32],
     falls: bool,
+    joined: &Joined,
     edge: (usize, usize),
 ) -> Result<bool, AllocError>
     requires range { InRange graph.now }
     requires falls { falls ≡ true → NeverRises graph.now numbers.now }
+    requires joined { IsJoined graph.now joined.now }
     ensures { IfOk result (λ r. (r ≡ true → Reaches graph.now edge.1 edge.0) × (Reaches graph.now edge.1 edge.0 → r ≡ true)) }
 {
     let (node, next) = edge;
@@ -88,6 +92,9 @@ fn comes_back(
         if number_of(numbers, next) < number_of(numbers, node) {
             return Ok(false);
         }
+    }
+    if joined.is_way(next, node) {
+        return Ok(true);
     }
     let marks = reached(alloc, graph, next)?;
     match marks.get(node) {
@@ -102,16 +109,18 @@ fn forward_row(
     graph: &[Items<usize>],
     numbers: &[u32],
     falls: bool,
+    joined: &Joined,
     node: usize,
 ) -> Result<Items<usize>, AllocError>
     requires range { InRange graph.now }
     requires falls { falls ≡ true → NeverRises graph.now numbers.now }
+    requires joined { IsJoined graph.now joined.now }
     ensures { IfOk result (λ kept. IsForwardRow graph.now node kept) }
 {
     let nodes = row(graph, node);
     let mut kept = Items::new(alloc);
     for next in nodes {
-        if comes_back(alloc, graph, numbers, falls, (node, *next))? {
+        if comes_back(alloc, graph, numbers, falls, joined, (node, *next))? {
             continue;
         }
         kept.push(*next)?;
@@ -119,8 +128,8 @@ fn forward_row(
     Ok(kept)
 }
 
-/// The graph without the edges that lie on circles. It takes time linear in the graph where there is no
-/// circle, and beyond that a search for each edge within a component.
+/// The graph without the edges that lie on circles. It takes time linear in the graph: the components are
+/// found, and of each one node is searched from along its edges and against them.
 pub fn without_circles(
     alloc: Global,
     graph: &[Items<usize>],
@@ -128,11 +137,13 @@ pub fn without_circles(
     requires range { InRange graph.now }
     ensures exact { IfOk result (λ rows. IsForward graph.now rows) }
 {
-    let numbers = components(alloc, graph)?;
+    let found = components_of(alloc, graph)?;
+    let numbers = found.numbers;
     let falls = never_rises(graph, &numbers);
+    let joined = join(alloc, graph, found.roots)?;
     let mut rows = Items::new(alloc);
     for node in 0..graph.len() {
-        rows.push(forward_row(alloc, graph, &numbers, falls, node)?)?;
+        rows.push(forward_row(alloc, graph, &numbers, falls, &joined, node)?)?;
     }
     Ok(rows)
 }
@@ -148,7 +159,7 @@ pub fn least_cycle(
     requires range { InRange graph.now }
     ensures exact { IfOk result (λ found. MatchOption found (IsAcyclic graph.now skip) (λ a. IsLeastCycle graph.now skip a)) }
 {
-    let numbers = components(alloc, graph)?;
+    let numbers = components_of(alloc, graph)?.numbers;
     let falls = never_rises(graph, &numbers);
     for node in 0..graph.len() {
         if node == skip {

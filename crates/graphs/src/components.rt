@@ -9,6 +9,8 @@ use std::alloc::{AllocError, Global};
 struct Search {
     /// For each node the number of its component.
     components: Vec<u32>,
+    /// For each node the node of its component that was met first.
+    roots: Vec<usize>,
     /// For each node when it was met.
     met: Vec<u32>,
     /// For each node the earliest node that it is known to come back to.
@@ -21,16 +23,26 @@ struct Search {
     components_found: u32,
 }
 
-fn put(numbers: &mut Vec<u32>, node: usize, number: u32) {
+fn put<T: Copy>(numbers: &mut Vec<T>, node: usize, number: T) {
     if node < numbers.len() {
         numbers[node] = number;
     }
+}
+
+/// The strongly connected components of a graph.
+#[derive(Drop)]
+pub(crate) struct Components {
+    /// The number of each node's component.
+    pub numbers: Vec<u32>,
+    /// For each node a node of its component, the same for all of its nodes.
+    pub roots: Vec<usize>,
 }
 
 impl Search {
     fn new(alloc: Global, nodes: usize) -> Result<Search, AllocError> {
         Ok(Search {
             components: vec![in alloc; 0; nodes]?,
+            roots: vec![in alloc; 0; nodes]?,
             met: vec![in alloc; 0; nodes]?,
             earliest: vec![in alloc; 0; nodes]?,
             open: Vec::new(alloc),
@@ -73,6 +85,7 @@ impl Search {
         self.components_found = self.components_found.saturating_add(1);
         while let Some(member) = self.open.pop() {
             put(&mut self.components, member, self.components_found);
+            put(&mut self.roots, member, node);
             if member == node {
                 break;
             }
@@ -111,15 +124,21 @@ impl Search {
     }
 }
 
-/// Numbers of the strongly connected components, so that a node's edges lead to its own component or to
-/// one of a lesser number. No proof rests on what they are: the caller looks at each edge once, and an
-/// edge within a component costs it a search.
-pub(crate) fn components(alloc: Global, graph: &[Items<usize>]) -> Result<Vec<u32>, AllocError> {
+/// The strongly connected components, numbered so that a node's edges lead to its own component or to one of
+/// a lesser number. No proof rests on what they are: whoever uses them looks at each edge once, and searches
+/// where that look isn't enough.
+pub(crate) fn components_of(
+    alloc: Global,
+    graph: &[Items<usize>],
+) -> Result<Components, AllocError> {
     let mut search = Search::new(alloc, graph.len())?;
     for node in 0..graph.len() {
         if number_of(&search.met, node) == 0 {
             search.search(graph, node)?;
         }
     }
-    Ok(search.components)
+    Ok(Components {
+        numbers: search.components,
+        roots: search.roots,
+    })
 }

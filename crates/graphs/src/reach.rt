@@ -1,4 +1,4 @@
-ghost use Rattle.std.specs.Prelude.{◌≡◌, ◌<◌, ℕ, true, IfOk, OnOk, length};
+ghost use Rattle.std.specs.Prelude.{◌≡◌, ◌≢◌, ◌<◌, ℕ, true, IfOk, OnOk, length, AllPairs};
 ghost use Rattle.graphs.specs.Graph.{IsIn, edges, InRange, AreMarked, AreAncestors, AreFree};
 ghost use Rattle.graphs.specs.Marking.{mark, mark_row, unmark};
 
@@ -118,6 +118,7 @@ pub fn ancestors(
     requires range { InRange graph.now }
     requires marks { AreFree (length graph.now) marks.old.items }
     ensures exact { IfOk result (λ nodes. AreAncestors graph.now from nodes.items) }
+    ensures distinct { IfOk result (λ nodes. AllPairs (λ a b. a ≢ b) nodes.items) }
     ensures free { OnOk result (AreFree (length graph.now) marks.new.items) }
 {
     let mut waiting = Vec::new(alloc);

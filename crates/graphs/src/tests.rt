@@ -74,16 +74,32 @@ fn what_is_reached_is_marked_and_listed(rt: HostRuntime) -> Result<(), AllocErro
     Ok(())
 }
 
+/// The edges of graphs of six nodes, and how many edges of each node don't lie on a circle.
+const KEPT: [(&[(usize, usize)], [usize; 6]); 4] = [
+    (
+        &[(0, 1), (1, 2), (2, 1), (2, 3), (4, 4), (4, 0)],
+        [1, 0, 1, 0, 1, 0],
+    ),
+    (
+        &[(0, 1), (1, 2), (2, 0), (0, 2), (2, 3), (3, 4), (4, 3)],
+        [0, 0, 1, 0, 0, 0],
+    ),
+    (
+        &[(5, 4), (4, 3), (3, 2), (2, 1), (1, 0), (0, 5), (3, 5)],
+        [0, 0, 0, 0, 0, 0],
+    ),
+    (&[(0, 1), (0, 2), (1, 2), (2, 3)], [2, 1, 1, 0, 0, 0]),
+];
+
 #[test]
 fn edges_on_circles_are_left_out(rt: HostRuntime) -> Result<(), AllocError> {
-    let rows = graph(
-        rt.alloc(),
-        &[(0, 1), (1, 2), (2, 1), (2, 3), (4, 4), (4, 0)],
-    )?;
-    assert!(rt; is_in_range(&rows));
-    let kept = without_circles(rt.alloc(), &rows)?;
-    let lengths = kept.as_slice().iter().map(|row| row.len());
-    assert!(rt; lengths.eq([1, 0, 1, 0, 1, 0]));
+    for (edges, kept) in KEPT {
+        let rows = graph(rt.alloc(), edges)?;
+        assert!(rt; is_in_range(&rows));
+        let rows = without_circles(rt.alloc(), &rows)?;
+        let lengths = rows.as_slice().iter().map(|row| row.len());
+        assert!(rt; lengths.eq(kept));
+    }
     Ok(())
 }
 

@@ -1,2 +1,4 @@
-mod Runs
-mod Tiles
+pub mod Runs
+pub mod Tiles
+mod Closed
+pub mod Total

@@ -72,7 +72,7 @@ comment-some c cs =
     (either-some (begins (codes "/*") (c ∷ cs)) (kind.Comment, 2 + up_to (codes "*/") (drop 1 cs)) (from_block c cs) (omega arith) (block-some c cs))
 
 -- No rule takes an empty token.
-rule-some : (c : ℕ) (cs : List ℕ) → 0 < (rule c cs).1
+pub rule-some : (c : ℕ) (cs : List ℕ) → 0 < (rule c cs).1
 unfolding rule from_comment from_block from_quote from_word
 rule-some c cs =
     either-some (is_white c) (kind.White, suc (run_of White cs)) (from_comment c cs) (omega arith) (comment-some c cs)

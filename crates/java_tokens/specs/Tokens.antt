@@ -1,8 +1,8 @@
 -- The tokens of a text.
-use Rattle.std.specs.Prelude.{◌≡◌, ℕ, ◌+◌, ◌<◌, List, [], ◌∷◌, take, drop}
+use Rattle.std.specs.Prelude.{◌≡◌, ℕ, ◌+◌, ◌<◌, ◌≤◌, Bool, List, [], ◌∷◌, take, drop}
 use Rattle.std.specs.Char.{len_utf8}
-use Rattle.std.specs.Str.{chars}
-use Rattle.java_tokens.specs.Rules.{rule}
+use Rattle.std.specs.Str.{chars, IsCharBoundary}
+use Rattle.java_tokens.specs.Rules.{rule, is_closed_at}
 use Rattle.java_tokens.specs.declared.token.Token.{Token}
 
 -- How many bytes these characters take in UTF-8.
@@ -27,3 +27,26 @@ AreTokensOf text tokens = AreTokens 0 (chars text) tokens
 abbrev pub Tile : ℕ → ℕ → List Token → Type 0
 Tile at end [] = at ≡ end
 Tile at end (t ∷ ts) = (t.start ≡ at) × (at < t.end) × Tile t.end end ts
+
+-- The text has tokens.
+pub record HasTokens (text : List ℕ) : Type 0 where
+  pub all : List Token
+  pub are : AreTokensOf text all
+
+-- The text has no other tokens.
+abbrev pub AreOnlyTokens : List ℕ → List Token → Type 0
+AreOnlyTokens text tokens = (others : List Token) → AreTokensOf text others → others ≡ tokens
+
+-- The token stands at whole characters of the text.
+pub record IsWithin (text : List ℕ) (t : Token) : Type 0 where
+  pub start : IsCharBoundary text t.start
+  pub end : IsCharBoundary text t.end
+  pub order : t.start ≤ t.end
+
+abbrev pub AreWithin : List ℕ → List Token → Type 0
+AreWithin text [] = Unit {0}
+AreWithin text (t ∷ ts) = IsWithin text t × AreWithin text ts
+
+-- Whether the token of the text is closed.
+unfoldable pub is_closed : List ℕ → Token → Bool
+is_closed text token = is_closed_at (chars (drop token.start text))

@@ -5,9 +5,11 @@
 #![tactic(auto)]
 
 mod char_class;
+mod closing;
 mod rules;
 mod token;
 
+pub use closing::is_closed;
 pub use token::{Token, TokenKind, tokens};
 
 #[cfg(test)]

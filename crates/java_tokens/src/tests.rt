@@ -1,4 +1,4 @@
-use crate::{TokenKind, tokens};
+use crate::{TokenKind, is_closed, tokens};
 use std::alloc::AllocError;
 
 /// A text, and its tokens: a letter for the kind of each, and where each ends.
@@ -189,6 +189,43 @@ fn texts_are_cut_by_the_rules(rt: HostRuntime) -> Result<(), AllocError> {
             assert_eq!(rt; token.end, *end, "{}", row.text);
             start = *end;
         }
+    }
+    Ok(())
+}
+
+/// Texts of one token at their front, and whether it is closed.
+const CLOSED: [(&str, bool); 22] = [
+    ("/* a */", true),
+    ("/**/ x", true),
+    ("/* a *", false),
+    ("/*/", false),
+    ("/*/ \u{E9} */", true),
+    ("\"a\\\"b\"c", true),
+    ("\"\" x", true),
+    ("\"a\nb\"", false),
+    ("\"a\\\n\"", false),
+    ("\"\\\"", false),
+    ("\"\u{E9}\\\u{1F600}\"", true),
+    ("\"", false),
+    ("\"\"\"a\"b\\\"\"\"c\"\"\"d", true),
+    ("\"\"\"a\"\"\\\"", false),
+    ("\"\"\"", false),
+    ("'a'", true),
+    ("'\\''b", true),
+    ("'\\'", false),
+    ("'a\rb'", false),
+    ("// a", true),
+    ("a\"", true),
+    (" \"", true),
+];
+
+#[test]
+fn closing_marks_are_seen(rt: HostRuntime) -> Result<(), AllocError> {
+    for (text, closed) in &CLOSED {
+        assert!(rt; text.len() <= 16_777_216);
+        let found = tokens(rt.alloc(), text)?;
+        assert!(rt; !found.is_empty());
+        assert_eq!(rt; is_closed(text, &found.as_slice()[0]), *closed, "{text}");
     }
     Ok(())
 }

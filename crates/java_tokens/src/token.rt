@@ -1,5 +1,5 @@
 ghost use Rattle.std.specs.Prelude.{◌≡◌, ◌≤◌, length, IfOk};
-ghost use Rattle.java_tokens.specs.Tokens.{AreTokens, AreTokensOf, Tile, byte_len};
+ghost use Rattle.java_tokens.specs.Tokens.{AreTokens, AreTokensOf, AreOnlyTokens, AreWithin, HasTokens, Tile, byte_len};
 
 use crate::rules::{byte_len, rule, tail};
 use lists::Items;
@@ -59,13 +59,18 @@ fn tokens_of_chars(alloc: Global, cs: &[char]) -> Result<Items<Token>, AllocErro
 }
 
 /// The tokens of a text of at most 16 MiB, white space and comments included. No text is refused.
-/// It takes time linear in the text, and four bytes for each character while it runs.
+/// Each text has exactly one list of tokens, and each token stands at whole characters. It takes time linear
+/// in the text, and four bytes for each character while it runs.
 #[tactic(auto, using(crate::proofs::Runs::runs))]
 pub fn tokens(alloc: Global, text: &str) -> Result<Items<Token>, AllocError>
     requires at_most_16_mib { length text.now ≤ 16777216 }
     ensures by_the_rules { IfOk result (λ ts. AreTokensOf text.now ts) }
+    ensures total { HasTokens text.now }
+    ensures only { IfOk result (λ ts. AreOnlyTokens text.now ts) }
     ensures tiling { IfOk result (λ ts. Tile 0 (length text.now) ts) }
+    ensures whole { IfOk result (λ ts. AreWithin text.now ts) }
 {
     let cs: Vec<char> = text.chars().collect(alloc)?;
-    tokens_of_chars(alloc, cs.as_slice())
+    let all = tokens_of_chars(alloc, cs.as_slice())?;
+    Ok(all)
 }

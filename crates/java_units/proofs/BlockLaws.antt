@@ -1,17 +1,14 @@
 -- Blocks counted from the end.
 use Rattle.std.proofs.Common.{◌≡◌, ◌∙◌, ap, sym, ℕ, zero, suc, ◌+◌, ◌-◌, Bool, true, false, drop, arith, List, [], ◌∷◌, ◌++◌, refl, length, append_assoc, append-nil, codes, if◌then◌else◌, length-append}
-use Rattle.std.proofs.Common.{◌<◌, ◌≤◌, ◌&&◌, not, slice_index_or, take, add-one, subst, IsUtf8}
+use Rattle.std.proofs.Common.{◌<◌, ◌≤◌, ◌&&◌, not, slice_index_or, add-one, subst}
 use Rattle.std.proofs.lemmas.List.{drop_all}
-use Rattle.std.proofs.lemmas.Str.{length-encode, encodes-append, IsCharBoundary-at_seam, encodes-chars, scalars-chars}
 use Rattle.std.specs.Prelude.{bytes_eq}
-use Rattle.std.specs.Str.{chars, IsCharBoundary}
 use Rattle.std.proofs.lemmas.Slice.Eq.{bytes_eq-Decides}
-use lib.Utf8.{encodes, encode, scalars, scalar}
-use Rattle.java_tokens.specs.Tokens.{AreTokens, byte_len}
+use Rattle.java_tokens.specs.Tokens.{IsWithin, AreWithin}
 use Rattle.java_tokens.specs.declared.token.Token.{Token}
 use Rattle.java_units.specs.declared.lexemes.Lexeme.{Lexeme}
 use Rattle.java_units.specs.Signs.{Sign, sign, seen, is, has, reserved, holding, with_blocks, is_blank, is_word, text_of, sign_of, signs_from}
-use Rattle.java_units.specs.Blocks.{from_last, nth, block_len, closers_after, seen_back, IsWithin, AreWithin}
+use Rattle.java_units.specs.Blocks.{from_last, nth, block_len, closers_after, seen_back}
 
 -- how many signs stand from each closing brace on that is open at the front
 unfoldable pub waits : List Sign → List ℕ
@@ -216,44 +213,6 @@ pub backs_end : (text : List ℕ) (ts : List Token) (n : ℕ) (back : List Lexem
 backs_end text ts n back closers e h = (subst (λ k. Backs text ts k back closers) e h).signs
 
 -- tokens stand at whole characters
-len_is : (cs : List ℕ) → byte_len cs ≡ length (encodes cs)
-unfolding byte_len
-len_is [] = refl
-len_is (c ∷ cs) = grind (arith, len_is cs, length-encode c, length-append (encode c) (encodes cs))
-
-split : (n : ℕ) (cs : List ℕ) → take n cs ++ drop n cs ≡ cs
-split zero cs = refl
-split (suc n) [] = refl
-split (suc n) (c ∷ cs) = ap (λ r. c ∷ r) (split n cs)
-
-and_right : (a b : Bool) → (a && b) ≡ true → b ≡ true
-and_right true b e = e
-and_right false b e = absurd cc
-
-scalars_drop : (n : ℕ) (cs : List ℕ) → scalars cs ≡ true → scalars (drop n cs) ≡ true
-scalars_drop zero cs e = e
-scalars_drop (suc n) [] e = refl
-scalars_drop (suc n) (c ∷ cs) e = scalars_drop n cs (and_right (scalar c) (scalars cs) e)
-
-edge : (text pre cs : List ℕ) → text ≡ pre ++ encodes cs → scalars cs ≡ true → IsCharBoundary text (length pre)
-edge text pre cs e s = IsCharBoundary-at_seam text pre (encodes cs) e (cs, (s, refl))
-
-within_from : (text pre cs : List ℕ) (at : ℕ) (ts : List Token) → text ≡ pre ++ encodes cs → at ≡ length pre → scalars cs ≡ true → AreTokens at cs ts → AreWithin text ts
-within_from text pre cs at [] e a s are = tt
-within_from text pre [] at (t ∷ ts) e a s are = absurd are
-within_from text pre (c ∷ cs) at (t ∷ ts) e a s (n, r, first, last, more) =
-    let all = c ∷ cs in
-    let longer = pre ++ encodes (take n all) in
-    let e2 : text ≡ longer ++ encodes (drop n all) = e ∙ (ap (λ x. pre ++ x) (sym (ap encodes (split n all)) ∙ encodes-append (take n all) (drop n all)) ∙ sym (append_assoc pre (encodes (take n all)) (encodes (drop n all)))) in
-    let a2 : t.end ≡ length longer = omega (arith, last, a, len_is (take n all), length-append pre (encodes (take n all))) in
-    let s2 = scalars_drop n all s in
-    let from : IsCharBoundary text t.start = subst (IsCharBoundary text) (sym (first ∙ a)) (edge text pre all e s) in
-    let to : IsCharBoundary text t.end = subst (IsCharBoundary text) (sym a2) (edge text longer (drop n all) e2 s2) in
-    (record { start = from; end = to; order = omega (arith, first, last) }, within_from text longer (drop n all) t.end ts e2 a2 s2 more)
-
-pub all_within : (text : List ℕ) (ts : List Token) → IsUtf8 text → AreTokens 0 (chars text) ts → AreWithin text ts
-all_within text ts u are = within_from text [] (chars text) 0 ts (sym (encodes-chars text u)) refl (scalars-chars text u) are
-
 pub within_at : (text : List ℕ) (ts : List Token) (i : ℕ) (d : Token) → i < length ts → AreWithin text ts → IsWithin text (slice_index_or ts i d)
 within_at text [] i d l are = absurd (omega arith)
 within_at text (t ∷ ts) zero d l are = are.0

@@ -73,7 +73,7 @@ piece_some ss l z =
     let k : 0 < length (end ss) = omega (arith, end_is ss, h, l) in
     absurd (omega (arith, piece_is ss, z, end_some (end ss) k))
 
-next_piece : (ss : List Sign) → 0 < length ss → pieces ss ≡ ss ∷ pieces (drop (piece_len ss) ss)
+pub next_piece : (ss : List Sign) → 0 < length ss → pieces ss ≡ ss ∷ pieces (drop (piece_len ss) ss)
 next_piece ss l = starts-more piece_len ss (piece_len ss) refl (piece_some ss l) l
 
 bare_within : (ss : List Sign) → length (bare ss) ≤ head_len 0 false ss
@@ -206,7 +206,7 @@ pub some_signs : (ss : List Sign) → ss ≢ [] → 0 < length ss
 some_signs [] z = absurd (z refl)
 some_signs (s ∷ ss) z = omega arith
 
-block_some : (ss : List Sign) → begins (codes "{") ss ≡ true → 0 < length ss
+pub block_some : (ss : List Sign) → begins (codes "{") ss ≡ true → 0 < length ss
 unfolding begins
 block_some [] e = absurd (cc)
 block_some (s ∷ ss) e = omega arith

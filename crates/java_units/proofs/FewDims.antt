@@ -24,6 +24,9 @@ unfolding with_blocks
 blocks_length [] = refl
 blocks_length (s ∷ ss) = ap suc (blocks_length ss)
 
+pub signs_few : (text : List ℕ) (tokens : List Token) → length (signs_of text tokens) ≤ length tokens
+signs_few text tokens = omega (arith, blocks_length (signs_from text 0 tokens), signs_within text 0 tokens)
+
 -- each token takes a byte of the text at least
 tile_length : (ts : List Token) (at end : ℕ) → Tile at end ts → at + length ts ≤ end
 tile_length [] at end h = omega (arith, h)
@@ -34,7 +37,7 @@ few_dims text tokens u is =
     let all = is.all_classes in
     let ss = signs_of text tokens in
     let n = length tokens in
-    let l : length ss ≤ n = omega (arith, blocks_length (signs_from text 0 tokens), signs_within text 0 tokens) in
+    let l = signs_few text tokens in
     let a = body_few all.body n 0 n None ss l all.is in
     let b = body_pays all.body n 0 None ss ClassDecl [] all.is in
     let few : greatest type_dims (listed all.body) + dims_of_bounds (listed all.body) ≤ 2 * n = omega (arith, a, b, l) in

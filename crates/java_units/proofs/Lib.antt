@@ -9,3 +9,11 @@ pub mod ClassTypes
 pub mod Bounds
 pub mod FewDims
 pub mod UnitThere
+pub mod WordTables
+pub mod Counts
+pub mod PieceLaws
+mod PlainForms
+mod PlainPieces
+mod TextSigns
+mod OnlySigns
+mod BracketLaws

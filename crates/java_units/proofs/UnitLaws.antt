@@ -73,10 +73,10 @@ no_class : is_class [] ≡ false
 unfolding begins begins_any begins_name starts span total name_len base_len dim_len type_len vars_len entries_len var_len head_len head end bare fills package_len import_len target_len class_len kind_len named_len vars_end header_len result_len past_vars is_call is_constructor is_method fields_len form is_class
 no_class = refl
 
-contrary : (ss : List Sign) → is_class ss ≡ true → is_class ss ≡ false → ⊥
+pub contrary : (ss : List Sign) → is_class ss ≡ true → is_class ss ≡ false → ⊥
 contrary ss p q = absurd (cc)
 
-some_class : (ss : List Sign) → is_class ss ≡ true → ss ≡ [] → ⊥
+pub some_class : (ss : List Sign) → is_class ss ≡ true → ss ≡ [] → ⊥
 some_class ss p e = contrary ss p (ap is_class e ∙ no_class)
 
 same_body : (a b : Body) (count next : ℕ) (around : Option Around) (ss : List Sign) → IsBody count around next ss a → IsBody count around next ss b → a ≡ b

@@ -1,12 +1,12 @@
 -- Walks over signs.
-use Rattle.std.proofs.Common.{◌≡◌, ◌∙◌, ◌==◌, ap, sym, ℕ, zero, suc, ◌+◌, ◌-◌, ◌<◌, ◌≤◌, slice_index_or, take_all, drop, take, map, arith, List, [], ◌∷◌, refl, Bool, true, false, length, tests, rules, subst, ◌≢◌, if◌then◌else◌, ◌||◌, add-one, min, codes}
+use Rattle.std.proofs.Common.{◌≡◌, ◌∙◌, ◌==◌, ap, sym, ℕ, zero, suc, ◌+◌, ◌-◌, ◌<◌, ◌≤◌, slice_index_or, take_all, drop, take, map, arith, List, [], ◌∷◌, refl, Bool, true, false, length, tests, rules, subst, ◌≢◌, if◌then◌else◌, ◌||◌, ◌&&◌, add-one, min, codes}
 use Rattle.std.proofs.lemmas.List.{drop_more, drop_all, take_more, length-drop, drop-map, drop-drop}
 use Rattle.java_units.specs.declared.lexemes.Lexeme.{Lexeme}
 use Rattle.std.specs.Prelude.{bytes_eq}
 use denote.Ref.{Bor}
 use Rattle.java_units.specs.Words.{texts}
 use Rattle.java_units.specs.Signs.{Sign, sign, seen, is, has}
-use Rattle.java_units.specs.Forms.{begins, begins_name, begins_any, starts, total, span, closing, more, stops, deeper, up_to}
+use Rattle.java_units.specs.Forms.{begins, begins_name, begins_any, starts, total, span, closing, more, stops, deeper, up_to, goes_on, rest_len}
 use Rattle.java_units.specs.Pieces.{ends, sets, head_len, end_len, held}
 
 pub seen-length : (ls : List Lexeme) → length (seen ls) ≡ length ls
@@ -207,6 +207,20 @@ up_to-on w ls i d k x l e h = step i k _ _ e (h ∙ ap (λ xs. i + up_to w d xs)
 pub up_to-end : (w : List ℕ) (ls : List Lexeme) (i d k : ℕ) → length ls ≤ i → k ≡ i + up_to w d (drop i (seen ls)) → k ≡ i
 unfolding up_to
 up_to-end w ls i d k l h = h ∙ (ap (λ xs. i + up_to w d xs) (drop_all i (seen ls) (omega (arith, seen-length ls))) ∙ omega arith)
+
+pub rest_len-hit : (ls : List Lexeme) (i d k : ℕ) (x : Lexeme) → i < length ls → (d == 0 && goes_on (drop i (seen ls))) ≡ true → k ≡ i + rest_len d (drop i (seen ls)) → i ≡ k
+unfolding rest_len
+rest_len-hit ls i d k x l e h =
+    stop i k _ _ (ap (λ xs. d == 0 && goes_on xs) (sym (seen-at ls i x l)) ∙ e) (h ∙ ap (λ xs. i + rest_len d xs) (seen-at ls i x l))
+
+pub rest_len-on : (ls : List Lexeme) (i d k : ℕ) (x : Lexeme) → i < length ls → (d == 0 && goes_on (drop i (seen ls))) ≡ false → k ≡ i + rest_len d (drop i (seen ls)) → k ≡ (i + 1) + rest_len (deeper d (sign (slice_index_or ls i x))) (drop (i + 1) (seen ls))
+unfolding rest_len
+rest_len-on ls i d k x l e h =
+    step i k _ _ (ap (λ xs. d == 0 && goes_on xs) (sym (seen-at ls i x l)) ∙ e) (h ∙ ap (λ xs. i + rest_len d xs) (seen-at ls i x l))
+
+pub rest_len-end : (ls : List Lexeme) (i d k : ℕ) → length ls ≤ i → k ≡ i + rest_len d (drop i (seen ls)) → k ≡ i
+unfolding rest_len
+rest_len-end ls i d k l h = h ∙ (ap (λ xs. i + rest_len d xs) (drop_all i (seen ls) (omega (arith, seen-length ls))) ∙ omega arith)
 
 pub head_len-hit : (ls : List Lexeme) (i d k : ℕ) (b : Bool) (x : Lexeme) → i < length ls → ends d b (sign (slice_index_or ls i x)) ≡ true → k ≡ i + head_len d b (drop i (seen ls)) → i ≡ k
 unfolding head_len

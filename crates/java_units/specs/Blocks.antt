@@ -1,8 +1,5 @@
 -- Blocks counted from the end of the text: the places of the closing braces that are still open there.
 use Rattle.std.specs.Prelude.{ℕ, zero, suc, ◌+◌, ◌-◌, List, [], ◌∷◌, ◌++◌, drop, if◌then◌else◌, codes, bytes_eq}
-use Rattle.java_tokens.specs.declared.token.Token.{Token}
-use Rattle.std.specs.Str.{IsCharBoundary}
-use Rattle.std.specs.Prelude.{◌≤◌}
 use Rattle.java_units.specs.declared.lexemes.Lexeme.{Lexeme}
 use Rattle.java_units.specs.Signs.{Sign, sign}
 
@@ -32,13 +29,3 @@ closers_after w count closers =
 unfoldable pub seen_back : List Lexeme → List Sign
 seen_back [] = []
 seen_back (l ∷ ls) = seen_back ls ++ sign l ∷ []
-
--- The token stands at whole characters of the text.
-pub record IsWithin (text : List ℕ) (t : Token) : Type 0 where
-  pub start : IsCharBoundary text t.start
-  pub end : IsCharBoundary text t.end
-  pub order : t.start ≤ t.end
-
-abbrev pub AreWithin : List ℕ → List Token → Type 0
-AreWithin text [] = Unit {0}
-AreWithin text (t ∷ ts) = IsWithin text t × AreWithin text ts

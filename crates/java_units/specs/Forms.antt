@@ -1,5 +1,5 @@
 -- How many signs a form at the front takes, and 0 where it doesn't stand there.
-use Rattle.std.specs.Prelude.{ℕ, zero, suc, ◌+◌, ◌-◌, Bool, false, ◌&&◌, ◌||◌, not, ◌==◌, List, [], ◌∷◌, drop, map, if◌then◌else◌, codes}
+use Rattle.std.specs.Prelude.{ℕ, zero, suc, ◌+◌, ◌-◌, Bool, true, false, ◌&&◌, ◌||◌, not, ◌==◌, List, [], ◌∷◌, drop, map, if◌then◌else◌, codes}
 use Rattle.java_units.specs.Signs.{Sign, is, has}
 use Rattle.java_units.specs.declared.entries.Entry.{Entry}
 use Rattle.java_units.specs.declared.entries.Entry.TheVariants as entry
@@ -98,10 +98,12 @@ annotation_len ss =
     (let n = name_len (drop 1 ss) in if n == 0 then 0 else (1 + n) + rounds (drop (1 + n) ss))
     else 0
 
+-- The modifiers of one word, short ones first; those that aren't reserved words are identifiers too.
 abbrev pub modifiers : List (List ℕ)
 modifiers =
-    codes "public" ∷ codes "protected" ∷ codes "private" ∷ codes "static" ∷ codes "final" ∷ codes "abstract" ∷ codes "native"
-    ∷ codes "synchronized" ∷ codes "transient" ∷ codes "volatile" ∷ codes "strictfp" ∷ codes "default" ∷ codes "sealed" ∷ []
+    codes "final" ∷ codes "native" ∷ codes "public" ∷ codes "sealed" ∷ codes "static" ∷ codes "default"
+    ∷ codes "private" ∷ codes "abstract" ∷ codes "strictfp" ∷ codes "volatile" ∷ codes "protected"
+    ∷ codes "transient" ∷ codes "synchronized" ∷ []
 
 -- `non - sealed`
 unfoldable pub non_sealed_len : List Sign → ℕ
@@ -180,13 +182,29 @@ unfoldable pub up_to : List ℕ → ℕ → List Sign → ℕ
 up_to w d [] = 0
 up_to w d (s ∷ ss) = if stops w d s then 0 else suc (up_to w (deeper d s) ss)
 
--- `=` and what follows up to a `,` outside brackets.
-unfoldable pub value_len : List Sign → ℕ
-value_len ss = if begins (codes "=") ss then 1 + up_to (codes ",") 0 (drop 1 ss) else 0
+-- Whether a declared name may end here: `=`, `,` or `;` follows, or nothing more.
+unfoldable pub ends_name : List Sign → Bool
+ends_name [] = true
+ends_name (s ∷ ss) = (is (codes "=") s || is (codes ",") s) || is (codes ";") s
 
--- A field's name, dimensions and value.
+-- A name and its dimensions that a declaration may give (JLS 8.3, 14.4): one of these follows them.
+unfoldable pub declared_len : List Sign → ℕ
+declared_len ss =
+    if begins_name ss then (let n = 1 + dims_len (drop 1 ss) in if ends_name (drop n ss) then n else 0) else 0
+
+-- Whether a comma stands at the front with a further such name behind it.
+unfoldable pub goes_on : List Sign → Bool
+goes_on ss = begins (codes ",") ss && not (declared_len (drop 1 ss) == 0)
+
+-- Up to the first such comma outside brackets, or to the end: a comma without a name behind it separates
+-- nothing, as those between type arguments.
+unfoldable pub rest_len : ℕ → List Sign → ℕ
+rest_len d [] = 0
+rest_len d (s ∷ ss) = if d == 0 && goes_on (s ∷ ss) then 0 else suc (rest_len (deeper d s) ss)
+
+-- A declared name with its dimensions, and what follows up to the next one.
 unfoldable pub field_len : List Sign → ℕ
-field_len ss = if begins_name ss then (let n = 1 + dims_len (drop 1 ss) in n + value_len (drop n ss)) else 0
+field_len ss = let n = declared_len ss in if n == 0 then 0 else n + rest_len 0 (drop n ss)
 
 -- What stands between commas in a list.
 abbrev pub entry_len : Entry → List Sign → ℕ

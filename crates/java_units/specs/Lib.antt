@@ -8,3 +8,5 @@ pub mod Units
 pub mod Blocks
 pub mod UnitLaws
 pub mod Dimensions
+pub mod SameSigns
+pub mod Brackets

@@ -1,5 +1,6 @@
 -- The pieces of a body, and the table of forms that says what a piece is.
-use Rattle.std.specs.Prelude.{ℕ, suc, ◌+◌, min, Bool, false, ◌&&◌, ◌||◌, not, ◌==◌, List, [], ◌∷◌, length, take, drop, if◌then◌else◌, codes}
+use Rattle.std.specs.Prelude.{◌≡◌, ℕ, suc, ◌+◌, min, Bool, false, ◌&&◌, ◌||◌, not, ◌==◌, List, [], ◌∷◌, length, take, drop, if◌then◌else◌, codes}
+use Rattle.std.specs.List.{flat_map}
 use Rattle.java_units.specs.Signs.{Sign, is}
 use Rattle.java_units.specs.Forms.{begins, begins_any, begins_name, starts, span, more, name_len, rounds, type_len, lead_len, next_len, stops, deeper, entries_len, vars_len, params_len, clause_len}
 use Rattle.java_units.specs.declared.entries.Entry.TheVariants as entry
@@ -40,6 +41,14 @@ piece_len ss = head_len 0 false ss + end_len (end ss)
 -- The pieces of a body, each with what follows it.
 abbrev pub pieces : List Sign → List (List Sign)
 pieces ss = starts piece_len 0 ss
+
+-- The piece at the front alone.
+unfoldable pub piece : List Sign → List Sign
+piece ss = take (piece_len ss) ss
+
+-- The pieces of a body, end to end, are the body.
+abbrev pub PiecesTile : Type 0
+PiecesTile = (body : List Sign) → flat_map piece (pieces body) ≡ body
 
 -- What the block that ends a piece holds.
 unfoldable pub held : List Sign → List Sign

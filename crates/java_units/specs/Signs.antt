@@ -29,18 +29,18 @@ unfoldable pub has : List (List ℕ) → List ℕ → Bool
 has [] w = false
 has (x ∷ xs) w = bytes_eq x w || has xs w
 
--- The words that are no identifiers (JLS 3.9, 3.10.3, 3.10.8).
+-- The words that are no identifiers (JLS 3.9, 3.10.3, 3.10.8), short ones first.
 unfoldable pub reserved : List (List ℕ)
 reserved =
-    codes "abstract" ∷ codes "assert" ∷ codes "boolean" ∷ codes "break" ∷ codes "byte" ∷ codes "case" ∷ codes "catch"
-    ∷ codes "char" ∷ codes "class" ∷ codes "const" ∷ codes "continue" ∷ codes "default" ∷ codes "do" ∷ codes "double"
-    ∷ codes "else" ∷ codes "enum" ∷ codes "extends" ∷ codes "final" ∷ codes "finally" ∷ codes "float" ∷ codes "for"
-    ∷ codes "goto" ∷ codes "if" ∷ codes "implements" ∷ codes "import" ∷ codes "instanceof" ∷ codes "int"
-    ∷ codes "interface" ∷ codes "long" ∷ codes "native" ∷ codes "new" ∷ codes "package" ∷ codes "private"
-    ∷ codes "protected" ∷ codes "public" ∷ codes "return" ∷ codes "short" ∷ codes "static" ∷ codes "strictfp"
-    ∷ codes "super" ∷ codes "switch" ∷ codes "synchronized" ∷ codes "this" ∷ codes "throw" ∷ codes "throws"
-    ∷ codes "transient" ∷ codes "try" ∷ codes "void" ∷ codes "volatile" ∷ codes "while" ∷ codes "_" ∷ codes "true"
-    ∷ codes "false" ∷ codes "null" ∷ []
+    codes "_" ∷ codes "do" ∷ codes "if" ∷ codes "for" ∷ codes "int" ∷ codes "new" ∷ codes "try" ∷ codes "byte"
+    ∷ codes "case" ∷ codes "char" ∷ codes "else" ∷ codes "enum" ∷ codes "goto" ∷ codes "long" ∷ codes "null"
+    ∷ codes "this" ∷ codes "true" ∷ codes "void" ∷ codes "break" ∷ codes "catch" ∷ codes "class"
+    ∷ codes "const" ∷ codes "false" ∷ codes "final" ∷ codes "float" ∷ codes "short" ∷ codes "super"
+    ∷ codes "throw" ∷ codes "while" ∷ codes "assert" ∷ codes "double" ∷ codes "import" ∷ codes "native"
+    ∷ codes "public" ∷ codes "return" ∷ codes "static" ∷ codes "switch" ∷ codes "throws" ∷ codes "boolean"
+    ∷ codes "default" ∷ codes "extends" ∷ codes "finally" ∷ codes "package" ∷ codes "private"
+    ∷ codes "abstract" ∷ codes "continue" ∷ codes "strictfp" ∷ codes "volatile" ∷ codes "interface"
+    ∷ codes "protected" ∷ codes "transient" ∷ codes "implements" ∷ codes "instanceof" ∷ codes "synchronized" ∷ []
 
 abbrev pub is_blank : TokenKind → Bool
 is_blank White = true

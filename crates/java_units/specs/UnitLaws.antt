@@ -1,5 +1,5 @@
 -- What holds of the unit of each text.
-use Rattle.std.specs.Prelude.{◌≡◌, ◌<◌, ℕ, List, slice_get, Option, Some, None}
+use Rattle.std.specs.Prelude.{◌≡◌, ◌<◌, ◌≤◌, ℕ, All, List, length, slice_get, Option, Some, None}
 use Rattle.java_tokens.specs.declared.token.Token.{Token}
 use Rattle.java_units.specs.declared.types.SourceClass.{SourceClass}
 use Rattle.java_units.specs.declared.types.Unit as unit
@@ -22,3 +22,8 @@ IsOnlyUnit text tokens u = (other : unit.Unit) → IsUnit text tokens other → 
 pub record HasUnit (text : List ℕ) (tokens : List Token) : Type 0 where
   pub one : unit.Unit
   pub is : IsUnit text tokens one
+
+-- There are no more classes than tokens, and no more methods in any one of them.
+pub record AreFew (tokens : List Token) (classes : List SourceClass) : Type 0 where
+  pub few_classes : length classes ≤ length tokens
+  pub few_methods : All (λ c. length c.methods ≤ length tokens) classes

@@ -1,6 +1,6 @@
-ghost use Rattle.std.specs.Prelude.{◌≡◌, ◌≤◌, ◌<◌, ◌+◌, IsTrue, false, length};
-ghost use Rattle.java_units.specs.Signs.{sign, seen};
-ghost use Rattle.java_units.specs.Forms.{entry_len, next_len, entries_len, vars_len, params_len, clause_len, stops, up_to, deeper, value_len, field_len, span};
+ghost use Rattle.std.specs.Prelude.{◌≡◌, ◌≤◌, ◌<◌, ◌+◌, ◌==◌, ◌&&◌, ◌||◌, IsTrue, false, codes, length};
+ghost use Rattle.java_units.specs.Signs.{is, sign, seen};
+ghost use Rattle.java_units.specs.Forms.{entry_len, next_len, entries_len, vars_len, params_len, clause_len, stops, up_to, deeper, ends_name, declared_len, goes_on, rest_len, field_len, span};
 
 use crate::forms::{param_len, var_len};
 use crate::lexemes::{Lexeme, begins, begins_any, begins_name, is, tail};
@@ -9,9 +9,15 @@ use crate::names::{dims_len, type_len};
 /// What stands between the commas of a list.
 #[derive(Clone, Copy, Debug, PartialEq, Eq)]
 pub enum Entry {
+    /// A type.
     Type,
+    /// A type variable with its bounds.
     Var,
+    /// A parameter.
     Param,
+    /// A name that a declaration gives to a field or a local variable, with its dimensions and what follows
+    /// up to the next such name. A comma belongs to what follows unless a further name comes behind it that
+    /// `=`, `,` or `;` follows, or nothing more.
     Field,
 }
 
@@ -58,29 +64,83 @@ pub fn up_to(word: &str, lexemes: &[Lexeme<'_>]) -> usize
     lexemes.len()
 }
 
-/// `=` and what follows up to a comma outside brackets.
-#[tactic(auto, using(crate::proofs::Walks::walks), unfolding(crate::specs::Forms::value_len))]
-fn value_len(lexemes: &[Lexeme<'_>]) -> usize
-    ensures value { result ≡ value_len (seen lexemes.now) }
-    ensures within { result ≤ length (seen lexemes.now) }
+/// Whether the lexeme may follow a declared name.
+fn may_follow(lexeme: &Lexeme<'_>) -> bool
+    ensures { result ≡ ((is (codes "=") (sign lexeme.now) || is (codes ",") (sign lexeme.now)) || is (codes ";") (sign lexeme.now)) }
 {
-    if !begins("=", lexemes) {
-        return 0;
-    }
-    1 + up_to(",", tail(lexemes, 1))
+    is("=", lexeme) || is(",", lexeme) || is(";", lexeme)
 }
 
-/// A field's name, dimensions and value.
-#[tactic(auto, using(crate::proofs::Walks::walks), unfolding(crate::specs::Forms::field_len))]
-fn field_len(lexemes: &[Lexeme<'_>]) -> usize
-    ensures value { result ≡ field_len (seen lexemes.now) }
+/// Whether a declared name may end here.
+fn ends_name(lexemes: &[Lexeme<'_>]) -> bool
+    ensures { result ≡ ends_name (seen lexemes.now) }
+{
+    if lexemes.is_empty() {
+        return true;
+    }
+    may_follow(&lexemes[0])
+}
+
+/// A name and its dimensions that a declaration may give: `=`, `,` or `;` follows them, or nothing more. 0
+/// where none stands at the front.
+#[tactic(auto, using(crate::proofs::Walks::walks), unfolding(crate::specs::Forms::declared_len))]
+pub fn declared_len(lexemes: &[Lexeme<'_>]) -> usize
+    ensures value { result ≡ declared_len (seen lexemes.now) }
     ensures within { result ≤ length (seen lexemes.now) }
 {
     if !begins_name(lexemes) {
         return 0;
     }
     let n = 1 + dims_len(tail(lexemes, 1));
-    n + value_len(tail(lexemes, n))
+    if !ends_name(tail(lexemes, n)) {
+        return 0;
+    }
+    n
+}
+
+/// Whether a comma stands at the front with a further such name behind it.
+#[tactic(auto, unfolding(crate::specs::Forms::goes_on))]
+fn goes_on(lexemes: &[Lexeme<'_>]) -> bool
+    ensures { result ≡ goes_on (seen lexemes.now) }
+{
+    begins(",", lexemes) && declared_len(tail(lexemes, 1)) != 0
+}
+
+/// The same outside brackets.
+fn turns(depth: usize, lexemes: &[Lexeme<'_>]) -> bool
+    ensures { result ≡ (depth == 0 && goes_on (seen lexemes.now)) }
+{
+    depth == 0 && goes_on(lexemes)
+}
+
+/// Up to the first such comma outside brackets, or to the end. Names that are looked at behind different
+/// commas don't overlap, so it takes time linear in the lexemes.
+#[tactic(auto, using(crate::proofs::Walks::walks))]
+fn rest_len(lexemes: &[Lexeme<'_>]) -> usize
+    ensures value { result ≡ rest_len 0 (seen lexemes.now) }
+    ensures within { result ≤ length (seen lexemes.now) }
+{
+    let mut depth: usize = 0;
+    for i in 0..lexemes.len() {
+        if turns(depth, tail(lexemes, i)) {
+            return i;
+        }
+        depth = deeper(depth, &lexemes[i]);
+    }
+    lexemes.len()
+}
+
+/// A declared name with its dimensions, and what follows up to the next one.
+#[tactic(auto, using(crate::proofs::Walks::walks), unfolding(crate::specs::Forms::field_len))]
+fn field_len(lexemes: &[Lexeme<'_>]) -> usize
+    ensures value { result ≡ field_len (seen lexemes.now) }
+    ensures within { result ≤ length (seen lexemes.now) }
+{
+    let n = declared_len(lexemes);
+    if n == 0 {
+        return 0;
+    }
+    n + rest_len(tail(lexemes, n))
 }
 
 /// One entry.

@@ -1,26 +1,18 @@
-ghost use Rattle.std.specs.Prelude.{◌≡◌, ◌≤◌, length};
+// What stands at the front of some lexemes, and how many of them it takes: the forms of names, types,
+// annotations, parameters and declared names.
+ghost use Rattle.std.specs.Prelude.{◌≡◌, ◌≤◌, ◌<◌, IsTrue, length};
 ghost use Rattle.java_units.specs.Signs.{seen};
-ghost use Rattle.java_units.specs.Forms.{annotation_len, modifier_len, non_sealed_len, lead_len, bound_len, bounds_len, var_len, final_len, dots_len, ahead_len, wide_len, called_len, param_len, span};
+ghost use Rattle.java_units.specs.Forms.{begins_any, modifiers, annotation_len, modifier_len, non_sealed_len, lead_len, bound_len, bounds_len, var_len, final_len, dots_len, ahead_len, wide_len, called_len, param_len, span};
 
-use crate::lexemes::{Lexeme, begins, begins_any, begins_name, tail};
-use crate::names::{dims_len, name_len, rounds, type_len};
-
-/// The modifiers of one word; those that aren't reserved words are identifiers too.
-const MODIFIERS: [&str; 13] = [
-    "public",
-    "protected",
-    "private",
-    "static",
-    "final",
-    "abstract",
-    "native",
-    "synchronized",
-    "transient",
-    "volatile",
-    "strictfp",
-    "default",
-    "sealed",
-];
+pub use crate::entries::{Entry, declared_len, entries_len, entry_len};
+pub use crate::lexemes::{Lexeme, begins, begins_any, begins_name, front, is, tail};
+use crate::names::rounds;
+pub use crate::names::{base_len, dims_len, name_len, type_len};
+pub use crate::reading::{is_name, lexemes};
+pub use crate::starts::entries;
+pub use crate::values::{first_text, type_text};
+use crate::words::is_modifier;
+pub use crate::words::is_reserved;
 
 /// `@`, a name and what `(` and its matching `)` enclose after it.
 #[tactic(auto, using(crate::proofs::Walks::walks), unfolding(crate::specs::Forms::annotation_len))]
@@ -39,9 +31,9 @@ fn annotation_len(lexemes: &[Lexeme<'_>]) -> usize
     n + rounds(tail(lexemes, n))
 }
 
-/// Annotations, one after the other.
+/// How many lexemes the annotations at the front take.
 #[tactic(auto, using(crate::proofs::Walks::walks))]
-fn annotations_len(lexemes: &[Lexeme<'_>]) -> usize
+pub fn annotations_len(lexemes: &[Lexeme<'_>]) -> usize
     ensures value { result ≡ span annotation_len (seen lexemes.now) }
     ensures within { result ≤ length (seen lexemes.now) }
 {
@@ -70,13 +62,25 @@ fn non_sealed_len(lexemes: &[Lexeme<'_>]) -> usize
     3
 }
 
+/// Whether a modifier of one word stands at the front.
+#[tactic(auto, using(crate::proofs::Walks::walks), unfolding(crate::specs::Forms::begins_any))]
+fn begins_modifier(lexemes: &[Lexeme<'_>]) -> bool
+    ensures value { result ≡ begins_any modifiers (seen lexemes.now) }
+    ensures some { IsTrue result → 0 < length (seen lexemes.now) }
+{
+    if lexemes.is_empty() {
+        return false;
+    }
+    is_modifier(lexemes[0].word)
+}
+
 /// A modifier.
 #[tactic(auto, using(crate::proofs::Walks::walks), unfolding(crate::specs::Forms::modifier_len))]
 fn modifier_len(lexemes: &[Lexeme<'_>]) -> usize
     ensures value { result ≡ modifier_len (seen lexemes.now) }
     ensures within { result ≤ length (seen lexemes.now) }
 {
-    if begins_any(&MODIFIERS, lexemes) {
+    if begins_modifier(lexemes) {
         return 1;
     }
     non_sealed_len(lexemes)
@@ -172,9 +176,9 @@ pub fn var_len(lexemes: &[Lexeme<'_>]) -> usize
     1 + bounds_len(tail(lexemes, 1))
 }
 
-/// `final`
+/// How many lexemes `final` takes: 1 or 0.
 #[tactic(auto, using(crate::proofs::Walks::walks), unfolding(crate::specs::Forms::final_len))]
-fn final_len(lexemes: &[Lexeme<'_>]) -> usize
+pub fn final_len(lexemes: &[Lexeme<'_>]) -> usize
     ensures value { result ≡ final_len (seen lexemes.now) }
     ensures within { result ≤ length (seen lexemes.now) }
 {
@@ -200,7 +204,7 @@ pub fn dots_len(lexemes: &[Lexeme<'_>]) -> usize
     3
 }
 
-/// What comes before the type of a parameter.
+/// How many lexemes annotations and `final` take, which come before the type of a parameter.
 #[tactic(auto, using(crate::proofs::Walks::walks), unfolding(crate::specs::Forms::ahead_len))]
 pub fn ahead_len(lexemes: &[Lexeme<'_>]) -> usize
     ensures value { result ≡ ahead_len (seen lexemes.now) }

@@ -15,10 +15,10 @@ pub struct Lexeme<'a> {
     pub holds: usize,
 }
 
-/// What follows the first n.
+/// What follows the first n, or nothing.
 #[tactic(auto, using(crate::proofs::Walks::walks))]
 pub fn tail<'a, 'b>(lexemes: &'b [Lexeme<'a>], n: usize) -> &'b [Lexeme<'a>]
-    ensures { seen result.now ≡ drop n (seen lexemes.now) }
+    ensures rest { seen result.now ≡ drop n (seen lexemes.now) }
 {
     if n >= lexemes.len() {
         return &[];
@@ -26,10 +26,10 @@ pub fn tail<'a, 'b>(lexemes: &'b [Lexeme<'a>], n: usize) -> &'b [Lexeme<'a>]
     &lexemes[n..]
 }
 
-/// The first n.
+/// The first n, or all.
 #[tactic(auto, using(crate::proofs::Walks::walks))]
 pub fn front<'a, 'b>(lexemes: &'b [Lexeme<'a>], n: usize) -> &'b [Lexeme<'a>]
-    ensures { seen result.now ≡ take n (seen lexemes.now) }
+    ensures first { seen result.now ≡ take n (seen lexemes.now) }
 {
     if n >= lexemes.len() {
         return lexemes;
@@ -47,7 +47,7 @@ pub fn same(left: &str, right: &str) -> bool
 /// Whether the lexeme has this text.
 #[tactic(auto, unfolding(crate::specs::Signs::is, crate::specs::Signs::sign))]
 pub fn is(word: &str, lexeme: &Lexeme<'_>) -> bool
-    ensures { result ≡ is word.now (sign lexeme.now) }
+    ensures value { result ≡ is word.now (sign lexeme.now) }
 {
     same(word, lexeme.word)
 }

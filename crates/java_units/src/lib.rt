@@ -1,13 +1,15 @@
 // The structure of a Java source text: its package, imports and classes with their fields and methods.
 // `read_unit` reads it from the tokens and refuses nothing: what isn't recognised gives nothing. The main
 // definition is `IsUnit`: the text is cut into pieces, a table of forms says what each piece gives, and
-// the block of a class is cut again. It stands on `java_tokens` and `lists`.
+// the block of a class is cut again. The reading of lexemes below it is public in `forms`, for those who
+// read bodies. It stands on `java_tokens` and `lists`.
 #![tactic(auto)]
 
 mod access;
 mod class;
 mod entries;
-mod forms;
+pub mod forms;
+mod laws;
 mod lexemes;
 mod members;
 mod names;
@@ -18,7 +20,9 @@ mod table;
 mod types;
 mod unit;
 mod values;
+mod words;
 
+pub use laws::{brackets_match, only_signs_count, pieces_tile};
 pub use types::{
     ClassKind, Import, Param, SourceClass, SourceField, SourceMethod, TypeText, TypeVar, Unit,
 };

@@ -38,7 +38,7 @@ fn name_tails(lexemes: &[Lexeme<'_>]) -> usize
     }
 }
 
-/// Identifiers joined by `.`.
+/// How many lexemes the name at the front takes: identifiers joined by `.`.
 #[tactic(auto, using(crate::proofs::Walks::walks), unfolding(crate::specs::Forms::name_len))]
 pub fn name_len(lexemes: &[Lexeme<'_>]) -> usize
     ensures value { result ≡ name_len (seen lexemes.now) }
@@ -164,7 +164,7 @@ fn dim_len(lexemes: &[Lexeme<'_>]) -> usize
     0
 }
 
-/// Dimensions.
+/// How many lexemes the dimensions at the front take, `[ ]` each.
 #[tactic(auto, using(crate::proofs::Walks::walks), unfolding(crate::specs::Forms::dims_len))]
 pub fn dims_len(lexemes: &[Lexeme<'_>]) -> usize
     ensures value { result ≡ dims_len (seen lexemes.now) }
@@ -180,7 +180,7 @@ pub fn dims_len(lexemes: &[Lexeme<'_>]) -> usize
     }
 }
 
-/// A type.
+/// How many lexemes the type at the front takes, 0 where there is none.
 #[tactic(auto, using(crate::proofs::Walks::walks), unfolding(crate::specs::Forms::type_len))]
 pub fn type_len(lexemes: &[Lexeme<'_>]) -> usize
     ensures value { result ≡ type_len (seen lexemes.now) }

@@ -1,76 +1,12 @@
 ghost use Rattle.std.specs.Prelude.{◌≡◌, ◌≤◌, ◌<◌, ◌&&◌, not, length, IfOk, OnOk, IsTrue};
-ghost use Rattle.java_tokens.specs.Tokens.{AreTokensOf};
+ghost use Rattle.java_tokens.specs.Tokens.{AreTokensOf, IsWithin, AreWithin};
 ghost use Rattle.java_units.specs.Signs.{Sign, sign, seen, has, reserved, is_blank, is_word, text_of, signs_of};
-ghost use Rattle.java_units.specs.Blocks.{from_last, block_len, closers_after, seen_back, IsWithin, AreWithin};
+ghost use Rattle.java_units.specs.Blocks.{from_last, block_len, closers_after, seen_back};
 
-use crate::lexemes::{Lexeme, has, same};
+use crate::lexemes::{Lexeme, same};
+use crate::words::is_reserved;
 use java_tokens::{Token, TokenKind};
 use std::alloc::{AllocError, Global};
-
-/// The words that are no identifiers (JLS 3.9, 3.10.3, 3.10.8).
-const RESERVED: [&str; 54] = [
-    "abstract",
-    "assert",
-    "boolean",
-    "break",
-    "byte",
-    "case",
-    "catch",
-    "char",
-    "class",
-    "const",
-    "continue",
-    "default",
-    "do",
-    "double",
-    "else",
-    "enum",
-    "extends",
-    "final",
-    "finally",
-    "float",
-    "for",
-    "goto",
-    "if",
-    "implements",
-    "import",
-    "instanceof",
-    "int",
-    "interface",
-    "long",
-    "native",
-    "new",
-    "package",
-    "private",
-    "protected",
-    "public",
-    "return",
-    "short",
-    "static",
-    "strictfp",
-    "super",
-    "switch",
-    "synchronized",
-    "this",
-    "throw",
-    "throws",
-    "transient",
-    "try",
-    "void",
-    "volatile",
-    "while",
-    "_",
-    "true",
-    "false",
-    "null",
-];
-
-/// Whether a word is reserved.
-fn is_reserved(word: &str) -> bool
-    ensures { result ≡ has reserved word.now }
-{
-    has(&RESERVED, word)
-}
 
 /// Whether a token is white space or a comment.
 fn is_blank(kind: TokenKind) -> bool
@@ -102,9 +38,9 @@ fn is_word(kind: TokenKind) -> bool
     }
 }
 
-/// Whether a token is an identifier.
-fn is_name(kind: TokenKind, word: &str) -> bool
-    ensures { result ≡ (is_word kind && not (has reserved word.now)) }
+/// Whether a token of this kind and text is an identifier.
+pub fn is_name(kind: TokenKind, word: &str) -> bool
+    ensures value { result ≡ (is_word kind && not (has reserved word.now)) }
 {
     is_word(kind) && !is_reserved(word)
 }
@@ -168,14 +104,14 @@ fn lexemes_back<'a>(
     Ok(back)
 }
 
-/// The tokens of a text other than white space and comments, in order.
+/// The tokens of a text other than white space and comments, in order. It takes time linear in the text.
 pub fn lexemes<'a>(
     alloc: Global,
     text: &'a str,
     tokens: &[Token],
 ) -> Result<Vec<Lexeme<'a>>, AllocError>
-    requires { AreTokensOf text.now tokens.now }
-    ensures { IfOk result (λ all. seen all.items ≡ signs_of text.now tokens.now) }
+    requires own_tokens { AreTokensOf text.now tokens.now }
+    ensures exact { IfOk result (λ all. seen all.items ≡ signs_of text.now tokens.now) }
 {
     let mut back = lexemes_back(alloc, text, tokens)?;
     let mut all = Vec::new(alloc);

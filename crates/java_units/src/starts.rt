@@ -61,7 +61,7 @@ pub fn entries<'a, 'b>(
     entry: Entry,
     lexemes: &'b [Lexeme<'a>],
 ) -> Result<Vec<&'b [Lexeme<'a>]>, AllocError>
-    ensures { IfOk result (λ all. seens all.items ≡ entries entry (seen lexemes.now)) }
+    ensures exact { IfOk result (λ all. seens all.items ≡ entries entry (seen lexemes.now)) }
 {
     let mut all = Vec::new(alloc);
     let n = entry_len(entry, lexemes);

@@ -9,7 +9,7 @@ use std::test::Fail;
 /// Texts, and what each declares: the package, `|`, the imports, and each class as its outer class's
 /// number, `/`, its flags, name, type variables, supers, fields and methods. `+` stands before a superclass
 /// that is named, `:` before a variable's bound, and `#` after a method with a block.
-const ROWS: [(&str, &str); 38] = [
+const ROWS: [(&str, &str); 40] = [
     (
         "class A{int f;}",
         "||-/0000 A<>:{int f 0000}{0000 <init><>()}",
@@ -55,7 +55,7 @@ const ROWS: [(&str, &str); 38] = [
     ),
     (
         "class A { Map<A, B> m = new HashMap<A, B>(); Map<A, B> n; }",
-        "||-/0000 A<>:{Map n 0000}{0000 <init><>()}",
+        "||-/0000 A<>:{Map m 0000;Map n 0000}{0000 <init><>()}",
     ),
     (
         "sealed interface S permits A, B {} non-sealed class A implements S {} int f; void m() {}",
@@ -108,7 +108,7 @@ const ROWS: [(&str, &str); 38] = [
     ),
     (
         "class A { int a, ; int[]... b[]; void m(int[]... a[]) {} }",
-        "||-/0000 A<>:{}{0000 void m<>(int[][][] a)#;0000 <init><>()}",
+        "||-/0000 A<>:{int a 0000}{0000 void m<>(int[][][] a)#;0000 <init><>()}",
     ),
     (
         "class A { package p; import q.R; int f; }",
@@ -154,6 +154,14 @@ const ROWS: [(&str, &str); 38] = [
     (
         "class A { <T extends B[][] & C[], U extends D> T[] m(U[] u[]) {} }",
         "||-/0000 A<>:{}{0000 T[] m<T:B[][],U:D>(U[][] u)#;0000 <init><>()}",
+    ),
+    (
+        "class A { int a = x < y, b = 1; int c, d e, f; int[] g[] = {1, 2}, h = k(l, m); int n o; }",
+        "||-/0000 A<>:{int a 0000;int b 0000;int c 0000;int f 0000;int[][] g 0000;int[] h 0000}{0000 <init><>()}",
+    ),
+    (
+        "class A { Triple<A, B, C> t = new Triple<A, B, C>(), u[]; }",
+        "||-/0000 A<>:{Triple t 0000;Triple B 0000;Triple[] u 0000}{0000 <init><>()}",
     ),
     (
         "interface I { record R() {} enum E {} private class C {} interface J {} }",

@@ -1,4 +1,7 @@
-use lists::{Items, Text};
+ghost use Rattle.std.specs.Prelude.{◌≡◌, IfOk};
+
+use lists::{Copies, Items, Text, copy_all};
+use std::alloc::{AllocError, Global};
 
 /// A type as the text spells it, without its type arguments: its identifiers, or the one word of a
 /// primitive, and its dimensions.
@@ -83,4 +86,40 @@ pub struct Unit {
     pub package: Items<Text>,
     pub imports: Items<Import>,
     pub classes: Items<SourceClass>,
+}
+
+impl Copies for TypeText {
+    fn copy(&self, alloc: Global) -> Result<TypeText, AllocError> {
+        Ok(TypeText {
+            parts: copy_all(alloc, &self.parts)?,
+            dims: self.dims,
+        })
+    }
+}
+
+fn copy_bound(alloc: Global, bound: &Option<TypeText>) -> Result<Option<TypeText>, AllocError>
+    ensures { IfOk result (λ copy. copy ≡ bound.now) }
+{
+    let Some(bound) = bound else {
+        return Ok(None);
+    };
+    Ok(Some(bound.copy(alloc)?))
+}
+
+impl Copies for TypeVar {
+    fn copy(&self, alloc: Global) -> Result<TypeVar, AllocError> {
+        Ok(TypeVar {
+            name: self.name.copy(alloc)?,
+            bound: copy_bound(alloc, &self.bound)?,
+        })
+    }
+}
+
+impl Copies for Param {
+    fn copy(&self, alloc: Global) -> Result<Param, AllocError> {
+        Ok(Param {
+            name: self.name.copy(alloc)?,
+            kind: self.kind.copy(alloc)?,
+        })
+    }
 }

@@ -4,7 +4,7 @@ ghost use Rattle.java_tokens.specs.Tokens.{AreTokensOf};
 ghost use Rattle.java_units.specs.Signs.{seen, seens, signs_of};
 ghost use Rattle.java_units.specs.Pieces.{pieces, form_of};
 ghost use Rattle.java_units.specs.Units.{is_class, packages, imports, package_of, import_of, import_in, AreClasses, IsUnit};
-ghost use Rattle.java_units.specs.UnitLaws.{HasUnit, IsNested, IsOnlyUnit};
+ghost use Rattle.java_units.specs.UnitLaws.{AreFew, HasUnit, IsNested, IsOnlyUnit};
 ghost use Rattle.java_units.specs.Dimensions.{HasFewDims};
 
 use crate::class::{Around, class_of, members_of};
@@ -167,15 +167,17 @@ fn imports_of(alloc: Global, places: &[&[Lexeme<'_>]]) -> Result<Items<Import>, 
 }
 
 /// Reads what a text declares; `tokens` are its tokens. Nothing is refused: what isn't recognised gives
-/// nothing. It takes time linear in the text, whatever is nested in it. Each text has exactly one unit. Each
-/// class stands after the class around it, and the dimensions of types are few: those of a super, or of the
-/// type of a field, a parameter or a result, and those of all bounds of type variables, added up, are at most
-/// twice as many as the tokens. An Err is want of memory.
+/// nothing. It takes time linear in the text, whatever is nested in it. Each text has exactly one unit. There
+/// are no more classes than tokens, and no more methods in a class. Each class stands after the class around
+/// it, and the dimensions of types are few: those of a super, or of the type of a field, a parameter or a
+/// result, and those of all bounds of type variables, added up, are at most twice as many as the tokens. An
+/// Err is want of memory.
 pub fn read_unit(alloc: Global, text: &str, tokens: &[Token]) -> Result<Unit, AllocError>
-    requires { AreTokensOf text.now tokens.now }
+    requires own_tokens { AreTokensOf text.now tokens.now }
     ensures exact { IfOk result (λ unit. IsUnit text.now tokens.now unit) }
     ensures total { HasUnit text.now tokens.now }
     ensures only { IfOk result (λ unit. IsOnlyUnit text.now tokens.now unit) }
+    ensures counts { IfOk result (λ unit. AreFew tokens.now unit.classes) }
     ensures outers { IfOk result (λ unit. IsNested unit.classes) }
     ensures dims { IfOk result (λ unit. HasFewDims text.now tokens.now unit.classes) }
 {

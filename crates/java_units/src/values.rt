@@ -13,9 +13,9 @@ use crate::types::{Param, SourceField, TypeText, TypeVar};
 use lists::{Items, Text};
 use std::alloc::{AllocError, Global};
 
-/// The text of the lexeme at the front.
+/// The text of the lexeme at the front, or an empty one.
 pub fn first_text<'a>(lexemes: &[Lexeme<'a>]) -> &'a str
-    ensures { result.now ≡ first_text (seen lexemes.now) }
+    ensures value { result.now ≡ first_text (seen lexemes.now) }
 {
     if lexemes.is_empty() {
         return "";
@@ -68,8 +68,8 @@ pub fn parts(alloc: Global, lexemes: &[Lexeme<'_>]) -> Result<Items<Text>, Alloc
 /// The type at the front, with so many further dimensions.
 #[tactic(auto, unfolding(crate::specs::Values::type_text))]
 pub fn type_text(alloc: Global, extra: u64, lexemes: &[Lexeme<'_>]) -> Result<TypeText, AllocError>
-    requires { extra ≤ 9223372036854775808 }
-    ensures { IfOk result (λ all. all ≡ type_text extra (seen lexemes.now)) }
+    requires few { extra ≤ 9223372036854775808 }
+    ensures exact { IfOk result (λ all. all ≡ type_text extra (seen lexemes.now)) }
 {
     let n = base_len(lexemes);
     let parts = parts(alloc, front(lexemes, n))?;

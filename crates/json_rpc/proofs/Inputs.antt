@@ -1,8 +1,8 @@
 -- One frame more of the whole input, and its end.
-use Rattle.std.proofs.Common.{◌≡◌, ◌≢◌, ℕ, ◌+◌, ◌-◌, ◌<◌, ◌≤◌, ◌^◌, ap, sym, ◌∙◌, drop, take, arith, List, [], ◌∷◌, refl, ◌++◌, length, subst, zero, suc, Option, Some, None, append-nil, append_assoc}
-use Rattle.std.proofs.lemmas.List.{length-append, take-append-le, take_all}
-use Rattle.json_rpc.specs.Streams.{Next, partial, whole, wrong, next_of, Progress, Gives, Ends, Fails, FailsAt, budget}
-use Rattle.json_rpc.specs.Whole.{EndsBy, AreFrames, AreFramesOf, SaysOf, Reads, Follows}
+use Rattle.std.proofs.Common.{◌≡◌, ℕ, ◌+◌, ◌-◌, ◌≤◌, ap, sym, ◌∙◌, take, arith, List, [], ◌∷◌, refl, ◌++◌, length, subst, zero, suc, Option, Some, None, append-nil, append_assoc}
+use Rattle.std.proofs.lemmas.List.{length-append}
+use Rattle.json_rpc.specs.Streams.{whole, wrong, next_of, Progress, Gives, Ends, Fails, FailsAt, budget}
+use Rattle.json_rpc.specs.Whole.{EndsBy, AreFirst, AreFrames, AreFramesOf, BeginFramesOf, SaysOf, Reads, Follows}
 use Rattle.json_rpc.proofs.Tails.{next-more, next-wrong}
 use Rattle.json_rpc.specs.declared.fault.FrameFault.{FrameFault}
 use Rattle.json_rpc.specs.declared.fault.FrameFault.TheVariants.{Header, NoLength, TooLong, Cut, ReadFault, Budget, OutOfMemory}
@@ -37,7 +37,7 @@ pub follows-more : (p q : Progress) (start before now : Option (List ℕ)) (bodi
 follows-more p q None before now bodies body f b g = tt
 follows-more p q (Some input) None now bodies body f b g = absurd f
 follows-more p q (Some input) (Some left) None bodies body f b g = absurd g.from
-follows-more p q (Some input) (Some left) (Some rest) bodies body f b g = λ more end are.
+follows-more p q (Some input) (Some left) (Some rest) bodies body f b g =
     let front : List ℕ = p.held ++ g.taken in
     let tail : List ℕ = take (budget - p.place - length front) rest in
     let open_is : take (budget - p.place) (p.held ++ left) ≡ front ++ tail = window p left g.taken rest g.from (omega (arith, b, g.place)) in
@@ -47,16 +47,32 @@ follows-more p q (Some input) (Some left) (Some rest) bodies body f b g = λ mor
     let whole_is : next_of p.place (take (budget - p.place) (p.held ++ left)) ≡ whole body (take (budget - q.place) (q.held ++ rest)) =
     ap (next_of p.place) open_is ∙ next-more p.place front tail body q.held g.frame ∙ ap (whole body) (sym left_is) in
     let at : p.place + length (take (budget - p.place) (p.held ++ left)) - length (take (budget - q.place) (q.held ++ rest)) ≡ q.place =
-    ap (λ t. p.place + length t - length (take (budget - q.place) (q.held ++ rest))) open_is ∙ ap (λ t. p.place + length (front ++ tail) - length t) left_is ∙ place_is p q g.taken tail 0 g.place in
-    let P : ℕ → Type 0 = λ n. AreFrames n (take (budget - q.place) (q.held ++ rest)) more end in
-    let all : AreFramesOf input (bodies ++ (body ∷ more)) end = f (body ∷ more) end (take (budget - q.place) (q.held ++ rest), whole_is, subst P (sym at) are) in
-    let Q : List (List ℕ) → Type 0 = λ t. AreFramesOf input t end in
-    subst Q (sym (append_assoc bodies (body ∷ []) more)) all
+    ap (λ t. p.place + length t - length (take (budget - q.place) (q.held ++ rest))) open_is ∙ ap (λ t. p.place + length (front ++ tail) - length t) left_is ∙ place_is p q g.taken tail 0 g.place in (
+      λ more end are.
+          let P : ℕ → Type 0 = λ n. AreFrames n (take (budget - q.place) (q.held ++ rest)) more end in
+          let all : AreFramesOf input (bodies ++ (body ∷ more)) end = f.0 (body ∷ more) end (take (budget - q.place) (q.held ++ rest), whole_is, subst P (sym at) are) in
+          let Q : List (List ℕ) → Type 0 = λ t. AreFramesOf input t end in
+          subst Q (sym (append_assoc bodies (body ∷ []) more)) all,
+      λ more are.
+          let P : ℕ → Type 0 = λ n. AreFirst n (take (budget - q.place) (q.held ++ rest)) more in
+          let all : BeginFramesOf input (bodies ++ (body ∷ more)) = f.1 (body ∷ more) (take (budget - q.place) (q.held ++ rest), whole_is, subst P (sym at) are) in
+          let Q : List (List ℕ) → Type 0 = λ t. BeginFramesOf input t in
+          subst Q (sym (append_assoc bodies (body ∷ []) more)) all,
+    )
 
 nothing_more : (p : Progress) (input left : List ℕ) (bodies : List (List ℕ)) (end : Option FrameFault) → Follows p (Some input) (Some left) bodies → EndsBy p.place (take (budget - p.place) (p.held ++ left)) end → AreFramesOf input bodies end
 nothing_more p input left bodies end f e =
     let Q : List (List ℕ) → Type 0 = λ t. AreFramesOf input t end in
-    subst Q (append-nil bodies) (f [] end e)
+    subst Q (append-nil bodies) (f.0 [] end e)
+
+begun : (p : Progress) (input left : List ℕ) (bodies : List (List ℕ)) → Follows p (Some input) (Some left) bodies → BeginFramesOf input bodies
+begun p input left bodies f = let Q : List (List ℕ) → Type 0 = λ t. BeginFramesOf input t in subst Q (append-nil bodies) (f.1 [] tt)
+
+-- Where the reader stops in between.
+pub follows-first : (p : Progress) (start now : Option (List ℕ)) (bodies : List (List ℕ)) → Follows p start now bodies → Reads start bodies (Some OutOfMemory)
+follows-first p None now bodies f = tt
+follows-first p (Some input) None bodies f = absurd f
+follows-first p (Some input) (Some left) bodies f = begun p input left bodies f
 
 pub follows-end : (p q : Progress) (start before now : Option (List ℕ)) (bodies : List (List ℕ)) → Follows p start before bodies → Ends p q before now → Reads start bodies None
 follows-end p q None before now bodies f e = tt
@@ -82,8 +98,8 @@ fails_at p q input left taken rest bodies Budget f is b e =
     let same : take (budget - p.place) (p.held ++ left) ≡ p.held ++ taken =
     window p left taken rest is (omega (arith, e.1)) ∙ ap (λ n. (p.held ++ taken) ++ take n rest) none ∙ append-nil (p.held ++ taken) in
     nothing_more p input left bodies (Some Budget) f (ends_budget p.place (p.held ++ taken) (take (budget - p.place) (p.held ++ left)) (sym same) (e.0, e.1))
-fails_at p q input left taken rest bodies ReadFault f is b e = tt
-fails_at p q input left taken rest bodies OutOfMemory f is b e = tt
+fails_at p q input left taken rest bodies ReadFault f is b e = begun p input left bodies f
+fails_at p q input left taken rest bodies OutOfMemory f is b e = begun p input left bodies f
 
 pub follows-fail : (p q : Progress) (start before now : Option (List ℕ)) (bodies : List (List ℕ)) (k : FrameFault) → Follows p start before bodies → q.place + length q.held ≤ budget → Fails p q before now k → Reads start bodies (Some k)
 follows-fail p q None before now bodies k f b e = tt
@@ -93,6 +109,6 @@ follows-fail p q (Some input) (Some left) (Some rest) bodies k f b e = fails_at 
 
 pub follows-start : (start : Option (List ℕ)) → Follows (record { place = 0; held = []; fault = None }) start start []
 follows-start None = tt
-follows-start (Some input) = λ more end are. are
+follows-start (Some input) = (λ more end are. are, λ more are. are)
 
-pub ruleset inputs = (follows-more, follows-end, follows-fail, follows-start)
+pub ruleset inputs = (follows-more, follows-end, follows-fail, follows-start, follows-first)

@@ -1,14 +1,14 @@
 -- Bytes that are written in two parts.
-use Rattle.std.proofs.Common.{◌≡◌, ℕ, suc, zero, ◌+◌, ◌-◌, ◌^◌, ◌≤◌, ◌<◌, min, List, [], ◌∷◌, ◌++◌, take, drop, length, get_or, Option, Some, None, sym, ap, ◌∙◌, append_assoc, append-nil, arith, refl, subst, flat_map, decimal, codes, nat_lt, true, false, cond, ◌/◌, ◌%◌}
-use Rattle.std.proofs.lemmas.List.{length-append, take-append-le, take_more, take_all, drop_more, drop_all, take-append-drop}
+use Rattle.std.proofs.Common.{◌≡◌, ℕ, ◌+◌, ◌≤◌, ◌<◌, List, [], ◌∷◌, ◌++◌, take, drop, length, get_or, Option, Some, None, sym, ap, ◌∙◌, append_assoc, append-nil, arith, refl, subst, codes, nat_lt, true, false, ◌/◌, ◌%◌, ◌-◌, OnErr}
+use Rattle.std.proofs.lemmas.List.{get_or-drop, length-append, length-drop, take-append-le, take_more, take_all, drop_more, drop_all, take-append-drop}
 use Rattle.std.proofs.Math.Seq.{take-append-add}
-use Rattle.std.specs.Prelude.{Result, Ok, Err, OnErr}
+use Rattle.std.specs.Prelude.{Result, Ok, Err}
 use Rattle.std.specs.Io.KnownBytes.{Appends}
 use Rattle.outside.specs.Causes.{HasCause, Rose}
 use Rattle.outside.specs.Gathered.{WroteFront}
 use Rattle.std.specs.Char.{digit_char}
 use Rattle.json.specs.Print.{escape, escape_byte, escape_letter, quoted}
-use Rattle.json_rpc.specs.Replies.{before_id, id_text, no_memory_reply, quote}
+use Rattle.json_rpc.specs.Replies.{HasRun, before_id, id_text, no_memory_reply, quote}
 use Rattle.json_rpc.specs.declared.message.Id.{Id}
 
 pub appends-none : (a : Option (List ℕ)) → Appends a a []
@@ -95,19 +95,64 @@ quoted-is s = refl
 pub length-quoted : (s : List ℕ) → length (quoted s) ≡ length (escape s) + 2
 length-quoted s = omega (arith, length-append (escape s) (34 ∷ []))
 
--- A fault while one byte of a text is written.
-pub front-escape : (a b c : Option (List ℕ)) (bs : List ℕ) (i : ℕ) → i < length bs → Appends a b (escape (take i bs)) → WroteFront b c (escape_byte (get_or bs i 0)) → WroteFront a c (escape bs)
-front-escape a b c bs i l h w =
-    let all : escape bs ≡ (escape (take i bs) ++ escape_byte (get_or bs i 0)) ++ escape (drop (i + 1) bs) =
-    escape-split bs i ∙ ap (λ t. escape (take i bs) ++ t) (escape-rest bs i l) ∙ sym (append_assoc (escape (take i bs)) (escape_byte (get_or bs i 0)) (escape (drop (i + 1) bs))) in
-    let P : List ℕ → Type 0 = λ t. WroteFront a c t in
-    subst P (sym all) (front-left a c (escape (take i bs) ++ escape_byte (get_or bs i 0)) (escape (drop (i + 1) bs)) (front-right a b c (escape (take i bs)) (escape_byte (get_or bs i 0)) h w))
+-- A run of bytes that stand for themselves, by one byte more.
+slice-more : (bs : List ℕ) (d i : ℕ) → d ≤ i → i < length bs → take (i + 1 - d) (drop d bs) ≡ take (i - d) (drop d bs) ++ (get_or bs i 0 ∷ [])
+slice-more bs d i o l =
+    let k : i + 1 - d ≡ i - d + 1 = omega (arith, o) in
+    let n : d + (i - d) ≡ i = omega (arith, o) in
+    let m : i - d < length (drop d bs) = omega (arith, o, l, length-drop d bs) in
+    ap (λ v. take v (drop d bs)) k ∙ take_more (drop d bs) (i - d) 0 m ∙ ap (λ v. take (i - d) (drop d bs) ++ (v ∷ [])) (get_or-drop d bs (i - d) 0 ∙ ap (λ v. get_or bs v 0) n)
 
--- One byte of a text more.
-pub appends-escape : (a b c : Option (List ℕ)) (bs : List ℕ) (i : ℕ) → i < length bs → Appends a b (escape (take i bs)) → Appends b c (escape_byte (get_or bs i 0)) → Appends a c (escape (take (i + 1) bs))
-appends-escape a b c bs i l h k =
-    let P : List ℕ → Type 0 = λ t. Appends a c t in
-    subst P (sym (escape-more bs i l)) (appends-both a b c (escape (take i bs)) (escape_byte (get_or bs i 0)) h k)
+pub run-start : (a : Option (List ℕ)) (bs : List ℕ) → HasRun a a bs 0 0
+run-start a bs = record { order = omega arith; wrote = appends-none a; run = refl }
+
+pub run-plain : (a b : Option (List ℕ)) (bs : List ℕ) (d i : ℕ) → i < length bs → escape_byte (get_or bs i 0) ≡ get_or bs i 0 ∷ [] → HasRun a b bs d i → HasRun a b bs d (i + 1)
+run-plain a b bs d i l p h = record {
+  order = omega (arith, h.order);
+  wrote = h.wrote;
+  run =
+      escape-more bs i l ∙ ap (λ t. t ++ escape_byte (get_or bs i 0)) h.run
+      ∙ ap (λ t. (escape (take d bs) ++ take (i - d) (drop d bs)) ++ t) p
+      ∙ append_assoc (escape (take d bs)) (take (i - d) (drop d bs)) (get_or bs i 0 ∷ [])
+      ∙ ap (λ t. escape (take d bs) ++ t) (sym (slice-more bs d i h.order l));
+}
+
+run_is : (a b : Option (List ℕ)) (bs : List ℕ) (d i : ℕ) → i < length bs → HasRun a b bs d i → escape (take d bs) ++ (take (i - d) (drop d bs) ++ escape_byte (get_or bs i 0)) ≡ escape (take (i + 1) bs)
+run_is a b bs d i l h =
+    sym (append_assoc (escape (take d bs)) (take (i - d) (drop d bs)) (escape_byte (get_or bs i 0)))
+    ∙ ap (λ t. t ++ escape_byte (get_or bs i 0)) (sym h.run) ∙ sym (escape-more bs i l)
+
+pub run-written : (a b c : Option (List ℕ)) (bs : List ℕ) (d i : ℕ) → i < length bs → Appends b c (take (i - d) (drop d bs) ++ escape_byte (get_or bs i 0)) → HasRun a b bs d i → HasRun a c bs (i + 1) (i + 1)
+run-written a b c bs d i l w h = record {
+  order = omega arith;
+  wrote =
+      let P : List ℕ → Type 0 = λ t. Appends a c t in
+      subst P (run_is a b bs d i l h) (appends-both a b c (escape (take d bs)) _ h.wrote w);
+  run = let z : i + 1 - (i + 1) ≡ 0 = omega arith in sym (ap (λ n. escape (take (i + 1) bs) ++ take n (drop (i + 1) bs)) z ∙ append-nil (escape (take (i + 1) bs)));
+}
+
+-- A fault while a run is written.
+pub run-front : (a b c : Option (List ℕ)) (bs : List ℕ) (d i : ℕ) → i < length bs → WroteFront b c (take (i - d) (drop d bs) ++ escape_byte (get_or bs i 0)) → HasRun a b bs d i → WroteFront a c (escape bs)
+run-front a b c bs d i l w h =
+    let all : escape bs ≡ (escape (take d bs) ++ (take (i - d) (drop d bs) ++ escape_byte (get_or bs i 0))) ++ escape (drop (i + 1) bs) =
+    escape-split bs (i + 1) ∙ ap (λ t. t ++ escape (drop (i + 1) bs)) (sym (run_is a b bs d i l h)) in
+    let P : List ℕ → Type 0 = λ t. WroteFront a c t in
+    subst P (sym all) (front-left a c _ (escape (drop (i + 1) bs)) (front-right a b c (escape (take d bs)) _ h.wrote w))
+
+-- What holds anyhow.
+pub on_err : {T E : Type 0} (result : Result T E) {P : Type 0} → P → OnErr result P
+on_err (Ok x) p = tt
+on_err (Err e) p = p
+
+-- The last run.
+run_all : (a b : Option (List ℕ)) (bs : List ℕ) (d : ℕ) → HasRun a b bs d (length bs) → escape (take d bs) ++ take (length bs - d) (drop d bs) ≡ escape bs
+run_all a b bs d h = sym h.run ∙ escape-all bs
+
+pub run-end : (a b c : Option (List ℕ)) (bs : List ℕ) (d : ℕ) → HasRun a b bs d (length bs) → Appends b c (take (length bs - d) (drop d bs)) → Appends a c (escape bs)
+run-end a b c bs d h w = let P : List ℕ → Type 0 = λ t. Appends a c t in subst P (run_all a b bs d h) (appends-both a b c (escape (take d bs)) _ h.wrote w)
+
+pub run-end_front : (a b c : Option (List ℕ)) (bs : List ℕ) (d : ℕ) → HasRun a b bs d (length bs) → WroteFront b c (take (length bs - d) (drop d bs)) → WroteFront a c (escape bs)
+run-end_front a b c bs d h w = let P : List ℕ → Type 0 = λ t. WroteFront a c t in subst P (run_all a b bs d h) (front-right a b c (escape (take d bs)) _ h.wrote w)
 
 pub length-reply : (id : Id) (n : ℕ) → n ≡ length (id_text id) → n + 69 ≡ length (no_memory_reply id)
 unfolding no_memory_reply before_id
@@ -115,6 +160,6 @@ length-reply id n e = omega (arith, e, length-append (id_text id) (codes ",\"jso
 
 pub ruleset escapes = (escape-short, escape-hex, escape-plain, short-is, length-more, escape-all, length-quoted)
 
-pub ruleset pieces = (appends-none, appends-both, appends-escape, front-left, front-right, cause-later, front-escape, escape-all, length-reply)
+pub ruleset pieces = (appends-none, appends-both, front-left, front-right, cause-later, escape-all, length-reply, run-start, run-end, run-end_front)
 
 pub ruleset quotes = (quoted-is)

@@ -1,8 +1,8 @@
 -- What stands at the front of the bytes stands there whatever follows them.
-use Rattle.std.proofs.Common.{◌≡◌, ◌≢◌, ℕ, suc, zero, ◌+◌, ◌<◌, ◌≤◌, ap, sym, ◌∙◌, get_or, drop, take, arith, List, [], ◌∷◌, refl, Bool, true, false, ◌++◌, length, nat_le, if◌then◌else◌, subst}
+use Rattle.std.proofs.Common.{◌≡◌, ℕ, ◌+◌, ◌≤◌, ap, ◌∙◌, drop, take, arith, List, [], ◌∷◌, refl, Bool, true, false, ◌++◌, length, nat_le, if◌then◌else◌}
 use Rattle.std.proofs.lemmas.List.{drop-append-le, take-append-le, length-append, length-drop}
 use Rattle.json_rpc.specs.Heads.{start, step, after, line_after, scan_from, IsWithin}
-use Rattle.json_rpc.specs.Streams.{Next, partial, whole, wrong, by_length, by_reading, next_of}
+use Rattle.json_rpc.specs.Streams.{partial, whole, wrong, by_length, by_reading, next_of}
 use Rattle.json_rpc.specs.declared.header.Mode.{Mode}
 use Rattle.json_rpc.specs.declared.header.Mode.TheVariants.{Line, Name, Value, Blank, Digits, Tail, LineEnd, LastEnd}
 use Rattle.json_rpc.specs.declared.header.Head.{Head}
@@ -11,7 +11,6 @@ use Rattle.json_rpc.specs.declared.header.Step.TheVariants.{On, Done, Stop, Twic
 use Rattle.json_rpc.specs.declared.header.Reading.{Reading}
 use Rattle.json_rpc.specs.declared.header.Reading.TheVariants.{More, Whole, Bad}
 use Rattle.json_rpc.specs.declared.fault.FrameFault.{FrameFault}
-use Rattle.json_rpc.specs.declared.fault.FrameFault.TheVariants.{Header, NoLength, TooLong}
 
 -- the places of a reading are within the bytes
 after-within : (n line m : ℕ) (h : Head) (s : Step) (f : Head → Reading) → n + 1 ≤ m → line ≤ n → ((g : Head) → IsWithin m (f g)) → IsWithin m (after n line h s f)
@@ -42,7 +41,7 @@ scan-within n line h (x ∷ bs) m b l =
     choose m (nat_le 8192 n) (Bad n) (after n line h (step h x) (λ g. scan_from (n + 1) (line_after n line g.mode) g bs)) (omega (arith, l)) (after-within n line m h (step h x) (λ g. scan_from (n + 1) (line_after n line g.mode) g bs) (omega (arith, shorter)) b (λ g. scan-within (n + 1) (line_after n line g.mode) g bs m (line-le n line g.mode b) shorter))
 
 -- a reading that is settled stays
-abbrev Settles : Reading → Reading → Type 0
+abbrev pub Settles : Reading → Reading → Type 0
 Settles More s = Unit {0}
 Settles (Whole n h) s = s ≡ Whole n h
 Settles (Bad n) s = s ≡ Bad n
@@ -63,7 +62,7 @@ scan-settles n line h [] ys = tt
 scan-settles n line h (x ∷ xs) ys =
     pick-settles (nat_le 8192 n) n _ _ (after-settles n line h (step h x) (λ g. scan_from (n + 1) (line_after n line g.mode) g xs) (λ g. scan_from (n + 1) (line_after n line g.mode) g (xs ++ ys)) (λ g. scan-settles (n + 1) (line_after n line g.mode) g xs ys))
 
-length_whole : (a b c : Bool) (x y u v : List ℕ) (f g : FrameFault) → (if a then (if b then (if c then whole x y else partial) else wrong f) else wrong g) ≡ whole u v → (a ≡ true) × (b ≡ true) × (c ≡ true) × (x ≡ u) × (y ≡ v)
+pub length_whole : (a b c : Bool) (x y u v : List ℕ) (f g : FrameFault) → (if a then (if b then (if c then whole x y else partial) else wrong f) else wrong g) ≡ whole u v → (a ≡ true) × (b ≡ true) × (c ≡ true) × (x ≡ u) × (y ≡ v)
 length_whole true true true x y u v f g e = (refl, refl, refl, cc, cc)
 length_whole true true false x y u v f g e = absurd cc
 length_whole true false c x y u v f g e = absurd cc

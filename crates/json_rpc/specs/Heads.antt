@@ -1,6 +1,6 @@
 -- What may stand in the header part of a frame (LSP 3.17, "Header Part"), byte by byte: lines of a name, `:` and a value,
 -- each with CR LF, then an empty line. A line `Content-Length`, compared without case, tells the length.
-use Rattle.std.specs.Prelude.{◌≡◌, ◌≤◌, ℕ, ◌+◌, ◌*◌, ◌-◌, ◌^◌, min, Bool, true, false, List, [], ◌∷◌, if◌then◌else◌, nat_le, nat_lt, ◌==◌, ◌&&◌, ◌||◌, not, codes, slice_get, Option, Some, None}
+use Rattle.std.specs.Prelude.{◌≤◌, ℕ, ◌+◌, ◌*◌, ◌-◌, ◌^◌, min, Bool, true, false, List, [], ◌∷◌, if◌then◌else◌, nat_le, nat_lt, ◌==◌, ◌&&◌, ◌||◌, not, codes, slice_get, Option, Some, None}
 use Rattle.std.specs.Char.{to_ascii_lowercase}
 use Rattle.json_rpc.specs.declared.header.Mode.{Mode}
 use Rattle.json_rpc.specs.declared.header.Mode.TheVariants.{Line, Name, Value, Blank, Digits, Tail, LineEnd, LastEnd}

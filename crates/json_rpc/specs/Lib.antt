@@ -1,5 +1,7 @@
+pub mod Fronts
 pub mod Heads
 pub mod Messages
 pub mod Replies
+pub mod Spelled
 pub mod Streams
 pub mod Whole

@@ -1,7 +1,7 @@
 -- What the JSON value of a body is as a message (JSON-RPC 2.0, sections 4 and 5).
-use Rattle.std.specs.Prelude.{◌≡◌, ℕ, ℤ, negsuc, List, codes, Bool, true, false, ◌&&◌, ◌||◌, bytes_eq, is_some, Option, Some, None, option_map, if◌then◌else◌}
+use Rattle.std.specs.Prelude.{◌≡◌, ℕ, ℤ, negsuc, List, codes, Bool, false, ◌&&◌, ◌||◌, bytes_eq, is_some, Option, Some, None, option_map, if◌then◌else◌}
 use Rattle.std.specs.Str.{is_utf8}
-use Rattle.serde_json.specs.Data.{Data, Num, null, boolean, number, string, array, object}
+use Rattle.serde_json.specs.Data.{Data, null, boolean, number, string, array, object}
 use Rattle.serde_json.specs.Find.{get, as_i64}
 use Rattle.serde_json.specs.Read.{read}
 use Rattle.serde_json.specs.View.{view}

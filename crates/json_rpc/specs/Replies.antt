@@ -1,7 +1,8 @@
 -- What is written: frames, and the reply for which there was no memory.
-use Rattle.std.specs.Prelude.{ℕ, ℤ, negsuc, List, [], ◌∷◌, ◌++◌, ◌+◌, length, codes, decimal}
+use Rattle.std.specs.Prelude.{ℕ, List, ◌++◌, length, codes, decimal, ◌≡◌, ◌≤◌, ◌-◌, take, drop, Option}
+use Rattle.std.specs.Io.KnownBytes.{Appends}
 use Rattle.std.specs.Fmt.{signed_decimal}
-use Rattle.json.specs.Print.{quoted}
+use Rattle.json.specs.Print.{escape, quoted}
 use Rattle.json_rpc.specs.declared.message.Id.{Id}
 use Rattle.json_rpc.specs.declared.message.Id.TheVariants.{Number, Text}
 
@@ -31,3 +32,9 @@ id_text (Text s) = quoted s
 -- The reply to a request for which there was no memory: the error -32803 of LSP 3.17, without data.
 unfoldable pub no_memory_reply : Id → List ℕ
 no_memory_reply id = before_id ++ (id_text id ++ codes ",\"jsonrpc\":\"2.0\"}")
+
+-- What stands for the first `done` bytes of a text is written, and those from there up to i are a run that stands for itself.
+pub record HasRun (start now : Option (List ℕ)) (bytes : List ℕ) (done i : ℕ) : Type 0 where
+  pub order : done ≤ i
+  pub wrote : Appends start now (escape (take done bytes))
+  pub run : escape (take i bytes) ≡ escape (take done bytes) ++ take (i - done) (drop done bytes)

@@ -1,5 +1,5 @@
 -- A stream of frames: what stands at its front, and what a reader has taken and met.
-use Rattle.std.specs.Prelude.{◌≡◌, ◌≢◌, ℕ, ◌+◌, ◌^◌, ◌<◌, ◌≤◌, Bool, true, false, List, [], ◌∷◌, ◌++◌, length, take, drop, if◌then◌else◌, nat_le, Option, Some, None, IsTrue, IsFalse}
+use Rattle.std.specs.Prelude.{◌≡◌, ◌≢◌, ℕ, ◌+◌, ◌^◌, ◌<◌, ◌≤◌, Bool, List, [], ◌++◌, length, take, drop, if◌then◌else◌, nat_le, Option, Some, None, IsTrue, IsFalse}
 use Rattle.std.specs.Io.KnownBytes.{Consumes, Keeps, IsAtEnd}
 use Rattle.json_rpc.specs.Heads.{start, scan_from}
 use Rattle.json_rpc.specs.declared.fault.FrameFault.{FrameFault}
@@ -42,6 +42,17 @@ pub record Progress : Type 0 where
   pub held : List ℕ
   pub fault : Option FrameFault
 
+-- A fault that is kept lasts: it is met again. A read fault and want of memory pass.
+abbrev pub IsLasting : Option FrameFault → Type 0
+IsLasting None = Unit {0}
+IsLasting (Some (Header k)) = Unit {0}
+IsLasting (Some (NoLength k)) = Unit {0}
+IsLasting (Some (TooLong k)) = Unit {0}
+IsLasting (Some (Cut k)) = Unit {0}
+IsLasting (Some ReadFault) = ⊥
+IsLasting (Some Budget) = Unit {0}
+IsLasting (Some OutOfMemory) = ⊥
+
 -- As many bytes have been taken as before.
 abbrev pub IsAsFar : Progress → Progress → Type 0
 IsAsFar old new = new.place + length new.held ≡ old.place + length old.held
@@ -69,6 +80,15 @@ MeetsFault old new (Cut k) = ⊥
 MeetsFault old new ReadFault = ⊥
 MeetsFault old new Budget = ⊥
 MeetsFault old new OutOfMemory = new ≡ old
+
+-- So many bytes, of at most `most`, were taken from the source and are held; none is the end of the input.
+pub record Holds (old new : List ℕ) (before now : Option (List ℕ)) (count most : ℕ) : Type 0 where
+  pub taken : List ℕ
+  pub from : Consumes before now taken
+  pub held : new ≡ old ++ taken
+  pub many : length taken ≡ count
+  pub few : count ≤ most
+  pub end : count ≡ 0 → 0 < most → IsAtEnd now
 
 -- Bytes were taken from the source; none is the end of the input.
 pub record Fills (old new : Progress) (before now : Option (List ℕ)) (more : Bool) : Type 0 where

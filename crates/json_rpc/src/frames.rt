@@ -1,62 +1,75 @@
-ghost use Rattle.std.specs.Prelude.{◌≡◌, ◌≢◌, IsNone, IfNone, ◌≤◌, ◌<◌, ◌+◌, ◌^◌, [], None, Some, drop, length, IfOk, IfSome, MatchResult, MatchOption, IsErrOf, vec_len};
+ghost use Rattle.std.specs.Prelude.{◌≡◌, ◌≢◌, IsNone, IfNone, ◌≤◌, ◌<◌, ◌+◌, ◌^◌, [], None, Some, drop, length, IfOk, IfSome, MatchResult, MatchOption, IsErrOf, OnOk, vec_len};
 ghost use Rattle.outside.specs.Causes.{Rose};
-ghost use Rattle.json_rpc.specs.Streams.{TakesFrame, MeetsFault, Fills, FillFails, Gives, Ends, Fails, IsAsFar, budget, by_length, ended, next_of, partial};
+ghost use Rattle.json_rpc.specs.Fronts.{IsPartOf};
+ghost use Rattle.json_rpc.specs.Streams.{IsLasting, TakesFrame, MeetsFault, Fills, FillFails, Gives, Ends, Fails, IsAsFar, budget, by_length, ended, next_of, partial};
 
 use crate::fault::FrameFault;
-use crate::header::{Head, Reading, scan};
+use crate::header::{Front, Head, Reading, Scan};
+use crate::held::Held;
 use outside::Source;
-use std::alloc::Global;
+use std::alloc::{AllocError, Global};
 use std::marker::Model;
 
 const LONGEST: u64 = 16_777_216;
 
 const BUDGET: u64 = 1_099_511_627_776;
 
+/// The most bytes that are asked for at a time.
+const PIECE: usize = 65_536;
+
 /// The frames of a source, one by one. It holds the bytes that it took and hasn't given yet, so it doesn't
-/// matter in which pieces the source gives them. Contracts see how many bytes were given, the bytes
-/// held, and the fault that ended the stream.
+/// matter in which pieces the source gives them, and no byte of a header part is read twice. Contracts see
+/// how many bytes were given, the bytes held, and the fault that ended the stream.
 #[derive(Drop)]
 pub struct Frames {
     place: u64,
-    held: Vec<u8>,
+    held: Held,
     fault: Option<FrameFault>,
+    front: Front,
+    /// What a read writes into, made at the first one.
+    piece: Vec<u8>,
 }
 
 impl Model for Frames {
     ghost use Rattle.std.specs.Prelude.{◌≤◌, ◌+◌, length};
-    ghost use Rattle.json_rpc.specs.Streams.{Progress, budget};
+    ghost use Rattle.json_rpc.specs.Fronts.{IsFrontOf};
+    ghost use Rattle.json_rpc.specs.Streams.{IsLasting, Progress, budget};
 
     ghost Value = { Progress };
 
-    ghost view = { λ f. record { place = f.place; held = f.held.items; fault = f.fault } };
+    ghost view = { λ f. record { place = f.place; held = f.held; fault = f.fault } };
 
-    ghost invariant = { λ f. f.place + length f.held.items ≤ budget };
+    ghost invariant = { λ f. (f.place + length f.held ≤ budget) × IsLasting f.fault × IsFrontOf f.held f.front };
 }
 
-/// Drops the first n bytes.
-fn drop_front(bytes: &mut Vec<u8>, n: usize)
-    requires { n ≤ vec_len bytes.old }
-    ensures { bytes.new.items ≡ drop n bytes.old.items }
+/// Makes room for one read.
+fn make_piece(alloc: Global, piece: &mut Vec<u8>) -> Result<(), AllocError>
+    ensures { OnOk result (0 < vec_len piece.new) }
 {
-    let left = bytes.len() - n;
-    bytes.rotate_left(n);
-    bytes.truncate(left);
+    if piece.is_empty() {
+        *piece = vec![in alloc; 0u8; PIECE]?;
+    }
+    Ok(())
 }
 
 impl Frames {
     /// Nothing is taken yet.
+    #[tactic(auto, using(crate::proofs::Scans::fronts))]
     pub fn new(alloc: Global) -> Frames
         ensures { result ≡ record { place = 0; held = []; fault = None } }
     {
         Frames {
             place: 0,
-            held: Vec::new(alloc),
+            held: Held::new(alloc),
             fault: None,
+            front: Front::Part(Scan::start()),
+            piece: Vec::new(alloc),
         }
     }
 
     /// Ends the stream by a fault.
     fn end_with(&mut self, fault: FrameFault) -> FrameFault
+        requires { IsLasting (Some fault) }
         ensures result { result ≡ fault }
         ensures ended { self.new ≡ ended self.old fault }
         ensures bytes { IsAsFar self.old self.new }
@@ -66,7 +79,7 @@ impl Frames {
     }
 
     /// The body after a header part of `from` bytes, where it is held.
-    #[tactic(auto, unfolding(crate::specs::Streams::by_length))]
+    #[tactic(auto, using(crate::proofs::Scans::fronts), unfolding(crate::specs::Streams::by_length))]
     fn take_body(
         &mut self,
         alloc: Global,
@@ -93,14 +106,14 @@ impl Frames {
             return Ok(None);
         }
         let end = from + length;
-        let body = Vec::from_slice(alloc, &self.held[from..end])?;
-        drop_front(&mut self.held, end);
+        let body = self.held.take(alloc, from, end)?;
         self.place += end as u64;
+        self.front = Front::Part(Scan::start());
         Ok(Some(body))
     }
 
     /// The frame at the front of what is held.
-    #[tactic(auto, unfolding(crate::specs::Streams::by_reading))]
+    #[tactic(auto, using(crate::proofs::Scans::fronts), unfolding(crate::specs::Streams::by_reading))]
     fn take_frame(&mut self, alloc: Global) -> Result<Option<Vec<u8>>, FrameFault>
         requires { self.old.fault ≡ None }
         ensures frame { MatchResult result
@@ -108,9 +121,32 @@ impl Frames {
             (λ e. MeetsFault self.old self.new e) }
         ensures bytes { IsAsFar self.old self.new }
     {
-        match scan(self.held.as_slice()) {
-            Reading::More => Ok(None),
-            Reading::Whole(from, head) => self.take_body(alloc, from, &head),
+        match self.front {
+            Front::Body(from, head) => self.take_body(alloc, from, &head),
+            Front::Part(scan) => self.read_part(alloc, scan),
+        }
+    }
+
+    /// Reads on in a header part.
+    #[tactic(auto, using(crate::proofs::Scans::fronts), unfolding(crate::specs::Streams::by_reading))]
+    fn read_part(&mut self, alloc: Global, scan: Scan) -> Result<Option<Vec<u8>>, FrameFault>
+        requires fault { self.old.fault ≡ None }
+        requires part { IsPartOf self.old.held scan }
+        ensures frame { MatchResult result
+            (λ found. MatchOption found ((next_of self.old.place self.old.held ≡ partial) × (self.new ≡ self.old)) (λ body. TakesFrame self.old self.new body.items))
+            (λ e. MeetsFault self.old self.new e) }
+        ensures bytes { IsAsFar self.old self.new }
+    {
+        let mut scan = scan;
+        match scan.read_on(self.held.as_slice()) {
+            Reading::More => {
+                self.front = Front::Part(scan);
+                Ok(None)
+            }
+            Reading::Whole(from, head) => {
+                self.front = Front::Body(from, head);
+                self.take_body(alloc, from, &head)
+            }
             Reading::Bad(n) => {
                 let at = self.place + n as u64;
                 Err(self.end_with(FrameFault::Header(at)))
@@ -119,7 +155,8 @@ impl Frames {
     }
 
     /// Takes bytes from the source; false at its end.
-    fn fill<S: Source>(&mut self, source: &mut S) -> Result<bool, FrameFault>
+    #[tactic(auto, using(crate::proofs::Scans::fronts))]
+    fn fill<S: Source>(&mut self, alloc: Global, source: &mut S) -> Result<bool, FrameFault>
         requires { self.old.fault ≡ None }
         ensures bytes { MatchResult result
             (λ more. Fills self.old self.new (S.left source.old) (S.left source.new) more)
@@ -128,14 +165,13 @@ impl Frames {
         ensures later { S.faults source.old ≤ S.faults source.new }
         ensures cause { IsErrOf result FrameFault.ReadFault → Rose (S.faults source.old) (S.faults source.new) }
     {
-        let room = (BUDGET - (self.place + self.held.len() as u64)).min(4096) as usize;
-        if room == 0 {
+        let left = BUDGET - (self.place + self.held.len() as u64);
+        if left == 0 {
             return Err(self.end_with(FrameFault::Budget));
         }
-        self.held.reserve(4096)?;
-        let mut buf = [0; 4096];
-        let count = source.read(&mut buf[..room])?;
-        self.held.extend_from_slice(&buf[..count])?;
+        make_piece(alloc, &mut self.piece)?;
+        let room = left.min(self.piece.len() as u64) as usize;
+        let count = self.held.fill(source, self.piece.as_mut_slice(), room)?;
         Ok(count != 0)
     }
 
@@ -172,7 +208,7 @@ impl Frames {
             if let Some(body) = self.take_frame(alloc)? {
                 return Ok(Some(body));
             }
-            if !self.fill(source)? {
+            if !self.fill(alloc, source)? {
                 return self.at_end();
             }
         }
@@ -181,6 +217,7 @@ impl Frames {
     /// The next body, of at most 16 MiB; None where the input ended between two frames before the
     /// budget of 2^40 bytes was used up. After a fault other than `ReadFault` and `OutOfMemory` it answers
     /// that fault again; after those two it goes on with every byte that it took.
+    #[tactic(auto, using(crate::proofs::Lasting::lasting))]
     pub fn next<S: Source>(
         &mut self,
         alloc: Global,
@@ -192,7 +229,8 @@ impl Frames {
         ensures again { IfSome self.old.fault (λ e. IsErrOf result e × (self.new ≡ self.old) × (source.new ≡ source.old)) }
         ensures later { S.faults source.old ≤ S.faults source.new }
         ensures bound { self.new.place + length self.new.held ≤ budget }
-        ensures cause { self.old.fault ≡ None → IsErrOf result FrameFault.ReadFault → Rose (S.faults source.old) (S.faults source.new) }
+        ensures cause { IsErrOf result FrameFault.ReadFault → Rose (S.faults source.old) (S.faults source.new) }
+        ensures kept { IsLasting self.old.fault }
     {
         if let Some(fault) = self.fault {
             return Err(fault);

@@ -1,4 +1,5 @@
-ghost use Rattle.std.specs.Prelude.{◌≡◌, ◌≤◌, ◌+◌, ◌<◌, ◌^◌, IsTrue, length};
+ghost use Rattle.std.specs.Prelude.{◌≡◌, ◌≢◌, ◌≤◌, ◌+◌, ◌<◌, ◌^◌, IsTrue, IsNone, IfSome, MatchOption, drop, length};
+ghost use Rattle.json_rpc.specs.Fronts.{Leads};
 ghost use Rattle.json_rpc.specs.Heads.{start, step, next, digit, line_after, scan_from, is_name, is_value, is_blank, is_digit, matching, IsWithin, at_line, at_name, at_value, at_blank, at_digits, at_tail};
 
 /// What may stand next.
@@ -247,27 +248,76 @@ fn line_after(n: usize, line: usize, mode: Mode) -> usize
     }
 }
 
-/// What these bytes are, read from a frame's start.
-#[tactic(auto, using(crate::proofs::Scans::scans))]
-pub fn scan(bytes: &[u8]) -> Reading
-    ensures value { result ≡ scan_from 0 0 start bytes.now }
-    ensures within { IsWithin (length bytes.now) result }
-{
-    let mut head = Head::start();
-    let mut line = 0;
-    for n in 0..bytes.len() {
-        if n >= 8192 {
-            return Reading::Bad(n);
-        }
-        match head.step(bytes[n]) {
-            Step::On(next) => {
-                head = next;
-                line = line_after(n, line, next.mode);
-            }
-            Step::Done => return Reading::Whole(n + 1, head),
-            Step::Stop => return Reading::Bad(n),
-            Step::Twice => return Reading::Bad(line),
+/// How far a header part has been read: so many bytes, of which the last line begins at `line`.
+#[derive(Clone, Copy, Debug)]
+pub struct Scan {
+    pub read: usize,
+    pub line: usize,
+    pub head: Head,
+}
+
+/// What is known of the front of the bytes that are held: a header part so far, or a whole one of so many
+/// bytes, which the body follows.
+#[derive(Clone, Copy, Debug)]
+pub enum Front {
+    Part(Scan),
+    Body(usize, Head),
+}
+
+impl Scan {
+    pub fn start() -> Scan
+        ensures { result ≡ record { read = 0; line = 0; head = start } }
+    {
+        Scan {
+            read: 0,
+            line: 0,
+            head: Head::start(),
         }
     }
-    Reading::More
+
+    /// Reads on to the end of the header part, or of the bytes.
+    #[tactic(auto, using(crate::proofs::Scans::fronts))]
+    pub fn read_on(&mut self, bytes: &[u8]) -> Reading
+        requires read { self.old.read ≤ length bytes.now }
+        requires line { self.old.line ≤ self.old.read }
+        ensures value { result ≡ scan_from self.old.read self.old.line self.old.head (drop self.old.read bytes.now) }
+        ensures within { IsWithin (length bytes.now) result }
+        ensures on { result ≡ Reading.More → Leads bytes.now self.old self.new }
+        ensures all { result ≡ Reading.More → self.new.read ≡ length bytes.now }
+        ensures line { self.new.line ≤ self.new.read }
+    {
+        while self.read < bytes.len() {
+            if let Some(reading) = self.read_byte(bytes) {
+                return reading;
+            }
+        }
+        Reading::More
+    }
+
+    /// Reads one byte; None where the header part may go on.
+    #[tactic(auto, using(crate::proofs::Scans::scans))]
+    fn read_byte(&mut self, bytes: &[u8]) -> Option<Reading>
+        requires read { self.old.read < length bytes.now }
+        requires line { self.old.line ≤ self.old.read }
+        ensures on { MatchOption result (Leads bytes.now self.old self.new) (λ reading. reading ≡ scan_from self.old.read self.old.line self.old.head (drop self.old.read bytes.now)) }
+        ensures one { IsNone result → self.new.read ≡ self.old.read + 1 }
+        ensures within { IfSome result (λ reading. (reading ≢ Reading.More) × IsWithin (length bytes.now) reading) }
+        ensures line { self.new.line ≤ self.new.read }
+    {
+        let n = self.read;
+        if n >= 8192 {
+            return Some(Reading::Bad(n));
+        }
+        match self.head.step(bytes[n]) {
+            Step::On(next) => {
+                self.line = line_after(n, self.line, next.mode);
+                self.head = next;
+                self.read = n + 1;
+                None
+            }
+            Step::Done => Some(Reading::Whole(n + 1, self.head)),
+            Step::Stop => Some(Reading::Bad(n)),
+            Step::Twice => Some(Reading::Bad(self.line)),
+        }
+    }
 }

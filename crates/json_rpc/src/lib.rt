@@ -6,6 +6,8 @@
 mod fault;
 mod frames;
 mod header;
+mod held;
+mod laws;
 mod message;
 mod read;
 mod whole;
@@ -13,6 +15,7 @@ mod write;
 
 pub use fault::FrameFault;
 pub use frames::Frames;
+pub use laws::frame_laws;
 pub use message::{Id, Message, Refused, RpcFault, RpcRefusal};
 pub use read::read_message;
 pub use whole::read_frames;

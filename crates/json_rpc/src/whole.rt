@@ -1,4 +1,5 @@
-ghost use Rattle.std.specs.Prelude.{◌≡◌, ◌++◌, ◌∷◌, IsTrue, [], map};
+ghost use Rattle.std.specs.Prelude.{◌≡◌, ◌≤◌, ◌++◌, ◌∷◌, IsTrue, IsFalse, Some, [], map};
+ghost use Rattle.outside.specs.Causes.{Rose};
 ghost use Rattle.json_rpc.specs.Whole.{Reads, bodies_of};
 
 use crate::fault::FrameFault;
@@ -8,13 +9,15 @@ use std::alloc::Global;
 
 /// Whether there was room for one body more.
 fn keep(bodies: &mut Vec<Vec<u8>>, body: Vec<u8>) -> bool
-    ensures { IsTrue result → bodies_of bodies.new.items ≡ bodies_of bodies.old.items ++ body.items ∷ [] }
+    ensures kept { IsTrue result → bodies_of bodies.new.items ≡ bodies_of bodies.old.items ++ body.items ∷ [] }
+    ensures lost { IsFalse result → bodies_of bodies.new.items ≡ bodies_of bodies.old.items }
 {
     bodies.push(body).is_ok()
 }
 
 /// Puts the bodies of a source's frames into an empty list, and answers what ended them, None for an end
-/// of the input between two frames.
+/// of the input between two frames. After a read fault or want of memory the bodies are the first ones of
+/// the input.
 #[tactic(auto, using(crate::proofs::Inputs::inputs))]
 pub fn read_frames<S: Source>(
     alloc: Global,
@@ -23,6 +26,8 @@ pub fn read_frames<S: Source>(
 ) -> Option<FrameFault>
     requires empty { bodies.old.items ≡ [] }
     ensures whole_input { Reads (S.left source.old) (bodies_of bodies.new.items) result }
+    ensures later { S.faults source.old ≤ S.faults source.new }
+    ensures cause { result ≡ Some FrameFault.ReadFault → Rose (S.faults source.old) (S.faults source.new) }
 {
     let mut frames = Frames::new(alloc);
     for _ in 0..u64::MAX {

@@ -1,10 +1,10 @@
-ghost use Rattle.std.specs.Prelude.{◌≡◌, ◌≤◌, ◌<◌, ◌*◌, ◌^◌, ◌++◌, length, codes, decimal, OnOk, OnErr};
+ghost use Rattle.std.specs.Prelude.{◌≡◌, ◌≤◌, ◌<◌, ◌+◌, ◌*◌, ◌^◌, ◌++◌, ◌∷◌, [], ℕ, List, Option, length, codes, decimal, IsTrue, IfOk, OnOk, OnErr};
 ghost use Rattle.std.specs.Char.{digit_char};
 ghost use Rattle.std.specs.Io.KnownBytes.{Appends};
 ghost use Rattle.outside.specs.Causes.{HasCause};
 ghost use Rattle.outside.specs.Gathered.{WroteFront};
 ghost use Rattle.json.specs.Print.{escape, escape_byte, escape_letter};
-ghost use Rattle.json_rpc.specs.Replies.{before_id, frame_of, head_of, id_text, length_mark, no_memory_reply, quote};
+ghost use Rattle.json_rpc.specs.Replies.{HasRun, before_id, frame_of, head_of, id_text, length_mark, no_memory_reply, quote};
 
 use crate::message::Id;
 use itoa::Buffer;
@@ -110,17 +110,55 @@ fn write_byte<K: Sink>(sink: &mut K, byte: u8) -> Result<(), Failed>
     write_all(sink, &[byte])
 }
 
-/// Writes what stands for a text in a JSON string.
+/// Whether a byte stands for itself in a JSON string.
+#[tactic(auto, using(crate::proofs::Pieces::escapes))]
+fn is_plain(byte: u8) -> bool
+    ensures { IsTrue result → escape_byte byte ≡ byte ∷ [] }
+{
+    escape_letter(byte) == 0 && byte >= 32
+}
+
+/// Writes a run of bytes that stand for themselves, and what stands for the byte after it.
+#[tactic(auto, using(crate::proofs::Pieces::pieces))]
+fn write_run<K: Sink>(sink: &mut K, run: &[u8], byte: u8) -> Result<(), Failed>
+    ensures all { OnOk result (Appends (K.written sink.old) (K.written sink.new) (run.now ++ escape_byte byte)) }
+    ensures front { OnErr result (WroteFront (K.written sink.old) (K.written sink.new) (run.now ++ escape_byte byte)) }
+    ensures cause { HasCause (K.faults sink.old) (K.faults sink.new) result }
+{
+    write_all(sink, run)?;
+    write_byte(sink, byte)
+}
+
+/// Goes on by the byte at i, and answers where the run begins that is to be written yet.
+fn write_next<K: Sink>(sink: &mut K, bytes: &[u8], done: usize, i: usize) -> Result<usize, Failed>
+    requires order { done ≤ i }
+    requires within { i < length bytes.now }
+    ensures next { IfOk result (λ next. (start : Option (List ℕ)) →
+        HasRun start (K.written sink.old) bytes.now done i → HasRun start (K.written sink.new) bytes.now next (i + 1)) }
+    ensures front { OnErr result ((start : Option (List ℕ)) →
+        HasRun start (K.written sink.old) bytes.now done i → WroteFront start (K.written sink.new) (escape bytes.now)) }
+    ensures cause { HasCause (K.faults sink.old) (K.faults sink.new) result }
+{
+    let byte = bytes[i];
+    if is_plain(byte) {
+        return Ok(done);
+    }
+    write_run(sink, &bytes[done..i], byte)?;
+    Ok(i + 1)
+}
+
+/// Writes what stands for a text in a JSON string, each run of bytes that stand for themselves at once.
 #[tactic(auto, using(crate::proofs::Pieces::pieces))]
 fn write_escaped<K: Sink>(sink: &mut K, bytes: &[u8]) -> Result<(), Failed>
     ensures all { OnOk result (Appends (K.written sink.old) (K.written sink.new) (escape bytes.now)) }
     ensures front { OnErr result (WroteFront (K.written sink.old) (K.written sink.new) (escape bytes.now)) }
     ensures cause { HasCause (K.faults sink.old) (K.faults sink.new) result }
 {
+    let mut done = 0;
     for i in 0..bytes.len() {
-        write_byte(sink, bytes[i])?;
+        done = write_next(sink, bytes, done, i)?;
     }
-    Ok(())
+    write_all(sink, &bytes[done..])
 }
 
 /// Writes a quote.

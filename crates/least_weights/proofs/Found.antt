@@ -45,7 +45,7 @@ sought-some d i n t s w set is wanted sought place =
     ∙ ap (λ o. place_in d.states w.goal o) sought
     ∙ place
 
-module _ (g : Parts) (c : Compression) (d : Patterned) (edges : List Edge) (valid : IsValid g) (comp : IsCompression g c) (made : ArePatterns c g.goal g.depth d) (shallow : g.depth ≤ 1) (all : AreAllEdges g c d edges) where
+module _ (g : Parts) (c : Compression) (d : Patterned) (edges : List Edge) (valid : IsValid g) (comp : IsCompression g c) {goal : ℕ} (made : ArePatterns c goal g.depth d) (shallow : g.depth ≤ 1) (all : AreAllEdges g c d edges) where
   list-at : (i : ℕ) (s : State) → slice_get d.states i ≡ Some s → slice_get d.lists i ≡ Some (get_or d.lists i [])
   list-at i s is =
       let low = slice_get_within d.states i s is in
@@ -75,7 +75,7 @@ module _ (g : Parts) (c : Compression) (d : Patterned) (edges : List Edge) (vali
       let k = get_or c.kind_numbers n 0 in
       let number : slice_get c.kind_numbers n ≡ Some k = slice_get-get_or c.kind_numbers n 0 (omega (arith, low, long)) in
       let r = comp.of_sources.kind_of_each n k source at number in
-      let listed : has k (get_or d.lists i []) ≡ true = (agrees g c g.goal g.depth d shallow valid comp made i s (get_or d.lists i []) is (list-at i s is)).listed k n source at number gives wants in
+      let listed : has k (get_or d.lists i []) ≡ true = (agrees g c goal g.depth d shallow valid comp made i s (get_or d.lists i []) is (list-at i s is)).listed k n source at number gives wants in
       let in_range = slice_get_within c.kinds k r.0 r.1 in
       let selected : get_or c.selected k [] ≡ places_of k c.kind_numbers = get_or_from_slice_get c.selected k (places_of k c.kind_numbers) [] (comp.list_of_each k in_range) in
       let zero_add : 0 + n ≡ n = omega arith in

@@ -41,7 +41,7 @@ least-from g limit n p below met = go (nat_le n limit) refl
         above e f (inr less) = (let low = below e f less in absurd (false≢true (sym is ∙ le-leb n limit (omega (arith, low, less)))))
 
 -- the numbers as weights
-pub are-least : (g : Parts) (c : Compression) (d : Patterned) (edges : List Edge) (numbers : List ℕ) (limit count : ℕ) → IsValid g → IsCompression g c → ArePatterns c g.goal g.depth d → g.depth ≤ 1 → limit ≡ g.limit → count ≡ length d.states → AreAllEdges g c d edges → length numbers ≡ count → IsSolution limit edges numbers → AreLeastWeights g d (map (within limit) numbers)
+pub are-least : (g : Parts) (c : Compression) (d : Patterned) (edges : List Edge) (numbers : List ℕ) (limit count : ℕ) {goal : ℕ} → IsValid g → IsCompression g c → ArePatterns c goal g.depth d → g.depth ≤ 1 → limit ≡ g.limit → count ≡ length d.states → AreAllEdges g c d edges → length numbers ≡ count → IsSolution limit edges numbers → AreLeastWeights g d (map (within limit) numbers)
 are-least g c d edges numbers limit count valid comp made flat same many all long solved = record {
   as_many = length-map numbers (within limit) ∙ long ∙ many;
   each = λ i s is ctx types rows. (

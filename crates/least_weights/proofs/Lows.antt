@@ -126,7 +126,7 @@ args-least g ctx (lam e xs) (Fun ps r ∷ args) h =
 suc_eq : (m n : ℕ) → suc m ≡ suc n → m ≡ n
 suc_eq m n h = omega (arith, h)
 
-module _ (g : Parts) (c : Compression) (d : Patterned) (edges : List Edge) (valid : IsValid g) (comp : IsCompression g c) (made : ArePatterns c g.goal g.depth d) (flat_depth : g.depth ≤ 1) (all : AreAllEdges g c d edges) (numbers : List ℕ) (solved : IsSolution g.limit edges numbers) where
+module _ (g : Parts) (c : Compression) (d : Patterned) (edges : List Edge) (valid : IsValid g) (comp : IsCompression g c) {goal : ℕ} (made : ArePatterns c goal g.depth d) (flat_depth : g.depth ≤ 1) (all : AreAllEdges g c d edges) (numbers : List ℕ) (solved : IsSolution g.limit edges numbers) where
   -- what an edge in the list gives
   edge-low : (i weight : ℕ) (args : List Arg) (e : HasEdge c d i weight args edges) (sum : ℕ) → total (number_at g.limit numbers) e.edge.tails ≤ sum → weight + sum ≤ g.limit → number_at g.limit numbers i ≤ weight + sum
   edge-low i weight args e sum tails within =

@@ -75,7 +75,7 @@ of-head g ctx left b n w decl is result r =
       light = omega (arith, nothing, weighs, light);
     }
 
-module _ (g : Parts) (c : Compression) (d : Patterned) (edges : List Edge) (valid : IsValid g) (comp : IsCompression g c) (made : ArePatterns c g.goal g.depth d) (flat_depth : g.depth ≤ 1) (all : AreAllEdges g c d edges) (numbers : List ℕ) (solved : IsSolution g.limit edges numbers) where
+module _ (g : Parts) (c : Compression) (d : Patterned) (edges : List Edge) (valid : IsValid g) (comp : IsCompression g c) {goal : ℕ} (made : ArePatterns c goal g.depth d) (flat_depth : g.depth ≤ 1) (all : AreAllEdges g c d edges) (numbers : List ℕ) (solved : IsSolution g.limit edges numbers) where
   -- numbers below n are reached
   abbrev AreReached : ℕ → Type 0
   AreReached n = (i : ℕ) (ctx : List (List ℕ)) (left b : ℕ) → IsAt d g.depth i ctx left b → number_at g.limit numbers i ≤ g.limit → number_at g.limit numbers i < n → Reached g ctx left b (number_at g.limit numbers i)

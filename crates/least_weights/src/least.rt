@@ -1,6 +1,6 @@
 // The least weights of the states.
 
-ghost use Rattle.std.specs.Prelude.{◌≡◌, ◌<◌, length, slice_index_or, None, IfOk};
+ghost use Rattle.std.specs.Prelude.{◌≡◌, ◌<◌, ℕ, length, slice_index_or, None, IfOk};
 ghost use Rattle.succinct.specs.Compression.{IsCompression};
 ghost use Rattle.patterns.specs.Patterned.{ArePatterns};
 ghost use Rattle.least_weights.specs.LeastWeight.{AreLeastWeights};
@@ -31,8 +31,8 @@ impl Model for Least {
 }
 
 impl Least {
-    /// The least weights for the patterns of an environment at its goal and depth. The cheapest states are
-    /// settled first, each once, and nothing above the limit is kept. Want of memory is also answered where
+    /// The least weights for the patterns of an environment at its depth and at any goal. The cheapest states
+    /// are settled first, each once, and nothing above the limit is kept. Want of memory is also answered where
     /// there would be 2^32 edges.
     pub fn derive(
         alloc: Global,
@@ -42,7 +42,7 @@ impl Least {
         limit: u32,
     ) -> Result<Least, AllocError>
         requires compressed { IsCompression env.now compressed.now }
-        requires patterns { ArePatterns compressed.now env.now.goal env.now.depth patterns.now }
+        requires patterns { (goal : ℕ) × ArePatterns compressed.now goal env.now.depth patterns.now }
         requires limit { limit ≡ env.now.limit }
         ensures least { IfOk result (λ l. AreLeastWeights env.now patterns.now l) }
     {

@@ -1,7 +1,7 @@
 -- The equations of the prefix code.
-use Rattle.std.proofs.Common.{◌≡◌, ℕ, ◌+◌, ◌*◌, ◌<◌, List, [], ◌∷◌, ◌++◌, length, get_or, drop, refl, sym, ap, ◌∙◌, arith, append-nil, append_assoc}
+use Rattle.std.proofs.Common.{◌≡◌, ℕ, ◌+◌, ◌*◌, ◌<◌, List, [], ◌∷◌, ◌++◌, length, get_or, drop, sym, ap, ◌∙◌, arith, append-nil}
 use Rattle.std.proofs.lemmas.List.{drop_more, drop_all}
-use Rattle.terms.specs.Expr.{Expr, var, head, Args, no_args, plain, lam}
+use Rattle.terms.specs.Expr.{Args, no_args}
 use Rattle.terms.specs.View.{expr, arg, args_view}
 use Rattle.terms.specs.Code.{prefix_code, args_code}
 use Rattle.terms.proofs.Views.{expr-Var, expr-Head, arg-Plain, arg-Lam}

@@ -1,24 +1,23 @@
 -- The steps of a listing keep what it stands for.
-use Rattle.std.proofs.Common.{◌≡◌, ◌≢◌, ◌⊎◌, inl, inr, ℕ, zero, suc, ◌+◌, ◌<◌, ◌≤◌, Bool, true, false, ◌&&◌, ◌==◌, nat_le, nat_lt, List, [], ◌∷◌, ◌++◌, length, take, drop, get_or, slice_get, Option, Some, None, ◌-◌, map, All, IsSorted, IsPermutation, refl, sym, ap, subst, ◌∙◌, arith, append-nil, append_assoc}
-use Rattle.std.proofs.lemmas.Bool.{cases_lt, lt-ltb, and_parts, and_from, eq-eqb, true≢false, false≢true}
-use Rattle.std.proofs.lemmas.List.{map-append, length-map, length-append, take-append-drop, take-append-le, take_all, get_or_push}
+use Rattle.std.proofs.Common.{◌≡◌, ◌⊎◌, inl, inr, ℕ, ◌+◌, ◌<◌, ◌≤◌, Bool, true, false, ◌==◌, List, [], ◌∷◌, ◌++◌, length, get_or, slice_get, Some, ◌-◌, map, IsSorted, IsPermutation, refl, sym, ap, subst, ◌∙◌, arith, append-nil}
+use Rattle.std.proofs.lemmas.Bool.{cases_lt, and_parts, and_from, eq-eqb, true≢false, false≢true}
+use Rattle.std.proofs.lemmas.List.{map-append, length-map, length-append, get_or_push}
 use Rattle.std.proofs.lemmas.Option.{slice_get_within, get_or_from_slice_get}
-use Rattle.std.proofs.lemmas.List.Elements.{All-nil, All-cons, All-append, All-map, All-push}
+use Rattle.std.proofs.lemmas.List.Elements.{All-nil, All-append, All-map, All-push}
 use Rattle.std.proofs.lemmas.List.Sorted.{All-permutation, IsPermutation-map, length_permutation}
 use Rattle.terms.specs.Expr.{Expr}
 use Rattle.terms.specs.View.{expr}
 use Rattle.terms.specs.Place.{IsInhabitant, is_inhabitant, total_of}
 use Rattle.terms.specs.Count.{expr_eq, once_if, count, Stands}
-use Rattle.terms.specs.Order.{ComesBefore}
-use Rattle.terms.specs.Listing.{IsRising, IsFront, IsWhole, level_of, Skipped, IsNextLevel, IsNextWeight, Progress}
+use Rattle.terms.specs.Listing.{IsRising, IsWhole, level_of, Skipped, IsNextLevel, Progress}
 use Rattle.terms.specs.declared.parts.Parts.{Parts}
 use Rattle.terms.specs.declared.term.Term.{Term}
 use Rattle.terms.specs.declared.levels.Level.{Level}
 use Rattle.listing.specs.declared.item.Item.{Item}
 use Rattle.listing.specs.declared.item.Keyed.{Keyed}
-use Rattle.listing.specs.Found.{IsKept, IsBetween, IsOfWholeLevels, IsItem, IsKeyed, IsWithin, IsNoFurther, IsLonger, Listed, IsListed, held, terms_of, term_of, item_of, keyed_term, keyed_cmp}
-use Rattle.listing.proofs.Standing.{stands-head, stands-tail, from_all, count-append, count-permutation}
-use Rattle.listing.proofs.Fronts.{lighter, front_shorter, rising-append}
+use Rattle.listing.specs.Found.{IsKept, IsBetween, IsItem, IsKeyed, IsWithin, IsListed, held, terms_of, term_of, item_of, keyed_term, keyed_cmp}
+use Rattle.terms.proofs.Standing.{stands-head, count-append, count-permutation}
+use Rattle.terms.proofs.Fronts.{lighter, rising-append}
 use Rattle.listing.proofs.Ranges.{stands_between, between_stands, between-append, between-none, skipped_none, skipped_join, next_held, front_between, whole_between, grown_bound}
 use Rattle.listing.proofs.Orders.{stands_at, rising_keyed}
 
@@ -52,21 +51,6 @@ kept_level p found weight below level k next =
       small = k.small;
     }
 
--- the end is noted
-pub kept_end : (p : Progress) (found : List Item) (weight below : ℕ) → IsKept p found [] [] weight below false → Skipped p.parts p.from (p.parts.limit + 1) → IsKept p found [] [] weight below true
-kept_end p found weight below k skip = record {
-  order = k.order;
-  found_between = k.found_between;
-  held_between = k.held_between;
-  held_weight = k.held_weight;
-  rising = k.rising;
-  items = k.items;
-  coded = k.coded;
-  ended = λ e. skipped_join p.parts below p.from (p.parts.limit + 1) (skipped_none p.parts below p.from k.held_between) skip;
-  next = k.next;
-  small = k.small;
-}
-
 -- a term that has its text now counts as before
 held_moved : (e : Expr) (ws : List Term) (t : Term) (ks : List Keyed) (k : Keyed) → keyed_term k ≡ expr t → count (expr_eq e) (held ws (ks ++ k ∷ [])) ≡ count (expr_eq e) (held (ws ++ t ∷ []) ks)
 held_moved e ws t ks k same =
@@ -91,14 +75,6 @@ kept_moved p found ws t ks k weight below end same right h = record {
   next = λ l. h.next (omega (arith, length-append ws (t ∷ [])));
   small = h.small;
 }
-
--- a waiting term is an inhabitant
-pub waits_inside : (p : Progress) (found : List Item) (ws : List Term) (t : Term) (ks : List Keyed) (weight below : ℕ) (end : Bool) → IsKept p found (ws ++ t ∷ []) ks weight below end → IsInhabitant p.parts (expr t)
-waits_inside p found ws t ks weight below end h =
-    let e = expr t in
-    let there : count (expr_eq e) (held (ws ++ t ∷ []) ks) ≡ (count (expr_eq e) (map expr ws) + count (expr_eq e) (e ∷ [])) + count (expr_eq e) (map keyed_term ks)
-    = count-append (expr_eq e) (map expr (ws ++ t ∷ [])) (map keyed_term ks) ∙ ap (λ n. n + count (expr_eq e) (map keyed_term ks)) (ap (count (expr_eq e)) (map-append expr ws (t ∷ [])) ∙ count-append (expr_eq e) (map expr ws) (e ∷ [])) in
-    (stands_between p.parts below p.from (held (ws ++ t ∷ []) ks) h.held_between e (omega (arith, there, stands-head e []))).inhabitant
 
 -- the held level in another order
 pub kept_sorted : (p : Progress) (found : List Item) (ks ls : List Keyed) (weight below : ℕ) (end : Bool) → IsPermutation ks ls → IsKept p found [] ks weight below end → IsKept p found [] ls weight below end
@@ -187,40 +163,12 @@ within_settled p found ks weight below end sorted some h fs levels far =
       | inl longer ↦ inl (omega (arith, longer, length-map found term_of))
       | inr whole ↦ inr whole
     ] in
-    omega (
+    inr (omega (
       arith,
       length-map new term_of,
       grown_bound p.parts below weight (terms_of found) (terms_of new) fs h.rising h.found_between (held_skip p found ks weight below end some h)
           (settled_rising p found ks weight below end sorted h) (settled_between p found ks weight below end some h) levels far_terms,
-    )
-
--- nothing grew
-pub within_same : (p : Progress) (found : List Item) (ws : List Term) (ks : List Keyed) (weight below : ℕ) (end : Bool) → IsKept p found ws ks weight below end → IsWithin p.parts found found
-within_same p found ws ks weight below end h fs levels far = elim far [
-  | inl longer ↦ omega (arith, longer)
-  | inr whole ↦ omega (
-    arith,
-    length-map found term_of,
-    front_shorter p.parts (terms_of found) fs (front_between p.parts below (terms_of found) h.rising h.found_between).front whole.front
-        (λ e s. whole.all e (stands_between p.parts 0 below (terms_of found) h.found_between e s).inhabitant),
-  )
-]
-
--- fronts that go on
-pub longer_same : (xs : List Item) → IsLonger xs xs
-longer_same xs = take_all (length xs) xs (omega arith)
-
-pub longer_append : (xs ys : List Item) → IsLonger xs (xs ++ ys)
-longer_append xs ys = take-append-le (length xs) xs ys (omega arith) ∙ longer_same xs
-
-split_longer : (xs ys : List Item) → IsLonger xs ys → ys ≡ xs ++ drop (length xs) ys
-split_longer xs ys h = sym (take-append-drop (length xs) ys) ∙ ap (λ zs. zs ++ drop (length xs) ys) h
-
-pub longer_trans : (xs ys zs : List Item) → IsLonger xs ys → IsLonger ys zs → IsLonger xs zs
-longer_trans xs ys zs a b =
-    let whole : zs ≡ xs ++ (drop (length xs) ys ++ drop (length ys) zs)
-    = split_longer ys zs b ∙ ap (λ us. us ++ drop (length ys) zs) (split_longer xs ys a) ∙ append_assoc xs (drop (length xs) ys) (drop (length ys) zs) in
-    subst (IsLonger xs) (sym whole) (longer_append xs (drop (length xs) ys ++ drop (length ys) zs))
+    ))
 
 -- where no level is held no weight from there on to where levels are left has a term
 none_held : (p : Progress) (found : List Item) (ws : List Term) (ks : List Keyed) (weight below : ℕ) (end : Bool) → ws ≡ [] → ks ≡ [] → IsKept p found ws ks weight below end → Skipped p.parts below p.from
@@ -243,17 +191,6 @@ begun_level p q found ws ks weight below reached end level ew ek eq er next h =
     let here : Skipped p.parts below level.weight = skipped_join p.parts below p.from level.weight (none_held p found ws ks weight below end ew ek h) next.before in
     subst (λ (x : Progress). Skipped x.parts below reached) (sym eq) (subst (λ n. Skipped p.parts below n) (sym er) here)
 
--- and so does one that was being made
-pub begun_again : (p q : Progress) (found : List Item) (ws : List Term) (ks : List Keyed) (weight below old new : ℕ) (end : Bool) → ws ≡ [] → ks ≡ [] → q ≡ p → IsKept p found ws ks weight below end → Skipped p.parts below old
-    → (new ≡ old) ⊎ IsNextWeight p.parts p.from new → Skipped q.parts below new
-begun_again p q found ws ks weight below old new end ew ek eq h skip made = subst (λ (x : Progress). Skipped x.parts below new) (sym eq) here
-  where
-    here : Skipped p.parts below new
-    here = elim made [
-      | inl same ↦ subst (λ n. Skipped p.parts below n) (sym same) skip
-      | inr next ↦ skipped_join p.parts below p.from new (none_held p found ws ks weight below end ew ek h) next.before
-    ]
-
 -- a level that is found leaves less to be passed over
 pub begun_settled : (p : Progress) (found : List Item) (ws : List Term) (ks : List Keyed) (weight below reached : ℕ) (end : Bool) → ws ≡ [] → 0 < length ks → IsKept p found ws ks weight below end → Skipped p.parts below reached → Skipped p.parts (weight + 1) reached
 begun_settled p found ws ks weight below reached end none some h skip w a b =
@@ -269,6 +206,7 @@ listed p found ws ks weight below reached pops end h skip = record {
   items = h.items;
   whole = λ e. whole_between p.parts below (terms_of found) h.rising h.found_between (h.ended e);
   no_further = λ e inside lighter. lighter_found p found ws ks weight below reached end h skip e inside lighter;
+  small = h.small;
 }
 
 -- the same, where what is held is known to be nothing
@@ -302,9 +240,6 @@ kept_sorted_at p found new ws ks ls weight below end none same perm h =
     let sorted = kept_sorted p found ks ls weight below end perm start in
     subst (λ is. IsKept p is ws ls weight below end) (sym same) (subst (λ us. IsKept p found us ls weight below end) (sym none) sorted)
 
-pub within_same_at : (p : Progress) (found new : List Item) (ws : List Term) (ks : List Keyed) (weight below : ℕ) (end : Bool) → new ≡ found → IsKept p found ws ks weight below end → IsWithin p.parts found new
-within_same_at p found new ws ks weight below end same h = subst (IsWithin p.parts found) (sym same) (within_same p found ws ks weight below end h)
-
 pub kept_settled_at : (p : Progress) (found new : List Item) (ws : List Term) (ks ls es : List Keyed) (weight below : ℕ) (end : Bool) → ws ≡ [] → IsPermutation ks ls → IsSorted keyed_cmp ls → 0 < length ks → length found + length ls < 4611686018427387904
     → new ≡ found ++ map item_of ls → es ≡ [] → IsKept p found ws ks weight below end → IsKept p new ws es weight (weight + 1) end
 kept_settled_at p found new ws ks ls es weight below end none perm sorted some room whole empty h =
@@ -322,35 +257,3 @@ within_settled_at p found new ws ks ls weight below end none perm sorted some wh
 
 pub grown_at : (found new : List Item) (ks ls : List Keyed) → IsPermutation ks ls → 0 < length ks → new ≡ found ++ map item_of ls → length found < length new
 grown_at found new ks ls perm some whole = omega (arith, some, length_permutation ks ls perm, ap length whole, length-append found (map item_of ls), length-map ls item_of)
-
-pub longer_at : (found new : List Item) (ls : List Keyed) → new ≡ found ++ map item_of ls → IsLonger found new
-longer_at found new ls whole = subst (IsLonger found) (sym whole) (longer_append found (map item_of ls))
-
-pub within_back : (p : Progress) (old new : List Item) (ws : List Term) (ks : List Keyed) (weight below : ℕ) (end : Bool) → new ≡ old → IsKept p new ws ks weight below end → IsWithin p.parts old new
-within_back p old new ws ks weight below end same h = subst (λ is. IsWithin p.parts is new) same (within_same p new ws ks weight below end h)
-
--- a further step of a loop grows no further than it has to
-pub no_further : (g : Parts) (wanted : ℕ) (old now new : List Item) → length now < wanted → IsWithin g now new → IsNoFurther g wanted old new
-no_further g wanted old now new short within fs levels far = inr (within fs levels (elim far [ inl enough ↦ inl (omega (arith, short, enough)) | inr whole ↦ inr whole ]))
-
-pub no_further_same : (g : Parts) (wanted : ℕ) (xs : List Item) → IsNoFurther g wanted xs xs
-no_further_same g wanted xs fs levels far = inl (omega arith)
-
--- what is longer is no shorter
-pub longer_length : (xs ys : List Item) → IsLonger xs ys → length xs ≤ length ys
-longer_length xs ys h = omega (arith, ap length (split_longer xs ys h), length-append xs (drop (length xs) ys))
-
--- nothing found of a search that gave nothing yet
-pub kept_fresh : (p : Progress) (g : Parts) → p ≡ record { parts = g; from = 0 } → IsKept p [] [] [] 0 0 false
-kept_fresh p g e = subst (λ q. IsKept q [] [] [] 0 0 false) (sym e) (record {
-  order = omega arith;
-  found_between = between-none g 0;
-  held_between = between-none g 0;
-  held_weight = λ f s. absurd (omega (arith, s));
-  rising = tt;
-  items = All-nil (IsItem g);
-  coded = All-nil (IsKeyed g 0);
-  ended = λ h. absurd (false≢true h);
-  next = λ l. absurd (omega (arith, l));
-  small = omega arith;
-})

@@ -1,26 +1,23 @@
 -- A level in order, with each term once, rises.
-use Rattle.std.proofs.Common.{◌≡◌, ◌≢◌, ℕ, zero, suc, ◌+◌, ◌<◌, ◌≤◌, Bool, true, false, ◌&&◌, List, [], ◌∷◌, ◌++◌, length, get_or, map, All, Ordering, Less, Equal, Greater, IsSorted, None, refl, sym, ap, subst, ◌∙◌, add-one, append-nil, arith}
+use Rattle.std.proofs.Common.{◌≡◌, ◌≢◌, ℕ, zero, suc, ◌<◌, ◌≤◌, Bool, false, List, [], ◌∷◌, length, get_or, map, All, Ordering, Less, Equal, Greater, IsSorted, None, refl, sym, ap, ◌∙◌, add-one, append-nil, arith}
 use Rattle.std.specs.Cmp.{IsTotalOrder}
-use Rattle.std.specs.Cmp.Lexicographic.{slice_cmp}
 use Rattle.std.specs.Ordering.{nat_cmp, is_lt, ordering_then, ordering_reverse}
-use Rattle.std.proofs.lemmas.Bool.{true≢false, and_parts, lt-ltb, le-ltb, eq-eqb}
+use Rattle.std.proofs.lemmas.Bool.{true≢false, and_parts}
 use Rattle.std.proofs.lemmas.Cmp.{nat_list_cmp_total, on_total, then_total, tied_itself, nat_cmp_total}
 use Rattle.std.proofs.lemmas.List.Elements.{All-nil, All-cons, All-weaker}
 use Rattle.std.proofs.lemmas.Map.Lookups.{exact_bytes}
 use Rattle.terms.specs.Expr.{Expr}
 use Rattle.terms.specs.Typing.{type_in, some_below}
-use Rattle.terms.specs.Place.{IsInhabitant, is_inhabitant, total_of, fits_place, goal_place, shallow}
-use Rattle.terms.specs.Text.{text_of}
-use Rattle.terms.specs.Code.{prefix_code}
+use Rattle.terms.specs.Place.{IsInhabitant, total_of, fits_place, goal_place, shallow}
 use Rattle.terms.specs.Count.{expr_eq, count, Stands}
-use Rattle.terms.specs.Order.{ComesBefore, list_cmp, text_cmp}
+use Rattle.terms.specs.Order.{ComesBefore, text_cmp}
 use Rattle.terms.specs.Listing.{IsRising}
 use Rattle.terms.specs.declared.parts.Parts.{Parts}
 use Rattle.listing.specs.declared.item.Keyed.{Keyed}
 use Rattle.listing.specs.Found.{keyed_cmp, keyed_term, IsKeyed}
-use Rattle.listing.proofs.Standing.{expr_eq-refl, count-map, twice, stands-head, stands-tail}
-use Rattle.listing.proofs.Fronts.{list_total}
-use Rattle.listing.proofs.Codes.{one_term, below_some}
+use Rattle.terms.proofs.Standing.{expr_eq-refl, count-map, twice, stands-head, stands-tail}
+use Rattle.terms.proofs.Fronts.{list_total}
+use Rattle.terms.proofs.Codes.{one_term, below_some}
 
 pub keyed_total : IsTotalOrder keyed_cmp
 keyed_total = then_total (on_total (λ k. k.item.text) nat_list_cmp_total) (on_total (λ k. k.code) nat_list_cmp_total)

@@ -1,18 +1,18 @@
 -- A page over what was found is a page of the list.
-use Rattle.std.proofs.Common.{◌≡◌, ◌≢◌, ◌⊎◌, inl, inr, ◌↔◌, ℕ, zero, suc, ◌+◌, ◌-◌, ◌<◌, ◌≤◌, Bool, true, false, ◌&&◌, nat_le, List, [], ◌∷◌, ◌++◌, length, take, drop, map, min, IsTrue, refl, sym, ap, subst, ◌∙◌, arith}
+use Rattle.std.proofs.Common.{◌≡◌, ◌⊎◌, inl, inr, ℕ, zero, suc, ◌+◌, ◌-◌, ◌≤◌, Bool, true, ◌&&◌, nat_le, List, [], ◌∷◌, ◌++◌, length, take, drop, min, refl, sym, ap, ◌∙◌, arith}
 use Rattle.std.proofs.lemmas.Bool.{cases_lt, le-leb, and_parts, and_from}
-use Rattle.std.proofs.lemmas.List.{length-map, take-append-drop, take-append-le, take_all, length-take, length-drop, drop_all}
+use Rattle.std.proofs.lemmas.List.{length-map, take-append-drop, take-append-le, take_all, length-drop, drop_all}
 use Rattle.terms.specs.Expr.{Expr}
 use Rattle.terms.specs.Count.{Stands}
 use Rattle.terms.specs.Place.{IsInhabitant}
-use Rattle.listing.proofs.Standing.{from_all}
-use Rattle.terms.specs.Listing.{IsFront, IsWhole}
+use Rattle.terms.proofs.Standing.{from_all}
+use Rattle.terms.specs.Listing.{IsWhole}
 use Rattle.terms.specs.declared.parts.Parts.{Parts}
 use Rattle.listing.specs.declared.item.Item.{Item}
 use Rattle.listing.specs.declared.page.Page.{Page}
 use Rattle.listing.specs.Found.{Listed, IsListed, IsNoFurther, terms_of, term_of}
 use Rattle.listing.specs.Pages.{IsPage, items_of}
-use Rattle.listing.proofs.Fronts.{whole_prefix, front_shorter}
+use Rattle.terms.proofs.Fronts.{whole_prefix, front_shorter}
 
 le_true : (m n : ℕ) → nat_le m n ≡ true → m ≤ n
 le_true m n h = grind arith

@@ -1,16 +1,14 @@
 -- Terms counted by their weights: ranges of weights, joined and passed over.
-use Rattle.std.proofs.Common.{◌≡◌, ◌≢◌, ◌⊎◌, inl, inr, ℕ, zero, suc, ◌+◌, ◌<◌, ◌≤◌, Bool, true, false, ◌&&◌, ◌==◌, nat_le, nat_lt, List, [], ◌∷◌, ◌++◌, length, map, All, refl, sym, ap, subst, ◌∙◌, arith}
-use Rattle.std.proofs.lemmas.Bool.{cases_lt, cases_order, eq-eqb, ne_eqb, le-leb, lt-leb, lt-ltb, le-ltb, and_parts, and_from, true≢false, false≢true}
+use Rattle.std.proofs.Common.{◌≡◌, ◌⊎◌, inl, inr, ℕ, suc, ◌+◌, ◌<◌, ◌≤◌, Bool, true, false, ◌&&◌, ◌==◌, nat_le, nat_lt, List, [], ◌∷◌, ◌++◌, length, refl, sym, ap, subst, ◌∙◌, arith}
+use Rattle.std.proofs.lemmas.Bool.{cases_lt, cases_order, eq-eqb, ne_eqb, le-leb, lt-leb, lt-ltb, le-ltb, and_parts, and_from, true≢false}
 use Rattle.terms.specs.Expr.{Expr}
 use Rattle.terms.specs.Place.{IsInhabitant, is_inhabitant, total_of, fits_place, goal_place}
 use Rattle.terms.specs.Count.{expr_eq, once_if, count, Stands}
-use Rattle.terms.specs.Order.{ComesBefore}
-use Rattle.terms.specs.Listing.{IsRising, IsFront, IsWhole, level_of, Skipped, IsNextLevel}
+use Rattle.terms.specs.Listing.{IsRising, IsWhole, level_of, Skipped}
 use Rattle.terms.specs.declared.parts.Parts.{Parts}
-use Rattle.terms.specs.declared.levels.Level.{Level}
 use Rattle.listing.specs.Found.{IsBetween, IsOfWholeLevels}
-use Rattle.listing.proofs.Standing.{stands-cons, stands-head, stands-tail, all_stands, from_all, count-append}
-use Rattle.listing.proofs.Fronts.{lighter, not_heavier, front_shorter}
+use Rattle.terms.proofs.Standing.{stands-cons, stands-head, stands-tail, all_stands, from_all, count-append}
+use Rattle.terms.proofs.Fronts.{lighter, not_heavier, front_shorter}
 
 once_true : (b : Bool) → 1 ≤ once_if b → b ≡ true
 once_true true h = refl

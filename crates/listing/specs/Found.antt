@@ -1,5 +1,5 @@
 -- What a listing has found of its environment's list.
-use Rattle.std.specs.Prelude.{◌≡◌, ◌≢◌, ◌⊎◌, ℕ, ◌+◌, ◌<◌, ◌≤◌, Bool, true, false, ◌&&◌, nat_le, nat_lt, List, [], ◌∷◌, ◌++◌, length, map, take, drop, min, All}
+use Rattle.std.specs.Prelude.{◌≡◌, ◌⊎◌, ℕ, ◌+◌, ◌<◌, ◌≤◌, ◌^◌, Bool, true, ◌&&◌, nat_le, nat_lt, List, ◌++◌, length, map, take, All}
 use Rattle.std.specs.declared.cmp.Ordering.{Ordering}
 use Rattle.std.specs.Ordering.{nat_cmp, ordering_then}
 use Rattle.std.specs.Cmp.Lexicographic.{slice_cmp}
@@ -42,12 +42,14 @@ pub record Listed : Type 0 where
   pub pops : ℕ
 
 -- what is found is a front made of whole levels, its items say what their terms are, it is the whole list where
--- the search has met its end, and the search has gone no further than to the level that follows it
+-- the search has met its end, the search has gone no further than to the level that follows it, and no memory
+-- holds 2^62 items
 pub record IsListed (l : Listed) : Type 0 where
   pub levels : IsOfWholeLevels l.parts (terms_of l.found)
   pub items : All (IsItem l.parts) l.found
   pub whole : l.at_end ≡ true → IsWhole l.parts (terms_of l.found)
   pub no_further : (e : Expr) → IsInhabitant l.parts e → total_of l.parts e < l.reached → Stands e (terms_of l.found)
+  pub small : length l.found < 2 ^ 62
 
 -- the order within a level: by text, then by prefix code
 abbrev pub keyed_cmp : Keyed → Keyed → Ordering
@@ -89,9 +91,15 @@ pub record IsKept (p : Progress) (found : List Item) (waiting : List Term) (keye
   pub next : 0 < length waiting + length keyed → p.from ≡ weight + 1
   pub small : length found < 4611686018427387904
 
+-- what is listed, and how many terms of the level that is held have no text yet, and have one
+pub record Growth : Type 0 where
+  pub listed : Listed
+  pub waiting : ℕ
+  pub keyed : ℕ
+
 -- found grew by whole levels, and by no more than any longer front of whole levels, or the whole list, has
 abbrev pub IsWithin : Parts → List Item → List Item → Type 0
-IsWithin g old new = (fs : List Expr) → IsOfWholeLevels g fs → (length old < length fs) ⊎ (IsWhole g fs) → length new ≤ length fs
+IsWithin g old new = (fs : List Expr) → IsOfWholeLevels g fs → (length old < length fs) ⊎ (IsWhole g fs) → (length new ≤ length old) ⊎ (length new ≤ length fs)
 
 -- found grew no further than it had to, to hold so many items or to be whole
 abbrev pub IsNoFurther : Parts → ℕ → List Item → List Item → Type 0

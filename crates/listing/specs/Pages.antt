@@ -1,5 +1,5 @@
 -- Pages of the list.
-use Rattle.std.specs.Prelude.{◌≡◌, ◌≢◌, ◌↔◌, ◌⊎◌, ℕ, ◌+◌, ◌-◌, ◌<◌, ◌≤◌, Bool, true, List, length, take, drop, min, IsTrue}
+use Rattle.std.specs.Prelude.{◌≡◌, ◌↔◌, ◌⊎◌, ℕ, ◌+◌, ◌-◌, ◌≤◌, List, length, take, drop, min, IsTrue}
 use Rattle.terms.specs.Expr.{Expr}
 use Rattle.terms.specs.Listing.{IsWhole}
 use Rattle.listing.specs.declared.item.Item.{Item}

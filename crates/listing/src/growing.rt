@@ -1,11 +1,11 @@
-ghost use Rattle.std.specs.Prelude.{◌≡◌, ◌≢◌, ◌⊎◌, ◌<◌, ◌≤◌, ◌+◌, ◌^◌, ◌++◌, List, [], true, false, None, length, map, OnOk, OnErr, IfOk};
+ghost use Rattle.std.specs.Prelude.{◌≡◌, ◌≢◌, ◌⊎◌, ◌<◌, ◌≤◌, ◌+◌, [], true, false, None, length, OnOk, OnErr, IfOk};
 ghost use Rattle.std.specs.Bool.{MatchBool};
 ghost use Rattle.terms.specs.Typing.{type_in};
 ghost use Rattle.terms.specs.View.{expr};
 ghost use Rattle.terms.specs.Text.{text_of};
 ghost use Rattle.terms.specs.Code.{prefix_code};
-ghost use Rattle.terms.specs.Listing.{Skipped};
-ghost use Rattle.listing.specs.Found.{IsKept, IsWithin, IsNoFurther, IsLonger};
+ghost use Rattle.terms.specs.Listing.{AreFew};
+ghost use Rattle.listing.specs.Found.{IsListed, IsWithin, IsNoFurther, IsLonger};
 
 use crate::coding::code_of;
 use crate::item::{Item, Keyed};
@@ -14,25 +14,53 @@ use crate::sorting::put_in_order;
 use java_print::text;
 use lists::{Items, Text};
 use std::alloc::{AllocError, Global};
+use std::marker::Model;
 use std::mem;
 use terms::{Env, Level, Levels, Term};
 
 /// A search with what was found of it, and the level that was given after that and is held until there
-/// is memory for its texts and its order.
+/// is memory for its texts and its order. Contracts see what is listed, and how many terms of the held level
+/// have no text yet, and have one.
 #[derive(Drop)]
-pub struct Growing<E> {
-    pub levels: E,
-    pub found: Vec<Item>,
+pub struct Growing<E: Levels> {
+    levels: E,
+    found: Vec<Item>,
     /// The terms of the held level that have no text yet.
-    pub waiting: Items<Term>,
+    waiting: Items<Term>,
     /// The terms of the held level that have one.
-    pub keyed: Vec<Keyed>,
+    keyed: Vec<Keyed>,
     /// What the terms of the held level weigh.
-    pub weight: u32,
+    weight: u32,
     /// All terms lighter than this are found.
-    pub below: u64,
+    below: u64,
     /// Whether the search has no further level.
-    pub at_end: bool,
+    at_end: bool,
+}
+
+impl<E: Levels> Model for Growing<E> {
+    ghost use Rattle.std.specs.Prelude.{length};
+    ghost use Rattle.terms.specs.contracts.term.Term as term;
+    ghost use Rattle.std.specs.Coded.{codes};
+    ghost use Rattle.listing.specs.Found.{Growth, IsKept};
+    ghost use Rattle.terms.specs.Listing.{Skipped};
+
+    ghost Value = { Growth };
+
+    ghost coded = { Prim.hlevel (codes, term.the_row.coded) };
+
+    ghost view = { λ s. record {
+      listed = record {
+        parts = (E.progress s.levels).parts;
+        found = s.found.items;
+        at_end = s.at_end;
+        reached = E.reached s.levels;
+        pops = E.popped s.levels;
+      };
+      waiting = length s.waiting;
+      keyed = length s.keyed.items;
+    } };
+
+    ghost invariant = { λ s. IsKept (E.progress s.levels) s.found.items s.waiting s.keyed.items s.weight s.below s.at_end × Skipped (E.progress s.levels).parts s.below (E.reached s.levels) };
 }
 
 /// What is made for a term.
@@ -55,19 +83,60 @@ fn words_of(alloc: Global, env: &Env, term: &Term) -> Result<Words, AllocError>
 }
 
 impl<E: Levels> Growing<E> {
+    /// Nothing found yet.
+    pub fn new(alloc: Global, env: Env) -> Result<Growing<E>, AllocError>
+        ensures fresh { IfOk result (λ growing. growing.listed ≡ record { parts = env; found = []; at_end = false; reached = 0; pops = 0 }) }
+    {
+        Ok(Growing {
+            levels: E::over(alloc, env)?,
+            found: Vec::new(alloc),
+            waiting: Items::new(alloc),
+            keyed: Vec::new(alloc),
+            weight: 0,
+            below: 0,
+            at_end: false,
+        })
+    }
+
+    /// The items found.
+    pub fn found(&self) -> &[Item]
+        ensures found { result.now ≡ self.now.listed.found }
+        ensures listed { IsListed self.now.listed }
+    {
+        self.found.as_slice()
+    }
+
+    /// Whether the search has no further level.
+    pub fn at_end(&self) -> bool
+        ensures value { result ≡ self.now.listed.at_end }
+    {
+        self.at_end
+    }
+
+    /// The environment.
+    pub fn env(&self) -> &Env
+        ensures same { result.now ≡ self.now.listed.parts }
+    {
+        self.levels.env()
+    }
+
+    /// How many steps the search has taken.
+    pub fn pops(&self) -> u64
+        ensures count { result ≡ self.now.listed.pops }
+        ensures few { AreFew self.now.listed.parts self.now.listed.reached result }
+    {
+        self.levels.pops()
+    }
+
     /// Takes the next level to hold it, or notes the end.
     fn take_level(&mut self, alloc: Global) -> Result<(), AllocError>
-        requires kept { IsKept (E.progress self.old.levels) self.old.found.items self.old.waiting self.old.keyed.items self.old.weight self.old.below self.old.at_end }
-        requires begun { Skipped (E.progress self.old.levels).parts self.old.below (E.reached self.old.levels) }
-        requires free { (self.old.waiting ≡ []) × (self.old.keyed.items ≡ []) }
-        requires going_on { self.old.at_end ≡ false }
-        ensures kept { IsKept (E.progress self.new.levels) self.new.found.items self.new.waiting self.new.keyed.items self.new.weight self.new.below self.new.at_end }
-        ensures begun { Skipped (E.progress self.new.levels).parts self.new.below (E.reached self.new.levels) }
-        ensures found { self.new.found.items ≡ self.old.found.items }
-        ensures parts { (E.progress self.new.levels).parts ≡ (E.progress self.old.levels).parts }
-        ensures next { OnOk result ((self.new.at_end ≡ true) ⊎ ((self.new.at_end ≡ false) × (self.new.waiting ≢ []))) }
-        ensures same_end { OnErr result (self.new.at_end ≡ false) }
-        ensures pops_rise { E.popped self.old.levels ≤ E.popped self.new.levels }
+        requires free { self.old.waiting + self.old.keyed ≡ 0 }
+        requires going_on { self.old.listed.at_end ≡ false }
+        ensures found { self.new.listed.found ≡ self.old.listed.found }
+        ensures parts { self.new.listed.parts ≡ self.old.listed.parts }
+        ensures next { OnOk result ((self.new.listed.at_end ≡ true) ⊎ (0 < self.new.waiting + self.new.keyed)) }
+        ensures same_end { OnErr result (self.new.listed.at_end ≡ false) }
+        ensures pops_rise { self.old.listed.pops ≤ self.new.listed.pops }
     {
         match self.levels.next_level(alloc)? {
             Some(level) => {
@@ -85,16 +154,10 @@ impl<E: Levels> Growing<E> {
 
     /// Makes the text and the code of one term of the held level.
     fn make_text(&mut self, alloc: Global) -> Result<(), AllocError>
-        requires kept { IsKept (E.progress self.old.levels) self.old.found.items self.old.waiting self.old.keyed.items self.old.weight self.old.below self.old.at_end }
-        requires begun { Skipped (E.progress self.old.levels).parts self.old.below (E.reached self.old.levels) }
-        requires some { self.old.waiting ≢ [] }
-        ensures kept { IsKept (E.progress self.new.levels) self.new.found.items self.new.waiting self.new.keyed.items self.new.weight self.new.below self.new.at_end }
-        ensures begun { Skipped (E.progress self.new.levels).parts self.new.below (E.reached self.new.levels) }
-        ensures found { self.new.found.items ≡ self.old.found.items }
-        ensures levels { self.new.levels ≡ self.old.levels }
-        ensures end { self.new.at_end ≡ self.old.at_end }
-        ensures held { length self.new.waiting + length self.new.keyed.items ≡ length self.old.waiting + length self.old.keyed.items }
-        ensures fewer { OnOk result (length self.new.waiting < length self.old.waiting) }
+        requires some { 0 < self.old.waiting }
+        ensures listed { self.new.listed ≡ self.old.listed }
+        ensures held { self.new.waiting + self.new.keyed ≡ self.old.waiting + self.old.keyed }
+        ensures fewer { OnOk result (self.new.waiting < self.old.waiting) }
     {
         let Some(term) = self.waiting.as_slice().last() else {
             return Ok(());
@@ -116,15 +179,9 @@ impl<E: Levels> Growing<E> {
 
     /// Makes the texts of the held level.
     fn make_texts(&mut self, alloc: Global) -> Result<(), AllocError>
-        requires kept { IsKept (E.progress self.old.levels) self.old.found.items self.old.waiting self.old.keyed.items self.old.weight self.old.below self.old.at_end }
-        requires begun { Skipped (E.progress self.old.levels).parts self.old.below (E.reached self.old.levels) }
-        ensures kept { IsKept (E.progress self.new.levels) self.new.found.items self.new.waiting self.new.keyed.items self.new.weight self.new.below self.new.at_end }
-        ensures begun { Skipped (E.progress self.new.levels).parts self.new.below (E.reached self.new.levels) }
-        ensures found { self.new.found.items ≡ self.old.found.items }
-        ensures levels { self.new.levels ≡ self.old.levels }
-        ensures end { self.new.at_end ≡ self.old.at_end }
-        ensures held { length self.new.waiting + length self.new.keyed.items ≡ length self.old.waiting + length self.old.keyed.items }
-        ensures done { OnOk result (self.new.waiting ≡ []) }
+        ensures listed { self.new.listed ≡ self.old.listed }
+        ensures held { self.new.waiting + self.new.keyed ≡ self.old.waiting + self.old.keyed }
+        ensures done { OnOk result (self.new.waiting ≡ 0) }
     {
         while !self.waiting.is_empty() {
             self.make_text(alloc)?;
@@ -134,17 +191,14 @@ impl<E: Levels> Growing<E> {
 
     /// Puts the held level into order and moves it behind what was found.
     fn settle(&mut self, alloc: Global) -> Result<(), AllocError>
-        requires kept { IsKept (E.progress self.old.levels) self.old.found.items self.old.waiting self.old.keyed.items self.old.weight self.old.below self.old.at_end }
-        requires begun { Skipped (E.progress self.old.levels).parts self.old.below (E.reached self.old.levels) }
-        requires made { self.old.waiting ≡ [] }
-        requires some { 0 < length self.old.keyed.items }
-        ensures kept { IsKept (E.progress self.new.levels) self.new.found.items self.new.waiting self.new.keyed.items self.new.weight self.new.below self.new.at_end }
-        ensures begun { Skipped (E.progress self.new.levels).parts self.new.below (E.reached self.new.levels) }
-        ensures levels { self.new.levels ≡ self.old.levels }
-        ensures end { self.new.at_end ≡ self.old.at_end }
-        ensures longer { IsLonger self.old.found.items self.new.found.items }
-        ensures bound { IsWithin (E.progress self.new.levels).parts self.old.found.items self.new.found.items }
-        ensures grown { OnOk result (length self.old.found.items < length self.new.found.items) }
+        requires made { self.old.waiting ≡ 0 }
+        requires some { 0 < self.old.keyed }
+        ensures parts { self.new.listed.parts ≡ self.old.listed.parts }
+        ensures longer { IsLonger self.old.listed.found self.new.listed.found }
+        ensures bound { IsWithin self.new.listed.parts self.old.listed.found self.new.listed.found }
+        ensures same_end { self.new.listed.at_end ≡ self.old.listed.at_end }
+        ensures same_pops { self.new.listed.pops ≡ self.old.listed.pops }
+        ensures grown { OnOk result (length self.old.listed.found < length self.new.listed.found) }
     {
         put_in_order(&mut self.keyed)?;
         let more = self.keyed.as_slice().len();
@@ -160,16 +214,13 @@ impl<E: Levels> Growing<E> {
 
     /// Adds the held level to what was found.
     fn add_held(&mut self, alloc: Global) -> Result<(), AllocError>
-        requires kept { IsKept (E.progress self.old.levels) self.old.found.items self.old.waiting self.old.keyed.items self.old.weight self.old.below self.old.at_end }
-        requires begun { Skipped (E.progress self.old.levels).parts self.old.below (E.reached self.old.levels) }
-        requires some { 0 < length self.old.waiting + length self.old.keyed.items }
-        ensures kept { IsKept (E.progress self.new.levels) self.new.found.items self.new.waiting self.new.keyed.items self.new.weight self.new.below self.new.at_end }
-        ensures begun { Skipped (E.progress self.new.levels).parts self.new.below (E.reached self.new.levels) }
-        ensures levels { self.new.levels ≡ self.old.levels }
-        ensures end { self.new.at_end ≡ self.old.at_end }
-        ensures longer { IsLonger self.old.found.items self.new.found.items }
-        ensures bound { IsWithin (E.progress self.new.levels).parts self.old.found.items self.new.found.items }
-        ensures grown { OnOk result (length self.old.found.items < length self.new.found.items) }
+        requires some { 0 < self.old.waiting + self.old.keyed }
+        ensures parts { self.new.listed.parts ≡ self.old.listed.parts }
+        ensures longer { IsLonger self.old.listed.found self.new.listed.found }
+        ensures bound { IsWithin self.new.listed.parts self.old.listed.found self.new.listed.found }
+        ensures same_end { self.new.listed.at_end ≡ self.old.listed.at_end }
+        ensures same_pops { self.new.listed.pops ≡ self.old.listed.pops }
+        ensures grown { OnOk result (length self.old.listed.found < length self.new.listed.found) }
     {
         self.make_texts(alloc)?;
         self.settle(alloc)
@@ -177,55 +228,51 @@ impl<E: Levels> Growing<E> {
 
     /// Takes the next level and adds it, or notes the end.
     fn add_next(&mut self, alloc: Global) -> Result<(), AllocError>
-        requires kept { IsKept (E.progress self.old.levels) self.old.found.items self.old.waiting self.old.keyed.items self.old.weight self.old.below self.old.at_end }
-        requires begun { Skipped (E.progress self.old.levels).parts self.old.below (E.reached self.old.levels) }
-        requires free { (self.old.waiting ≡ []) × (self.old.keyed.items ≡ []) }
-        requires going_on { self.old.at_end ≡ false }
-        ensures kept { IsKept (E.progress self.new.levels) self.new.found.items self.new.waiting self.new.keyed.items self.new.weight self.new.below self.new.at_end }
-        ensures begun { Skipped (E.progress self.new.levels).parts self.new.below (E.reached self.new.levels) }
-        ensures parts { (E.progress self.new.levels).parts ≡ (E.progress self.old.levels).parts }
-        ensures longer { IsLonger self.old.found.items self.new.found.items }
-        ensures bound { IsWithin (E.progress self.new.levels).parts self.old.found.items self.new.found.items }
-        ensures grown { OnOk result ((self.new.at_end ≡ true) ⊎ (length self.old.found.items < length self.new.found.items)) }
-        ensures going_on { OnErr result (self.new.at_end ≡ false) }
-        ensures pops_rise { E.popped self.old.levels ≤ E.popped self.new.levels }
+        requires free { self.old.waiting + self.old.keyed ≡ 0 }
+        requires going_on { self.old.listed.at_end ≡ false }
+        ensures parts { self.new.listed.parts ≡ self.old.listed.parts }
+        ensures longer { IsLonger self.old.listed.found self.new.listed.found }
+        ensures bound { IsWithin self.new.listed.parts self.old.listed.found self.new.listed.found }
+        ensures grown { OnOk result ((self.new.listed.at_end ≡ true) ⊎ (length self.old.listed.found < length self.new.listed.found)) }
+        ensures going_on { OnErr result (self.new.listed.at_end ≡ false) }
+        ensures pops_rise { self.old.listed.pops ≤ self.new.listed.pops }
     {
         self.take_level(alloc)?;
-        if self.at_end {
+        if self.at_end() {
             return Ok(());
         }
-        self.add_held(alloc)?;
-        Ok(())
+        self.add_held(alloc)
+    }
+
+    /// Whether a level is held.
+    fn holds_some(&self) -> bool
+        ensures { MatchBool result (0 < self.now.waiting + self.now.keyed) (self.now.waiting + self.now.keyed ≡ 0) }
+    {
+        if !self.waiting.is_empty() {
+            return true;
+        }
+        !self.keyed.is_empty()
     }
 
     /// Lengthens what was found by one level, the held one first, or notes the end.
-    pub fn add_level(&mut self, alloc: Global) -> Result<(), AllocError>
-        requires kept { IsKept (E.progress self.old.levels) self.old.found.items self.old.waiting self.old.keyed.items self.old.weight self.old.below self.old.at_end }
-        requires begun { Skipped (E.progress self.old.levels).parts self.old.below (E.reached self.old.levels) }
-        requires going_on { self.old.at_end ≡ false }
-        ensures kept { IsKept (E.progress self.new.levels) self.new.found.items self.new.waiting self.new.keyed.items self.new.weight self.new.below self.new.at_end }
-        ensures begun { Skipped (E.progress self.new.levels).parts self.new.below (E.reached self.new.levels) }
-        ensures parts { (E.progress self.new.levels).parts ≡ (E.progress self.old.levels).parts }
-        ensures longer { IsLonger self.old.found.items self.new.found.items }
-        ensures bound { IsWithin (E.progress self.new.levels).parts self.old.found.items self.new.found.items }
-        ensures grown { OnOk result ((self.new.at_end ≡ true) ⊎ (length self.old.found.items < length self.new.found.items)) }
-        ensures going_on { OnErr result (self.new.at_end ≡ false) }
-        ensures pops_rise { E.popped self.old.levels ≤ E.popped self.new.levels }
+    fn add_level(&mut self, alloc: Global) -> Result<(), AllocError>
+        requires going_on { self.old.listed.at_end ≡ false }
+        ensures parts { self.new.listed.parts ≡ self.old.listed.parts }
+        ensures longer { IsLonger self.old.listed.found self.new.listed.found }
+        ensures bound { IsWithin self.new.listed.parts self.old.listed.found self.new.listed.found }
+        ensures grown { OnOk result ((self.new.listed.at_end ≡ true) ⊎ (length self.old.listed.found < length self.new.listed.found)) }
+        ensures going_on { OnErr result (self.new.listed.at_end ≡ false) }
+        ensures pops_rise { self.old.listed.pops ≤ self.new.listed.pops }
     {
-        if !self.waiting.is_empty() {
-            self.add_held(alloc)?;
-            return Ok(());
-        }
-        if !self.keyed.is_empty() {
-            self.add_held(alloc)?;
-            return Ok(());
+        if self.holds_some() {
+            return self.add_held(alloc);
         }
         self.add_next(alloc)
     }
 
     /// Whether so many items are found, or the search has met its end.
     fn is_enough(&self, wanted: usize) -> bool
-        ensures { MatchBool result ((wanted ≤ length self.now.found.items) ⊎ (self.now.at_end ≡ true)) ((length self.now.found.items < wanted) × (self.now.at_end ≡ false)) }
+        ensures { MatchBool result ((wanted ≤ length self.now.listed.found) ⊎ (self.now.listed.at_end ≡ true)) ((length self.now.listed.found < wanted) × (self.now.listed.at_end ≡ false)) }
     {
         if self.at_end {
             return true;
@@ -235,16 +282,13 @@ impl<E: Levels> Growing<E> {
 
     /// Lengthens what was found until it holds so many items, or the search has met its end.
     pub fn lengthen(&mut self, alloc: Global, wanted: usize) -> Result<(), AllocError>
-        requires kept { IsKept (E.progress self.old.levels) self.old.found.items self.old.waiting self.old.keyed.items self.old.weight self.old.below self.old.at_end }
-        requires begun { Skipped (E.progress self.old.levels).parts self.old.below (E.reached self.old.levels) }
-        ensures kept { IsKept (E.progress self.new.levels) self.new.found.items self.new.waiting self.new.keyed.items self.new.weight self.new.below self.new.at_end }
-        ensures begun { Skipped (E.progress self.new.levels).parts self.new.below (E.reached self.new.levels) }
-        ensures parts { (E.progress self.new.levels).parts ≡ (E.progress self.old.levels).parts }
-        ensures longer { IsLonger self.old.found.items self.new.found.items }
-        ensures bound { IsNoFurther (E.progress self.new.levels).parts wanted self.old.found.items self.new.found.items }
-        ensures enough { OnOk result ((wanted ≤ length self.new.found.items) ⊎ (self.new.at_end ≡ true)) }
-        ensures short { OnErr result ((length self.old.found.items < wanted) × (self.old.at_end ≡ false)) }
-        ensures pops_rise { E.popped self.old.levels ≤ E.popped self.new.levels }
+        ensures parts { self.new.listed.parts ≡ self.old.listed.parts }
+        ensures longer { IsLonger self.old.listed.found self.new.listed.found }
+        ensures bound { IsNoFurther self.new.listed.parts wanted self.old.listed.found self.new.listed.found }
+        ensures enough { OnOk result ((wanted ≤ length self.new.listed.found) ⊎ (self.new.listed.at_end ≡ true)) }
+        ensures end_stays { self.old.listed.at_end ≡ true → self.new.listed.at_end ≡ true }
+        ensures short { OnErr result ((length self.old.listed.found < wanted) × (self.old.listed.at_end ≡ false)) }
+        ensures pops_rise { self.old.listed.pops ≤ self.new.listed.pops }
     {
         while !self.is_enough(wanted) {
             self.add_level(alloc)?;

@@ -1,3 +1,5 @@
+ghost use Rattle.std.specs.Prelude.{◌≡◌, IfOk};
+
 use lists::{Copies, Items, Text};
 use std::alloc::{AllocError, Global};
 use terms::Term;
@@ -12,13 +14,22 @@ pub struct Item {
     pub term: Term,
 }
 
-impl Copies for Item {
-    fn copy(&self, alloc: Global) -> Result<Item, AllocError> {
+impl Item {
+    /// An equal item in memory of its own.
+    pub fn copy(&self, alloc: Global) -> Result<Item, AllocError>
+        ensures equal { IfOk result (λ item. item ≡ self.now) }
+    {
         Ok(Item {
             weight: self.weight,
             text: self.text.copy(alloc)?,
             term: self.term.copy(alloc)?,
         })
+    }
+}
+
+impl Copies for Item {
+    fn copy(&self, alloc: Global) -> Result<Item, AllocError> {
+        Item::copy(self, alloc)
     }
 }
 

@@ -1,4 +1,4 @@
-ghost use Rattle.std.specs.Prelude.{◌≡◌, ◌↔◌, ◌<◌, ◌≤◌, ◌+◌, ◌^◌, [], IsTrue, IfOk, OnErr, false, length, take, drop};
+ghost use Rattle.std.specs.Prelude.{◌≡◌, ◌↔◌, ◌<◌, ◌≤◌, ◌+◌, ◌^◌, ◌⊎◌, [], IsTrue, IfOk, OnOk, OnErr, true, false, length, take, drop};
 ghost use Rattle.terms.specs.Listing.{AreFew};
 ghost use Rattle.listing.specs.Found.{IsListed, IsLonger};
 ghost use Rattle.listing.specs.Pages.{IsPage, items_of};
@@ -7,7 +7,6 @@ use crate::growing::Growing;
 use crate::item::Item;
 use crate::page::{Page, page_of};
 use crate::same::Same;
-use lists::Items;
 use std::alloc::{AllocError, Global};
 use std::marker::Model;
 use terms::{Env, Levels};
@@ -22,22 +21,13 @@ pub struct Listing<E: Levels> {
 impl<E: Levels> Model for Listing<E> {
     ghost use Rattle.terms.specs.contracts.term.Term as term;
     ghost use Rattle.std.specs.Coded.{codes};
-    ghost use Rattle.listing.specs.Found.{Listed, IsKept};
-    ghost use Rattle.terms.specs.Listing.{Skipped};
+    ghost use Rattle.listing.specs.Found.{Listed};
 
     ghost Value = { Listed };
 
     ghost coded = { Prim.hlevel (codes, term.the_row.coded) };
 
-    ghost view = { λ l. record {
-      parts = (E.progress l.growing.levels).parts;
-      found = l.growing.found.items;
-      at_end = l.growing.at_end;
-      reached = E.reached l.growing.levels;
-      pops = E.popped l.growing.levels;
-    } };
-
-    ghost invariant = { λ l. IsKept (E.progress l.growing.levels) l.growing.found.items l.growing.waiting l.growing.keyed.items l.growing.weight l.growing.below l.growing.at_end × Skipped (E.progress l.growing.levels).parts l.growing.below (E.reached l.growing.levels) };
+    ghost view = { λ l. l.growing.listed };
 }
 
 impl<E: Levels> Listing<E> {
@@ -46,15 +36,7 @@ impl<E: Levels> Listing<E> {
         ensures fresh { IfOk result (λ listing. listing ≡ record { parts = env; found = []; at_end = false; reached = 0; pops = 0 }) }
     {
         Ok(Listing {
-            growing: Growing {
-                levels: E::over(alloc, env)?,
-                found: Vec::new(alloc),
-                waiting: Items::new(alloc),
-                keyed: Vec::new(alloc),
-                weight: 0,
-                below: 0,
-                at_end: false,
-            },
+            growing: Growing::new(alloc, env)?,
         })
     }
 
@@ -68,19 +50,18 @@ impl<E: Levels> Listing<E> {
         ensures same_env { self.new.parts ≡ self.old.parts }
         ensures longer { IsLonger self.old.found self.new.found }
         ensures page { IfOk result (λ page. IsPage from count self.old self.new page) }
+        ensures enough { OnOk result ((from + count + 1 ≤ length self.new.found) ⊎ (self.new.at_end ≡ true)) }
+        ensures end_met { IfOk result (λ page. length self.new.found ≤ from + count → self.new.at_end ≡ true) }
+        ensures end_stays { self.old.at_end ≡ true → self.new.at_end ≡ true }
         ensures no_memory { OnErr result ((length self.old.found ≤ from + count) × (self.old.at_end ≡ false)) }
         ensures pops_rise { self.old.pops ≤ self.new.pops }
     {
-        let before = self.growing.found.as_slice().len();
-        self.growing.lengthen(alloc, (from + count + 1) as usize)?;
-        let found = self.growing.found.as_slice().len();
-        Ok(page_of(
-            from,
-            count,
-            before as u64,
-            found as u64,
-            self.growing.at_end,
-        ))
+        let before = self.growing.found().len();
+        let longer = self.growing.lengthen(alloc, (from + count + 1) as usize);
+        let found = self.growing.found().len();
+        longer?;
+        let at_end = self.growing.at_end();
+        Ok(page_of(from, count, before as u64, found as u64, at_end))
     }
 
     /// The items of a page. Takes no memory.
@@ -89,14 +70,14 @@ impl<E: Levels> Listing<E> {
         ensures slice { result.now ≡ items_of self.now page.now }
     {
         let first = page.first as usize;
-        &self.growing.found.as_slice()[first..first + page.len as usize]
+        &self.growing.found()[first..first + page.len as usize]
     }
 
     /// Whether this is the list of that environment. Takes no memory.
     pub fn same_env(&self, env: &Env) -> bool
         ensures exact { IsTrue result ↔ (self.now.parts ≡ env.now) }
     {
-        self.growing.levels.env().parts().same(env.parts())
+        self.growing.env().parts().same(env.parts())
     }
 
     /// How many steps the search has taken, where it counts them: few for what it has reached, which is no further
@@ -105,6 +86,6 @@ impl<E: Levels> Listing<E> {
         ensures count { result ≡ self.now.pops }
         ensures few { AreFew self.now.parts self.now.reached result }
     {
-        self.growing.levels.pops()
+        self.growing.pops()
     }
 }

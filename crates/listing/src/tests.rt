@@ -1,5 +1,5 @@
 use crate::{Item, Listing, Page};
-use lists::{Copies, Items, Text};
+use lists::{Items, Text};
 use plain_listing::Plain;
 use std::alloc::{AllocError, Global};
 use terms::{Arg, Decl, Env, Form, Parts, Term};

@@ -1,4 +1,5 @@
 pub mod Answers
+pub mod Arrays
 pub mod Cuts
 pub mod Lists
 pub mod Refusals

@@ -1,6 +1,6 @@
 -- The parameters of each method (LSP 3.17), as a function of their JSON value: the form, or the fault.
 use Rattle.std.specs.Prelude.{ℕ, List, codes, Option, Some, None, Result, Ok, Err}
-use Rattle.serde_json.specs.Data.{Data, Num, null, boolean, number, string, array, object, Items}
+use Rattle.serde_json.specs.Data.{Data, Num, null, boolean, number, string, array, object, Items, no_items, item}
 use Rattle.serde_json.specs.Find.{get}
 use Rattle.lsp_forms.specs.Params.{member_of, text_of, number_of, whole, each, fault}
 use Rattle.lsp_forms.specs.declared.forms.ParamFault.{ParamFault}
@@ -133,14 +133,15 @@ options_from (Some limit) None count = Err (fault 1)
 options_from (Some limit) (Some depth) None = Err (fault 1)
 options_from (Some limit) (Some depth) (Some count) = options_in (whole_or limit 1 10000 4000) (whole_or depth 0 1 1) (whole_or count 1 1000 20)
 
--- `initializationOptions`
+-- `initializationOptions`. An empty array counts as an object without members: an editor whose tables are empty writes it so.
 unfoldable pub initialize_from : Option Data → Result Initialize ParamFault
 initialize_from None = Ok (record { limit = 4000; depth = 1; count = 20 })
 initialize_from (Some null) = Ok (record { limit = 4000; depth = 1; count = 20 })
 initialize_from (Some (boolean b)) = Err (fault 1)
 initialize_from (Some (number n)) = Err (fault 1)
 initialize_from (Some (string s)) = Err (fault 1)
-initialize_from (Some (array ds)) = Err (fault 1)
+initialize_from (Some (array no_items)) = Ok (record { limit = 4000; depth = 1; count = 20 })
+initialize_from (Some (array (item d ds))) = Err (fault 1)
 initialize_from (Some (object ms)) = options_from (optional (get (codes "limit") (object ms))) (optional (get (codes "depth") (object ms))) (optional (get (codes "count") (object ms)))
 
 -- `initialize`

@@ -1,6 +1,7 @@
 ghost use Rattle.std.specs.Prelude.{◌≡◌, ◌≤◌, Ok, Err, IfOk, IfErr, IfSome, codes, Option, Some, None, option_map};
 ghost use Rattle.serde_json.specs.Find.{get};
-ghost use Rattle.serde_json.specs.View.{view, number_view};
+ghost use Rattle.serde_json.specs.Data.{array};
+ghost use Rattle.serde_json.specs.View.{items_view, view, number_view};
 ghost use Rattle.lsp_forms.specs.Params.{FaultedAs};
 ghost use Rattle.lsp_forms.specs.Forms.{initialize_from, initialize_of, optional, options_from, options_in, whole_or};
 
@@ -84,6 +85,29 @@ fn options_from(options: &Value) -> Result<Initialize, Refused<ParamFault>>
     options_in(limit, depth, count)
 }
 
+/// What stands in place of options that are left out.
+#[tactic(auto, unfolding(crate::specs::Forms::initialize_from))]
+fn defaults() -> Initialize
+    ensures { Ok result ≡ initialize_from None }
+{
+    Initialize {
+        limit: LIMIT as u32,
+        depth: DEPTH as u32,
+        count: COUNT,
+    }
+}
+
+/// The options that an array stands for: none, where it is empty.
+fn options_in_array(items: &[Value]) -> Result<Initialize, Refused<ParamFault>>
+    ensures form { IfOk result (λ form. initialize_from (Some (array (items_view items.now))) ≡ Ok form) }
+    ensures refusal { IfErr result (λ e. FaultedAs (initialize_from (Some (array (items_view items.now)))) e) }
+{
+    if items.is_empty() {
+        return Ok(defaults());
+    }
+    Err(refused(MISSING))
+}
+
 /// The options of `initialize`; what is left out or null has its default.
 #[tactic(auto, unfolding(crate::specs::Forms::initialize_from))]
 pub fn read_initialize(params: &Value) -> Result<Initialize, Refused<ParamFault>>
@@ -91,13 +115,10 @@ pub fn read_initialize(params: &Value) -> Result<Initialize, Refused<ParamFault>
     ensures refusal { IfErr result (λ e. FaultedAs (initialize_of (view params.now)) e) }
 {
     match params.get("initializationOptions") {
-        None | Some(Value::Null) => Ok(Initialize {
-            limit: LIMIT as u32,
-            depth: DEPTH as u32,
-            count: COUNT,
-        }),
+        None | Some(Value::Null) => Ok(defaults()),
         Some(options) => match options {
             Value::Object(_) => options_from(options),
+            Value::Array(items) => options_in_array(items.as_slice()),
             _ => Err(refused(MISSING)),
         },
     }

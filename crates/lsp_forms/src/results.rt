@@ -83,20 +83,15 @@ fn decimal_text(alloc: Global, number: u32) -> Result<Value, AllocError>
     Value::try_from_str(alloc, buffer.format(number))
 }
 
-/// The edit that an item makes.
-fn make_edit(
-    alloc: Global,
-    text: &str,
-    start: (u32, u32),
-    end: (u32, u32),
-) -> Result<Value, AllocError>
-    ensures { IfOk result (λ v. view v ≡ object (member (codes "newText") (string text.now) (member (codes "range") (range start end) no_members))) }
+/// The edit that an item makes in a range.
+fn make_edit(alloc: Global, text: &str, span: &Value) -> Result<Value, AllocError>
+    ensures { IfOk result (λ v. view v ≡ object (member (codes "newText") (string text.now) (member (codes "range") (view span.now) no_members))) }
 {
     let new_text = Value::try_from_str(alloc, text)?;
-    let range = make_range(alloc, start, end)?;
+    let span = span.clone()?;
     let mut members = Map::new(alloc);
     serde_json::put(&mut members, alloc, "newText", new_text)?;
-    serde_json::put(&mut members, alloc, "range", range)?;
+    serde_json::put(&mut members, alloc, "range", span)?;
     Ok(Value::Object(members))
 }
 
@@ -105,15 +100,14 @@ fn make_item(
     alloc: Global,
     number: u128,
     item: &ItemForm,
-    start: (u32, u32),
-    end: (u32, u32),
+    span: &Value,
 ) -> Result<Value, AllocError>
-    ensures { IfOk result (λ v. view v ≡ item_answer number (range start end) item.now) }
+    ensures { IfOk result (λ v. view v ≡ item_answer number (view span.now) item.now) }
 {
     let detail = decimal_text(alloc, item.weight)?;
     let label = Value::try_from_str(alloc, item.text.as_str())?;
     let sort_text = ten_digits(alloc, number)?;
-    let edit = make_edit(alloc, item.text.as_str(), start, end)?;
+    let edit = make_edit(alloc, item.text.as_str(), span)?;
     let mut members = Map::new(alloc);
     serde_json::put(&mut members, alloc, "detail", detail)?;
     serde_json::put(&mut members, alloc, "label", label)?;
@@ -127,16 +121,15 @@ fn make_items(
     alloc: Global,
     from: u64,
     items: &[ItemForm],
-    start: (u32, u32),
-    end: (u32, u32),
+    span: &Value,
 ) -> Result<Value, AllocError>
-    ensures { IfOk result (λ v. view v ≡ array (items_of (item_answers from (range start end) items.now))) }
+    ensures { IfOk result (λ v. view v ≡ array (items_of (item_answers from (view span.now) items.now))) }
 {
     let mut values = Vec::new(alloc);
     let mut rest = items;
     while let Some((item, more)) = rest.split_first() {
         let number = from as u128 + values.len() as u128;
-        values.push(make_item(alloc, number, item, start, end)?)?;
+        values.push(make_item(alloc, number, item, span)?)?;
         rest = more;
     }
     Ok(Value::Array(values))
@@ -184,6 +177,7 @@ pub fn make_list(
     ensures numbers { IfOk result (λ v. (i : ℕ) (form : ItemForm) → slice_get items.now i ≡ Some form → item_at i (view v) ≡ Some (item_answer (from + i) (range start end) form)) }
 {
     let state = make_state(alloc, cursor, from, grown, last, version)?;
-    let items = make_items(alloc, from, items, start, end)?;
+    let span = make_range(alloc, start, end)?;
+    let items = make_items(alloc, from, items, &span)?;
     make_page(alloc, state, last, items)
 }

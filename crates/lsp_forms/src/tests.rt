@@ -40,7 +40,7 @@ fn outcome(alloc: Global, method: Method, params: &Value) -> (u32, u32) {
 }
 
 /// Parameters of a method, and the cause and the index with which they are refused, or 0.
-const ROWS: [(Method, &str, u32, u32); 67] = [
+const ROWS: [(Method, &str, u32, u32); 68] = [
     (Method::Initialize, "{}", 0, 0),
     (Method::Initialize, "null", 0, 0),
     (Method::Initialize, "[1]", 0, 0),
@@ -57,7 +57,8 @@ const ROWS: [(Method, &str, u32, u32); 67] = [
         0,
         0,
     ),
-    (Method::Initialize, "{\"initializationOptions\":[]}", 1, 0),
+    (Method::Initialize, "{\"initializationOptions\":[]}", 0, 0),
+    (Method::Initialize, "{\"initializationOptions\":[{}]}", 1, 0),
     (
         Method::Initialize,
         "{\"initializationOptions\":{\"limit\":0,\"depth\":\"1\"}}",

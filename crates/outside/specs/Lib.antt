@@ -2,3 +2,4 @@ pub mod Causes
 pub mod Gathered
 pub mod Held
 pub mod Plans
+pub mod Views

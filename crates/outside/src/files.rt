@@ -1,4 +1,4 @@
-ghost use Rattle.std.specs.Prelude.{None};
+ghost use Rattle.std.specs.Prelude.{◌≡◌, None};
 
 use crate::reading::{ReadFault, read_up_to};
 use crate::shelf::{LONGEST_LOAD, LoadFault, Loaded, Shelf};
@@ -6,10 +6,11 @@ use crate::streams::ReaderSource;
 use std::alloc::Global;
 use std::fs;
 use std::io::ErrorKind;
+use std::marker::Model;
 use std::rt::Files;
 
 /// The real files, by their paths. It tells nothing of what they hold. A file that isn't there is
-/// `Missing`, and any other error of the file system is a fault.
+/// `Missing`, and any other error of the file system is a fault. Contracts see the count of faults.
 #[derive(Drop)]
 pub struct FileShelf<'r, R: Files> {
     rt: &'r R,
@@ -17,9 +18,19 @@ pub struct FileShelf<'r, R: Files> {
     faults: u64,
 }
 
+impl<'r, R: Files> Model for FileShelf<'r, R> {
+    ghost use Rattle.std.specs.Prelude.{ℕ};
+
+    ghost Value = { ℕ };
+
+    ghost view = { λ s. s.faults };
+}
+
 impl<'r, R: Files> FileShelf<'r, R> {
     /// A shelf that has not failed yet.
-    pub fn new(rt: &'r R, alloc: Global) -> FileShelf<'r, R> {
+    pub fn new(rt: &'r R, alloc: Global) -> FileShelf<'r, R>
+        ensures { result ≡ 0 }
+    {
         FileShelf {
             rt,
             alloc,
@@ -31,7 +42,7 @@ impl<'r, R: Files> FileShelf<'r, R> {
 impl<R: Files> Shelf for FileShelf<'_, R> {
     ghost holds = { λ _. None };
 
-    ghost faults = { λ s. s.faults };
+    ghost faults = { λ s. s };
 
     fn faults(&self) -> u64 {
         self.faults

@@ -1,9 +1,9 @@
-ghost use Rattle.std.specs.Prelude.{◌≡◌, ◌<◌, ◌≤◌, ◌↔◌, [], Some, length, IfOk, IfSome, IsErr, IsTrue, OnErr, IsErrOf};
+ghost use Rattle.std.specs.Prelude.{◌≡◌, ◌<◌, ◌≤◌, ◌↔◌, ◌-◌, ◌^◌, [], Some, min, max, length, IfOk, IfSome, IsErr, IsTrue, OnErr, IsErrOf};
 ghost use Rattle.std.specs.Io.{ReadsAtMost};
 ghost use Rattle.std.specs.Io.KnownBytes.{ReadConsumes, WriteAppends};
 ghost use Rattle.outside.specs.Causes.{HasCause, Rose};
 ghost use Rattle.outside.specs.Held.{held_under, Gives, Leaves};
-ghost use Rattle.outside.specs.Plans.{is_due};
+ghost use Rattle.outside.specs.Plans.{is_due, one_more};
 
 use crate::plan::FaultPlan;
 use crate::shelf::{HeldFile, LoadFault, Loaded, Shelf, load_held};
@@ -25,6 +25,7 @@ impl<'a> MemSource<'a> {
     /// The bytes, in reads as long as the caller's room.
     pub fn new(rest: &'a [u8], plan: FaultPlan) -> MemSource<'a>
         ensures left { result.rest.now ≡ rest.now }
+        ensures most { result.most ≡ 2 ^ 64 - 1 }
         ensures plan { result.plan ≡ plan }
     {
         MemSource {
@@ -50,7 +51,10 @@ impl Source for MemSource<'_> {
         ensures end { IfOk result (λ n. n ≡ 0 → 0 < length buf.new → IfSome (Some self.old.rest.now) (λ bytes. bytes ≡ [])) }
         ensures cause { HasCause self.old.plan.faults self.new.plan.faults result }
         ensures planned { IsErr result ↔ IsTrue (is_due self.old.plan) }
+        ensures counted { self.new.plan.calls ≡ one_more self.old.plan.calls }
         ensures same_plan { self.new.plan.failing ≡ self.old.plan.failing }
+        ensures same_most { self.new.most ≡ self.old.most }
+        ensures count { IfOk result (λ n. n ≡ min (min (length buf.new) (length self.old.rest.now)) (max self.old.most 1)) }
     {
         if self.plan.step() {
             return Err(Failed);
@@ -75,6 +79,7 @@ impl MemSink {
     /// Nothing is written yet.
     pub fn new(alloc: Global, plan: FaultPlan) -> MemSink
         ensures written { result.bytes.items ≡ [] }
+        ensures most { result.most ≡ 2 ^ 64 - 1 }
         ensures plan { result.plan ≡ plan }
     {
         MemSink {
@@ -99,7 +104,10 @@ impl Sink for MemSink {
         ensures bytes { WriteAppends (Some self.old.bytes.items) (Some self.new.bytes.items) result piece.now }
         ensures cause { HasCause self.old.plan.faults self.new.plan.faults result }
         ensures planned { IsTrue (is_due self.old.plan) → IsErr result }
+        ensures counted { self.new.plan.calls ≡ one_more self.old.plan.calls }
         ensures same_plan { self.new.plan.failing ≡ self.old.plan.failing }
+        ensures same_most { self.new.most ≡ self.old.most }
+        ensures count { IfOk result (λ n. n ≡ min (length piece.now) (max self.old.most 1)) }
     {
         if self.plan.step() {
             return Err(Failed);
@@ -149,6 +157,7 @@ impl Shelf for MemShelf {
         ensures later { self.old.plan.faults ≤ self.new.plan.faults }
         ensures cause { IsErrOf result LoadFault.Failed → Rose self.old.plan.faults self.new.plan.faults }
         ensures planned { IsErrOf result LoadFault.Failed ↔ IsTrue (is_due self.old.plan) }
+        ensures counted { self.new.plan.calls ≡ one_more self.old.plan.calls }
         ensures same_plan { self.new.plan.failing ≡ self.old.plan.failing }
     {
         if self.plan.step() {

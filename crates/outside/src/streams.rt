@@ -1,23 +1,37 @@
+ghost use Rattle.std.specs.Prelude.{◌≡◌};
+
 use crate::sink::Sink;
 use crate::source::{Failed, Source};
 use std::io::{Read, Write};
+use std::marker::Model;
 
-/// A source over any reader of std. Each error of the reader is a fault, and counts one.
+/// A source over any reader of std. Each error of the reader is a fault, and counts one. Contracts see
+/// the bytes that the reader has left, where it tells them, and the count.
 #[derive(Drop)]
-pub struct ReaderSource<R: Read + Drop> {
+pub struct ReaderSource<R: Read> {
     reader: R,
     faults: u64,
 }
 
-impl<R: Read + Drop> ReaderSource<R> {
+impl<R: Read> Model for ReaderSource<R> {
+    ghost use Rattle.outside.specs.Views.{SourceView};
+
+    ghost Value = { SourceView };
+
+    ghost view = { λ s. record { left = R.remaining s.reader; faults = s.faults } };
+}
+
+impl<R: Read> ReaderSource<R> {
     /// A source that has not failed yet.
-    pub fn new(reader: R) -> ReaderSource<R> {
+    pub fn new(reader: R) -> ReaderSource<R>
+        ensures { result ≡ record { left = R.remaining reader; faults = 0 } }
+    {
         ReaderSource { reader, faults: 0 }
     }
 }
 
-impl<R: Read + Drop> Source for ReaderSource<R> {
-    ghost left = { λ s. R.remaining s.reader };
+impl<R: Read> Source for ReaderSource<R> {
+    ghost left = { λ s. s.left };
 
     ghost faults = { λ s. s.faults };
 
@@ -37,22 +51,33 @@ impl<R: Read + Drop> Source for ReaderSource<R> {
 }
 
 /// A sink over any writer of std. Each error of the writer is a fault, and so is a write that takes
-/// nothing of a piece with bytes.
+/// nothing of a piece with bytes. Contracts see the bytes that the writer holds, where it tells them,
+/// and the count.
 #[derive(Drop)]
-pub struct WriterSink<W: Write + Drop> {
+pub struct WriterSink<W: Write> {
     writer: W,
     faults: u64,
 }
 
-impl<W: Write + Drop> WriterSink<W> {
+impl<W: Write> Model for WriterSink<W> {
+    ghost use Rattle.outside.specs.Views.{SinkView};
+
+    ghost Value = { SinkView };
+
+    ghost view = { λ s. record { written = W.contents s.writer; faults = s.faults } };
+}
+
+impl<W: Write> WriterSink<W> {
     /// A sink that has not failed yet.
-    pub fn new(writer: W) -> WriterSink<W> {
+    pub fn new(writer: W) -> WriterSink<W>
+        ensures { result ≡ record { written = W.contents writer; faults = 0 } }
+    {
         WriterSink { writer, faults: 0 }
     }
 }
 
-impl<W: Write + Drop> Sink for WriterSink<W> {
-    ghost written = { λ s. W.contents s.writer };
+impl<W: Write> Sink for WriterSink<W> {
+    ghost written = { λ s. s.written };
 
     ghost faults = { λ s. s.faults };
 

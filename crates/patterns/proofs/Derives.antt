@@ -9,27 +9,10 @@ use Rattle.terms.specs.declared.parts.Arg.{Arg}
 use Rattle.terms.specs.declared.parts.Arg.TheVariants.{Plain, Fun}
 use Rattle.terms.specs.Place.{Place, fits_place, shallow, args_shallow}
 use Rattle.terms.specs.Typing.{result_if, args_wanted}
+use Rattle.terms.proofs.Readings.{HeadFits, head_fits}
 use Rattle.succinct.specs.Sets.{has, joined_with, types_bound}
 use Rattle.patterns.specs.Derivable.{Derivable, in_set, by_pair, by_decl, AllDerivable, none, value, lambda}
 use Rattle.patterns.proofs.Contexts.{set_of-more, has_context, at_context}
-
--- a declaration that fits as a head
-pub record HeadFits (g : Parts) (p : Place) (xs : Args) (o : Option Decl) : Type 0 where
-  pub decl : Decl
-  pub is : o ≡ Some decl
-  pub below : is_below g decl.result p.wanted ≡ true
-  pub fit : fits g p.ctx xs decl.args ≡ true
-  pub flat : args_shallow p.left xs ≡ true
-
-pub head_fits : (g : Parts) (p : Place) (xs : Args) (o : Option Decl) → some_below g (result_if o (fits g p.ctx xs (args_wanted o))) p.wanted && args_shallow p.left xs ≡ true → HeadFits g p xs o
-head_fits g p xs None h = absurd (false≢true h)
-head_fits g p xs (Some d) h = go (fits g p.ctx xs d.args) refl h
-  where
-    go : (b : Bool) → fits g p.ctx xs d.args ≡ b → some_below g (result_if (Some d) b) p.wanted && args_shallow p.left xs ≡ true → HeadFits g p xs (Some d)
-    go true is h' =
-        let parts = and_parts (is_below g d.result p.wanted) (args_shallow p.left xs) h' in
-        record { decl = d; is = refl; below = parts.0; fit = is; flat = parts.1 }
-    go false is h' = absurd (false≢true h')
 
 -- the pairs are transitive
 abbrev pub IsTransitive : Parts → Type 0

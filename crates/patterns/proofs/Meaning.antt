@@ -357,13 +357,13 @@ agrees g c goal depth d shallow valid comp made i s list at is = record {
       let r = comp.of_sources.kind_of_each n k source from number in
       lo.all k r.0 r.1 (r.2.gives ∙ gives) (needs-met g c d.space comp table s.set s.goal source r.0 r.2 (args-met g c d.space comp table flat (types_at d.space s.set) (left_at d.space s.set) source.args all s.set refl refl) r.0.needs (λ m h. h)));
   only_those = λ k h. (let r = lo.only k h in (r.0, r.1, r.2, λ source kind. source-from g c d.space comp table s source r.0 kind (needs-sought g c d.space comp table s r.0.needs r.3)));
-  derivable = λ seen. elim seen [
+  listed_is_derivable = λ seen. elim seen [
     | inl bound ↦ in_set (types_at d.space s.set) (left_at d.space s.set) s.goal bound
     | inr some ↦ (let r = lo.only some.0 some.1 in met-derives g c d.space comp table s (by_kind s some.0 r.0 r.1 r.2 r.3))
   ];
-  derived = λ h. seen-of s (derives-met g c d.space comp table flat (types_at d.space s.set) (left_at d.space s.set) s.goal h s.set refl refl) lo;
-  term = λ ctx types room h. fits-of ctx (derives-term g (below-transitive g valid) (below-itself g) (types_at d.space s.set) (left_at d.space s.set) s.goal h ctx types room);
-  derives = λ ctx types e fit. subst (λ t. Derivable g t (left_at d.space s.set) s.goal) types (term-derives g ctx (left_at d.space s.set) s.goal e fit);
+  derivable_is_listed = λ h. seen-of s (derives-met g c d.space comp table flat (types_at d.space s.set) (left_at d.space s.set) s.goal h s.set refl refl) lo;
+  derivable_has_a_term = λ ctx types room h. fits-of ctx (derives-term g (below-transitive g valid) (below-itself g) (types_at d.space s.set) (left_at d.space s.set) s.goal h ctx types room);
+  a_term_is_derivable = λ ctx types e fit. subst (λ t. Derivable g t (left_at d.space s.set) s.goal) types (term-derives g ctx (left_at d.space s.set) s.goal e fit);
 }
   where
     lo : IsListOf d.space c.kinds s list

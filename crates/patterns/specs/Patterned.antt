@@ -76,11 +76,11 @@ pub record AgreesAt (g : Parts) (c : Compression) (p : Space) (s : State) (list 
   pub listed : (k n : ℕ) (source : Source) → slice_get (sources g) n ≡ Some source → slice_get c.kind_numbers n ≡ Some k → source.result ≡ s.goal → AllDerivable g (types_at p s.set) (left_at p s.set) source.args → has k list ≡ true
   pub only_those : (k : ℕ) → has k list ≡ true → (kind : Succinct) × (slice_get c.kinds k ≡ Some kind) × (kind.result ≡ s.goal) × ((source : Source) → IsKindOf c.needs source kind → AllDerivable g (types_at p s.set) (left_at p s.set) source.args)
   -- the goal is derivable exactly where it is in the set or a kind is listed
-  pub derivable : (has s.goal (types_at p s.set) ≡ true) ⊎ ((k : ℕ) × (has k list ≡ true)) → Derivable g (types_at p s.set) (left_at p s.set) s.goal
-  pub derived : Derivable g (types_at p s.set) (left_at p s.set) s.goal → (has s.goal (types_at p s.set) ≡ true) ⊎ ((k : ℕ) × (has k list ≡ true))
+  pub listed_is_derivable : (has s.goal (types_at p s.set) ≡ true) ⊎ ((k : ℕ) × (has k list ≡ true)) → Derivable g (types_at p s.set) (left_at p s.set) s.goal
+  pub derivable_is_listed : Derivable g (types_at p s.set) (left_at p s.set) s.goal → (has s.goal (types_at p s.set) ≡ true) ⊎ ((k : ℕ) × (has k list ≡ true))
   -- which is exactly where a term fits, in each context with these types
-  pub term : (ctx : List (List ℕ)) → types_bound ctx ≡ types_at p s.set → length ctx + left_at p s.set ≤ 3 → Derivable g (types_at p s.set) (left_at p s.set) s.goal → (e : Expr) × (fits_place g (record { ctx = ctx; left = left_at p s.set; wanted = s.goal }) e ≡ true)
-  pub derives : (ctx : List (List ℕ)) → types_bound ctx ≡ types_at p s.set → (e : Expr) → fits_place g (record { ctx = ctx; left = left_at p s.set; wanted = s.goal }) e ≡ true → Derivable g (types_at p s.set) (left_at p s.set) s.goal
+  pub derivable_has_a_term : (ctx : List (List ℕ)) → types_bound ctx ≡ types_at p s.set → length ctx + left_at p s.set ≤ 3 → Derivable g (types_at p s.set) (left_at p s.set) s.goal → (e : Expr) × (fits_place g (record { ctx = ctx; left = left_at p s.set; wanted = s.goal }) e ≡ true)
+  pub a_term_is_derivable : (ctx : List (List ℕ)) → types_bound ctx ≡ types_at p s.set → (e : Expr) → fits_place g (record { ctx = ctx; left = left_at p s.set; wanted = s.goal }) e ≡ true → Derivable g (types_at p s.set) (left_at p s.set) s.goal
 
 -- so at each state
 abbrev pub Agrees : Parts → Compression → Patterned → Type 0

@@ -1,4 +1,3 @@
-mod Sums
 mod Counting
 pub mod Numbers
 pub mod Adding

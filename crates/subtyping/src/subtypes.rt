@@ -1,16 +1,17 @@
-ghost use Rattle.std.specs.Prelude.{◌≡◌, ◌↔◌, true, false, IsTrue, IfOk};
+ghost use Rattle.std.specs.Prelude.{◌≡◌, ◌↔◌, true, false, IsTrue, IfOk, slice_get};
 ghost use Rattle.std.specs.Option.{option_copied};
 ghost use Rattle.type_names.specs.declared.kinds.Base.TheVariants.{Class};
 ghost use Rattle.class_summary.specs.Known.{KnownClasses};
 ghost use Rattle.subtyping.specs.Steps.{IsStrictSubtype, IsReference, IsOfArrays};
-ghost use Rattle.subtyping.specs.Places.{Stands, IsAncestry, AllRise};
+ghost use Rattle.graphs.specs.Graph.{edges};
+ghost use Rattle.subtyping.specs.Places.{place_of, Stands, Rises, IsAncestry};
 ghost use Rattle.subtyping.specs.Asked.{class_name, IsClassBelow, IsBaseBelow, IsArrayBelow, IsBelow};
 
 use crate::names::Names;
 use crate::supers::{graph_of, names_of, rows_above, steps_of};
 use crate::widening::widens;
 use class_summary::Classes;
-use lists::Items;
+use lists::{Items, Text};
 use std::alloc::{AllocError, Global};
 use std::cmp::Ordering;
 use std::marker::Model;
@@ -30,11 +31,13 @@ pub struct Subtypes {
 }
 
 impl Model for Subtypes {
-    ghost use Rattle.subtyping.specs.Places.{Ancestry};
+    ghost use Rattle.subtyping.specs.Places.{Ancestry, AllRise};
 
     ghost Value = { Ancestry };
 
     ghost view = { λ s. record { names = s.names; rows = s.rows } };
+
+    ghost invariant = { λ s. AllRise s.rows };
 }
 
 /// The name of a class without dimensions.
@@ -63,8 +66,7 @@ fn is_of_arrays(name: &str) -> bool
 
 impl Subtypes {
     /// The subtypes among these classes. It takes time linear in the classes with their ancestors, but for
-    /// the logarithm of looking names up; where classes reach themselves by supers, a search more for
-    /// each of those supers.
+    /// the logarithm of looking names up.
     pub fn new<C: Classes>(alloc: Global, known: &C) -> Result<Subtypes, AllocError>
         ensures of_known { IfOk result (λ s. IsAncestry (C.listed known.now) s) }
     {
@@ -75,10 +77,35 @@ impl Subtypes {
         Ok(Subtypes { names, rows })
     }
 
+    /// The place of a class by its internal name. The known classes and their supers have places, each its own.
+    pub fn place(&self, name: &str) -> Option<usize>
+        ensures place { result ≡ place_of self.now.names name.now }
+    {
+        self.names.place(name)
+    }
+
+    /// The internal name of the class at a place.
+    pub fn name(&self, place: usize) -> Option<&Text>
+        ensures name { option_copied result ≡ slice_get self.now.names place }
+    {
+        self.names.texts().get(place)
+    }
+
+    /// The places of the classes above the class at a place, in rising order; none where there is no class.
+    pub fn above(&self, place: usize) -> &[usize]
+        ensures above { result.now ≡ edges self.now.rows place }
+        ensures rises { Rises result.now }
+    {
+        match self.rows.get(place) {
+            Some(row) => row.as_slice(),
+            None => &[],
+        }
+    }
+
     /// Whether a class stands above another.
     fn stands(&self, a: &str, b: &str) -> bool
-        ensures sound { AllRise self.now.rows → result ≡ true → Stands self.now a.now b.now }
-        ensures complete { AllRise self.now.rows → Stands self.now a.now b.now → result ≡ true }
+        ensures sound { result ≡ true → Stands self.now a.now b.now }
+        ensures complete { Stands self.now a.now b.now → result ≡ true }
     {
         let Some(low) = self.names.place(a) else {
             return false;
@@ -94,8 +121,8 @@ impl Subtypes {
 
     /// Whether a class is below another.
     fn is_class_below(&self, a: &str, b: &str) -> bool
-        ensures sound { AllRise self.now.rows → result ≡ true → IsClassBelow (Stands self.now) a.now b.now }
-        ensures complete { AllRise self.now.rows → IsClassBelow (Stands self.now) a.now b.now → result ≡ true }
+        ensures sound { result ≡ true → IsClassBelow (Stands self.now) a.now b.now }
+        ensures complete { IsClassBelow (Stands self.now) a.now b.now → result ≡ true }
     {
         if b == OBJECT {
             if a != OBJECT {
@@ -107,8 +134,8 @@ impl Subtypes {
 
     /// Whether a type is below another, both without dimensions.
     fn is_base_below(&self, a: &Base, b: &Base) -> bool
-        ensures sound { AllRise self.now.rows → result ≡ true → IsBaseBelow (Stands self.now) a.now b.now }
-        ensures complete { AllRise self.now.rows → IsBaseBelow (Stands self.now) a.now b.now → result ≡ true }
+        ensures sound { result ≡ true → IsBaseBelow (Stands self.now) a.now b.now }
+        ensures complete { IsBaseBelow (Stands self.now) a.now b.now → result ≡ true }
     {
         let Some(low) = class_of(a) else {
             return widens(a, b);
@@ -121,8 +148,8 @@ impl Subtypes {
 
     /// Whether arrays of a type without dimensions are below those of another.
     fn is_element_below(&self, a: &Base, b: &Base) -> bool
-        ensures sound { AllRise self.now.rows → result ≡ true → IsReference 0 a.now × IsBaseBelow (Stands self.now) a.now b.now }
-        ensures complete { AllRise self.now.rows → IsReference 0 a.now → IsBaseBelow (Stands self.now) a.now b.now → result ≡ true }
+        ensures sound { result ≡ true → IsReference 0 a.now × IsBaseBelow (Stands self.now) a.now b.now }
+        ensures complete { IsReference 0 a.now → IsBaseBelow (Stands self.now) a.now b.now → result ≡ true }
     {
         if class_of(a).is_none() {
             return false;
@@ -132,8 +159,8 @@ impl Subtypes {
 
     /// Whether each array is below a type without dimensions.
     fn is_array_below(&self, b: &Base) -> bool
-        ensures sound { AllRise self.now.rows → result ≡ true → IsArrayBelow (Stands self.now) b.now }
-        ensures complete { AllRise self.now.rows → IsArrayBelow (Stands self.now) b.now → result ≡ true }
+        ensures sound { result ≡ true → IsArrayBelow (Stands self.now) b.now }
+        ensures complete { IsArrayBelow (Stands self.now) b.now → result ≡ true }
     {
         let Some(high) = class_of(b) else {
             return false;
@@ -149,8 +176,8 @@ impl Subtypes {
 
     /// Whether a type is below another, by the ancestors.
     fn is_below(&self, a: &Erased, b: &Erased) -> bool
-        ensures sound { AllRise self.now.rows → result ≡ true → IsBelow (Stands self.now) a.now b.now }
-        ensures complete { AllRise self.now.rows → IsBelow (Stands self.now) a.now b.now → result ≡ true }
+        ensures sound { result ≡ true → IsBelow (Stands self.now) a.now b.now }
+        ensures complete { IsBelow (Stands self.now) a.now b.now → result ≡ true }
     {
         if a.dims < b.dims {
             return false;

@@ -1,10 +1,35 @@
+ghost use Rattle.std.specs.Prelude.{[]};
+
 use crate::Subtypes;
-use class_summary::{ClassSummary, Merged};
-use decl_index::{Change, ChangeFault, Index};
+use class_summary::{ClassSummary, Classes, Merged};
 use lists::{Items, Text};
 use std::alloc::{AllocError, Global};
 use std::test::Fail;
 use type_names::read_field;
+
+/// No class is known.
+#[derive(Drop)]
+struct NoClasses;
+
+impl Classes for NoClasses {
+    ghost listed = { λ s. [] };
+
+    fn count(&self) -> usize {
+        0
+    }
+
+    fn at(&self, _place: usize) -> &ClassSummary {
+        unreachable!()
+    }
+
+    fn find(&self, _name: &str) -> Option<usize> {
+        None
+    }
+
+    fn by_canonical(&self, _dotted: &str) -> Option<usize> {
+        None
+    }
+}
 
 /// The primitive types, and for each those to which it widens (JLS 5.1.2).
 const WIDENINGS: [(&str, &str); 8] = [
@@ -51,8 +76,7 @@ fn holds(alloc: Global, subtypes: &Subtypes, a: &str, b: &str) -> Result<bool, F
 
 #[test]
 fn primitives_widen_by_the_table(rt: HostRuntime) -> Result<(), Fail> {
-    let known = Index::empty(rt.alloc())?;
-    let subtypes = Subtypes::new(rt.alloc(), &known)?;
+    let subtypes = Subtypes::new(rt.alloc(), &NoClasses)?;
     for (from, wider) in WIDENINGS {
         for (to, _) in WIDENINGS {
             let widens = holds(rt.alloc(), &subtypes, from, to)?;
@@ -64,8 +88,7 @@ fn primitives_widen_by_the_table(rt: HostRuntime) -> Result<(), Fail> {
 
 #[test]
 fn unknown_classes_and_arrays_have_their_steps(rt: HostRuntime) -> Result<(), Fail> {
-    let known = Index::empty(rt.alloc())?;
-    let subtypes = Subtypes::new(rt.alloc(), &known)?;
+    let subtypes = Subtypes::new(rt.alloc(), &NoClasses)?;
     for (a, b, is_sub) in WITHOUT_CLASSES {
         assert_eq!(rt; holds(rt.alloc(), &subtypes, a, b)?, is_sub, "{a} {b}");
     }
@@ -86,22 +109,13 @@ fn class(alloc: Global, name: &str, parent: &str) -> Result<ClassSummary, AllocE
     })
 }
 
-/// The index of `A` below `p/B`, of `p/B` below `q/C`, which isn't known, and of `Cloneable` below `p/B`.
-fn index_of_three(alloc: Global) -> Result<Index, ChangeFault> {
-    let mut puts = Items::new(alloc);
-    puts.push(class(alloc, "A", "p/B")?)?;
-    puts.push(class(alloc, "p/B", "q/C")?)?;
-    puts.push(class(alloc, "java/lang/Cloneable", "p/B")?)?;
-    let change = Change::Publish {
-        puts,
-        removes: Items::new(alloc),
-        counts: Items::new(alloc),
-    };
-    let index = Index::empty(alloc)?;
-    if index.number() == u32::MAX {
-        return Err(ChangeFault::OutOfMemory);
-    }
-    index.apply(alloc, &change)
+/// `A` below `p/B`, `p/B` below `q/C`, which isn't known, and `Cloneable` below `p/B`.
+fn three(alloc: Global) -> Result<Items<ClassSummary>, AllocError> {
+    let mut classes = Items::new(alloc);
+    classes.push(class(alloc, "A", "p/B")?)?;
+    classes.push(class(alloc, "p/B", "q/C")?)?;
+    classes.push(class(alloc, "java/lang/Cloneable", "p/B")?)?;
+    Ok(classes)
 }
 
 /// Two descriptors, and whether the first type is a strict subtype of the second among these three classes.
@@ -122,7 +136,7 @@ const WITH_CLASSES: [(&str, &str, bool); 12] = [
 
 #[test]
 fn known_classes_are_below_what_stands_above_them(rt: HostRuntime) -> Result<(), Fail> {
-    let known = index_of_three(rt.alloc()).ok().ok_or("an index")?;
+    let known = Merged::new(rt.alloc(), &NoClasses, three(rt.alloc())?)?;
     let subtypes = Subtypes::new(rt.alloc(), &known)?;
     for (a, b, is_sub) in WITH_CLASSES {
         assert_eq!(rt; holds(rt.alloc(), &subtypes, a, b)?, is_sub, "{a} {b}");
@@ -156,11 +170,43 @@ const WITH_A_CIRCLE: [(&str, &str, bool); 11] = [
 
 #[test]
 fn a_step_that_leads_back_to_the_class_is_left_out(rt: HostRuntime) -> Result<(), Fail> {
-    let three = index_of_three(rt.alloc()).ok().ok_or("an index")?;
+    let three = Merged::new(rt.alloc(), &NoClasses, three(rt.alloc())?)?;
     let known = Merged::new(rt.alloc(), &three, below_a(rt.alloc())?)?;
     let subtypes = Subtypes::new(rt.alloc(), &known)?;
     for (a, b, is_sub) in WITH_A_CIRCLE {
         assert_eq!(rt; holds(rt.alloc(), &subtypes, a, b)?, is_sub, "{a} {b}");
+    }
+    Ok(())
+}
+
+/// Whether the second class is listed above the first.
+fn is_listed(subtypes: &Subtypes, low: &str, high: &str) -> bool {
+    let Some(place) = subtypes.place(low) else {
+        return false;
+    };
+    subtypes.above(place).iter().any(|above| {
+        subtypes
+            .name(*above)
+            .is_some_and(|name| name.as_str() == high)
+    })
+}
+
+/// Two classes, and whether the second is listed above the first among the three.
+const LISTED: [(&str, &str, bool); 6] = [
+    ("A", "p/B", true),
+    ("A", "q/C", true),
+    ("A", "A", false),
+    ("p/B", "A", false),
+    ("q/C", "p/B", false),
+    ("D", "A", false),
+];
+
+#[test]
+fn what_stands_above_a_class_is_listed(rt: HostRuntime) -> Result<(), Fail> {
+    let known = Merged::new(rt.alloc(), &NoClasses, three(rt.alloc())?)?;
+    let subtypes = Subtypes::new(rt.alloc(), &known)?;
+    for (low, high, listed) in LISTED {
+        assert!(rt; is_listed(&subtypes, low, high) == listed, "{low} {high}");
     }
     Ok(())
 }

@@ -3,3 +3,4 @@ pub mod FieldLaws
 pub mod ParamLaws
 pub mod TextLaws
 pub mod MethodLaws
+mod OrderLaws

@@ -164,6 +164,14 @@ pub is_only : {E : Type 0} (text : List ℕ) (r : Result (Option MethodKind) E) 
 is_only text (Ok o) kind fits same e = e ∙ ap method_in same ∙ only_method kind fits
 is_only text (Err a) kind fits same e = tt
 
+pub read_back : {E : Type 0} (kind : MethodKind) (r : Result (List ℕ) E) → IfOk r (λ t. t ≡ method kind) → IsMethod kind → IfOk r (λ t. method_in t ≡ Some kind)
+read_back kind (Ok t) e fits = ap method_in e ∙ only_method kind fits
+read_back kind (Err a) e fits = tt
+
+pub only_one : {E : Type 0} (kind : MethodKind) (r : Result (List ℕ) E) (text : List ℕ) → IfOk r (λ t. t ≡ method kind) → method_in text ≡ Some kind → IfOk r (λ t. t ≡ text)
+only_one kind (Ok t) text e read = e ∙ sym (found_method text kind read).1
+only_one kind (Err a) text e read = tt
+
 -- what stands after a field is text
 base_last : (b : Base) → (xs : List ℕ) × (c : ℕ) × (c < 128) × (base b ≡ xs ++ (c ∷ []))
 base_last Byte = ([], 66, omega arith, refl)

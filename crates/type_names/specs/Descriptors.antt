@@ -19,6 +19,11 @@ base Short = 83 ∷ []
 base Boolean = 90 ∷ []
 base (Class name) = 76 ∷ (name ++ 59 ∷ [])
 
+-- The name, where the base is a class.
+abbrev pub name_of : Base → Option (List ℕ)
+name_of (Class name) = Some name
+name_of _ = None
+
 -- A class has an internal name.
 abbrev pub IsBase : Base → Type 0
 IsBase (Class name) = is_internal true name ≡ true

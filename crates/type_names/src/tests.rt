@@ -1,5 +1,8 @@
-use crate::{Base, descriptor, is_internal_name, read_field, read_method};
-use lists::Copies;
+use crate::{
+    Base, Erased, descriptor, is_internal_name, method_descriptor, read_field, read_method,
+};
+use lists::{Copies, Items};
+use std::alloc::{AllocError, Global};
 
 const FIELDS: [&str; 13] = [
     "B",
@@ -35,6 +38,35 @@ const NO_METHODS: [&str; 13] = [
     "", "V", "()", "(V)V", "(I", "I)V", "()VV", "(I)II", "(L;)V", "()V ", "(I)[V", "(I))V", "((I)V",
 ];
 
+/// Descriptors in the order of their bytes.
+const SORTED: [&str; 15] = [
+    "B", "I", "J", "LA$B;", "LA-;", "LA;", "LAB;", "LB;", "Lé;", "S", "Z", "[B", "[LA;", "[Z",
+    "[[B",
+];
+
+fn kinds(alloc: Global, texts: &[&str]) -> Result<Items<Erased>, AllocError> {
+    let mut kinds = Items::new(alloc);
+    for text in texts {
+        if let Some(kind) = read_field(alloc, text)? {
+            kinds.push(kind)?;
+        }
+    }
+    Ok(kinds)
+}
+
+#[test]
+fn types_are_ordered_by_their_descriptors(rt: HostRuntime) -> Result<(), AllocError> {
+    let kinds = kinds(rt.alloc(), &SORTED)?;
+    assert_eq!(rt; kinds.len(), 15);
+    for (i, kind) in kinds.as_slice().iter().enumerate() {
+        for (j, other) in kinds.as_slice().iter().enumerate() {
+            assert_eq!(rt; kind.compare(other), i.cmp(&j));
+            assert_eq!(rt; kind.same(other), i == j);
+        }
+    }
+    Ok(())
+}
+
 #[test]
 fn fields_are_read_and_written(rt: HostRuntime) -> Result<(), std::alloc::AllocError> {
     for text in FIELDS {
@@ -67,6 +99,7 @@ fn methods_are_read(rt: HostRuntime) -> Result<(), std::alloc::AllocError> {
                 let copy = kind.copy(rt.alloc())?;
                 assert_eq!(rt; copy.params.len(), params);
                 assert_eq!(rt; copy.result.is_some(), answers);
+                assert_eq!(rt; method_descriptor(rt.alloc(), &copy)?.as_str(), text);
             }
             None => assert_eq!(rt; text, "a method"),
         }

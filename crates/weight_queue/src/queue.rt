@@ -56,7 +56,7 @@ impl<T: Drop> WeightQueue<T> {
     }
 
     /// Makes room for `n` items beside those that are held. An error means that memory was wanting: the items
-    /// and the room are then as before.
+    /// are then as before, and the room is no less.
     pub fn reserve(&mut self, n: usize) -> Result<(), AllocError>
         ensures items { self.new.items ≡ self.old.items }
         ensures pops { self.new.pops ≡ self.old.pops }

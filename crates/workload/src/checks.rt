@@ -118,7 +118,7 @@ fn has_internal_names(shape: &ClassShape) -> bool
 /// Whether a shape can be written: its names of classes are internal names, and each member has a name and a
 /// descriptor of its kind.
 pub fn is_whole(alloc: Global, shape: &ClassShape) -> Result<bool, AllocError>
-    ensures { IfOk result (λ b. IsTrue b ↔ IsWhole shape.now) }
+    ensures exact { IfOk result (λ b. IsTrue b ↔ IsWhole shape.now) }
 {
     if !has_internal_names(shape) {
         return Ok(false);

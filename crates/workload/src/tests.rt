@@ -1,9 +1,7 @@
 use crate::{WriteFault, is_whole, write_class};
 use class_shape::{ClassShape, MemberShape, read_class};
 use lists::{Items, Text};
-use outside::{FileShelf, Loaded, Shelf};
 use std::alloc::{AllocError, Global};
-use std::fs;
 use std::test::*;
 
 /// `class A extends java/lang/Object`, without members.
@@ -121,22 +119,5 @@ fn shapes_that_lack_something_are_not_whole(rt: HostRuntime) -> Result<(), Fail>
         descriptor: None,
     })?;
     assert!(rt; !is_whole(rt.alloc(), &shape)?);
-    Ok(())
-}
-
-#[test]
-fn a_class_file_is_read_from_a_real_file(rt: HostRuntime) -> Result<(), Fail> {
-    assert!(rt; fs::write(&rt, "A.class", &A[..]).is_ok());
-    let mut bytes = Vec::new(rt.alloc());
-    let mut shelf = FileShelf::new(&rt, rt.alloc());
-    assert!(rt; matches!(shelf.load("A.class", &mut bytes), Ok(Loaded::Bytes)));
-    assert_eq!(rt; bytes.as_slice(), &A[..]);
-    if bytes.len() > 1000 {
-        return Err("a short file".into());
-    }
-    let shape = read_class(rt.alloc(), &bytes).ok().ok_or("a class file")?;
-    assert_eq!(rt; shape.name.as_str(), "A");
-    assert!(rt; matches!(&shape.parent, Some(name) if name.as_str() == "java/lang/Object"));
-    assert!(rt; shape.flags == 0x21 && shape.major == 52);
     Ok(())
 }

@@ -1,5 +1,5 @@
-use Rattle.std.proofs.Common.{◌≡◌, sym, rules, arith}
-use Rattle.class_pool.proofs.UnitLaws.{Reads, more, shorter, all_read, refused}
+use Rattle.std.proofs.Common.{sym}
+use Rattle.class_pool.proofs.UnitLaws.{more, shorter, all_read, refused}
 use Rattle.class_pool.proofs.modified.units_of.Goals as goal
 
 pub loop-rest-preserved : goal.loop-rest-preserved

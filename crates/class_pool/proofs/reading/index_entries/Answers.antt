@@ -1,4 +1,5 @@
 use Rattle.std.proofs.Common.{rules, arith}
+use Rattle.std.proofs.lemmas.Result.{err_from_is_err_and}
 use Rattle.class_pool.proofs.Steps.{skip_step, is_passed, entry_step, entry_ends, is_done}
 use Rattle.class_pool.proofs.reading.index_entries.Goals as goal
 
@@ -13,7 +14,9 @@ loop-place-preserved-then-skip c =
 pub returns-in_err-wide : goal.returns-in_err-wide
 returns-in_err-wide c =
     let i = c.loop-place.invariant in
-    search (rules, entry_ends c.args.total c.args.count c.loop-place.place c.loop-place.starts.items c.loop-place.rest.now c.in_err-wide.field-0.0 _ c.loop-place-test.true c.in_err-wide.ensures (rw c.if-skip.false at i.so_far))
+    let p = err_from_is_err_and c.from_residual-in_err-wide.result c.from_residual-in_err-wide.ensures.1 in
+    let e = entry_ends c.args.total c.args.count c.loop-place.place c.loop-place.starts.items c.loop-place.rest.now c.in_err-wide.field-0.0 _ c.loop-place-test.true c.in_err-wide.ensures (rw c.if-skip.false at i.so_far) in
+    rw (p.1, p.2) (record { long = tt; exact = e })
 
 pub loop-place-preserved : goal.loop-place-preserved
 loop-place-preserved c =

@@ -1,4 +1,4 @@
-use Rattle.std.proofs.Common.{rules, ◌≡◌, ◌∙◌, sym, ap}
+use Rattle.std.proofs.Common.{rules, ◌∙◌, sym, ap}
 use Rattle.class_shape.specs.Meaning.{attribute_rows}
 use Rattle.class_shape.proofs.Loops.{joined_more, joined_ends, joined_done}
 use Rattle.class_shape.proofs.lists_meant.all_rows.Goals as goal

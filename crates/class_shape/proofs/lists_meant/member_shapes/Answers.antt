@@ -1,4 +1,4 @@
-use Rattle.std.proofs.Common.{rules, ◌≡◌, sym}
+use Rattle.std.proofs.Common.{rules}
 use Rattle.class_shape.specs.Meaning.{member_shape}
 use Rattle.class_shape.proofs.Loops.{each_more, each_ends, each_done}
 use Rattle.class_shape.proofs.lists_meant.member_shapes.Goals as goal

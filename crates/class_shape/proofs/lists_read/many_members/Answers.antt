@@ -1,11 +1,14 @@
-use Rattle.std.proofs.Common.{rules, arith, ◌≡◌, subst, sym}
+use Rattle.std.proofs.Common.{arith}
+use Rattle.std.proofs.lemmas.Result.{err_from_is_err_and}
 use Rattle.class_shape.specs.Reading.{member_at}
 use Rattle.class_shape.proofs.Loops.{one_more, one_ends, all_done}
 use Rattle.class_shape.proofs.lists_read.many_members.Goals as goal
 
 pub returns-in_err-one : goal.returns-in_err-one
 returns-in_err-one c =
-    search (rules, one_ends (member_at c.args.total) _ _ _ _ c.in_err-one.field-0.0 _ c.loop-test.true c.loop.invariant.so_far c.in_err-one.ensures.exact)
+    let p = err_from_is_err_and c.from_residual.result c.from_residual.ensures.1 in
+    let e = one_ends (member_at c.args.total) _ _ _ _ c.in_err-one.field-0.0 _ c.loop-test.true c.loop.invariant.so_far c.in_err-one.ensures.exact in
+    rw (p.1, p.2) (record { within = tt; exact = e })
 
 pub loop-preserved : goal.loop-preserved
 loop-preserved c =

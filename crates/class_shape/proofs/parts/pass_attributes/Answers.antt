@@ -1,4 +1,4 @@
-use Rattle.std.proofs.Common.{rules, arith, ◌≡◌}
+use Rattle.std.proofs.Common.{rules, arith}
 use Rattle.class_shape.specs.Reading.{attribute_at}
 use Rattle.class_shape.proofs.Loops.{pass_more, pass_ends, pass_done}
 use Rattle.class_shape.proofs.parts.pass_attributes.Goals as goal

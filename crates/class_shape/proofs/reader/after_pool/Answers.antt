@@ -1,4 +1,4 @@
-use Rattle.std.proofs.Common.{◌≡◌, ◌∙◌, ◌-◌, List, ℕ, Ok, length, drop, sym, ap, arith}
+use Rattle.std.proofs.Common.{◌∙◌, ◌-◌, List, ℕ, Ok, length, drop, sym, ap, arith}
 use Rattle.std.proofs.lemmas.List.{take_all, length-drop}
 use Rattle.class_shape.proofs.ShapeLaws.{pool_rest}
 use Rattle.class_shape.proofs.reader.after_pool.Goals as goal

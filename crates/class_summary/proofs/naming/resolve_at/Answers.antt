@@ -1,8 +1,14 @@
-use Rattle.std.proofs.Common.{◌∙◌, ◌^◌, ap, List, reverse}
+use Rattle.std.proofs.Common.{◌∙◌, ap, List}
+use Rattle.type_names.specs.declared.kinds.Base.{Base}
+use Rattle.type_names.specs.declared.kinds.Erased.{Erased}
 use Rattle.java_units.specs.declared.types.SourceClass.{SourceClass}
-use Rattle.class_summary.specs.Variables.{scopes_at}
-use Rattle.class_summary.proofs.Totals.{fits}
+use Rattle.class_summary.specs.Variables.{Scope, end_of, scopes_at}
+use Rattle.class_summary.specs.Names.{erased_end, denoted_type}
 use Rattle.class_summary.proofs.naming.resolve_at.Goals as goal
 
-pub end_of-requires : goal.end_of-requires
-end_of-requires g c = fits c.args.unit.now.classes c.args.class c.args.method (reverse c.in_ok-scopes.scopes.items) c.args.name.now.dims (2 ^ 64) c.requires.nested (c.in_ok-scopes.ensures ∙ ap (λ (q : List SourceClass). scopes_at q c.args.class c.args.method) c.as_slice.ensures) c.requires.dims
+pub returns : goal.returns
+unfolding denoted_type
+returns g c =
+    let u = c.args.unit.now in
+    let ends = c.in_ok-end.ensures ∙ ap (λ (ss : List Scope). end_of ss c.args.class c.args.name.now) (c.as_slice-2.ensures.value ∙ (c.in_ok-scopes.ensures ∙ ap (λ (q : List SourceClass). scopes_at q c.args.class c.args.method) c.as_slice.ensures)) in
+    ap (λ (b : Base). let e : Erased = record { dims = c.in_ok-end.end.dims; base = b } in e) c.in_ok-base.ensures ∙ ap (erased_end u (g.C.Classes.listed c.args.known.now)) ends

@@ -1,19 +1,20 @@
-use Rattle.std.proofs.Common.{◌≡◌, [], ◌∷◌, ◌++◌, reverse, rules}
-use Rattle.class_summary.specs.Variables.{variable_in}
-use Rattle.class_summary.proofs.Bounds.{scope_past, scope_hit, scope_none}
+use Rattle.std.proofs.Common.{◌≡◌, ◌∙◌, ap, sym, rules, drop, Some, None}
+use Rattle.std.specs.Option.{option_map, option_copied}
+use Rattle.class_summary.specs.Variables.{bound_of, variable_in}
+use Rattle.class_summary.proofs.Bounds.{scope_past, scope_hit, scope_end}
 use Rattle.class_summary.proofs.variables.variable_in.Goals as goal
 
-pub loop-scope-preserved : goal.loop-scope-preserved
-loop-scope-preserved c =
-    let e : c.loop-scope.scopes.items ≡ c.pop.new.self.items ++ c.in-Some.scope ∷ [] = search rules in
-    scope_past c.args.name.now (variable_in c.args.name.now (reverse c.args.scopes.now.items)) c.loop-scope.scopes.items c.pop.new.self.items c.in-Some.scope c.in_ok-bound.field-0 e c.in_ok-bound.ensures.bound c.in_default-2.is c.loop-scope.invariant
+pub loop-i-preserved : goal.loop-i-preserved
+loop-i-preserved c =
+    let none : bound_of c.args.name.now c.index-scopes-i.result.vars ≡ None = ap (bound_of c.args.name.now) (sym c.vars.ensures) ∙ (sym c.variable_named.ensures ∙ ap (option_map (λ v. v.now.bound)) c.in_default.is) in
+    scope_past c.args.name.now (variable_in c.args.name.now (drop c.args.from c.args.scopes.now)) c.args.scopes.now c.loop-i.i c.index-scopes-i.result (search rules) c.index-scopes-i.is none c.loop-i.invariant
 
-pub returns-in-Some : goal.returns-in-Some
-returns-in-Some c =
-    let e : c.loop-scope.scopes.items ≡ c.pop.new.self.items ++ c.in-Some.scope ∷ [] = search rules in
-    scope_hit c.args.name.now (variable_in c.args.name.now (reverse c.args.scopes.now.items)) c.loop-scope.scopes.items c.pop.new.self.items c.push.new.self.items c.in-Some.scope c.take_bound.new.scope c.in_ok-bound.field-0 c.in-Some-2.bound e c.in_ok-bound.ensures.bound c.in-Some-2.is c.in_ok-bound.ensures.rest c.in_ok-push.ensures.items c.loop-scope.invariant
+pub returns-in-loop-i : goal.returns-in-loop-i
+returns-in-loop-i c =
+    let some : bound_of c.args.name.now c.index-scopes-i.result.vars ≡ Some c.in-Some.var.now.bound = ap (bound_of c.args.name.now) (sym c.vars.ensures) ∙ (sym c.variable_named.ensures ∙ ap (option_map (λ v. v.now.bound)) c.in-Some.is) in
+    let b : option_copied c.as_ref.result ≡ c.in-Some.var.now.bound = search rules in
+    let f = scope_hit c.args.name.now (variable_in c.args.name.now (drop c.args.from c.args.scopes.now)) c.args.scopes.now c.loop-i.i c.index-scopes-i.result c.in-Some.var.now.bound (search rules) c.index-scopes-i.is some c.loop-i.invariant in
+    cc (f, b, c.class.ensures)
 
 pub returns : goal.returns
-returns c =
-    let e : c.loop-scope.scopes.items ≡ [] = search rules in
-    scope_none c.args.name.now (variable_in c.args.name.now (reverse c.args.scopes.now.items)) c.loop-scope.scopes.items e c.loop-scope.invariant
+returns c = scope_end c.args.name.now (variable_in c.args.name.now (drop c.args.from c.args.scopes.now)) c.args.scopes.now c.loop-i.i (search rules) c.loop-i.invariant

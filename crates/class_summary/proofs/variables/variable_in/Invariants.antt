@@ -1,9 +1,6 @@
-use Rattle.std.proofs.Common.{◌≡◌, reverse, vec_len}
+use Rattle.std.proofs.Common.{◌≡◌, drop}
 use Rattle.class_summary.specs.Variables.{variable_in}
 use Rattle.class_summary.proofs.variables.variable_in.Given as goal
 
-abbrev pub invariant-loop-scope : goal.invariant-loop-scope
-invariant-loop-scope l = variable_in l.name (reverse l.fn.scopes.items) ≡ variable_in l.name (reverse l.scopes.items)
-
-abbrev pub decreases-loop-scope : goal.decreases-loop-scope
-decreases-loop-scope l = vec_len l.scopes
+abbrev pub invariant-loop-i : goal.invariant-loop-i
+invariant-loop-i l = variable_in l.name (drop l.from l.scopes) ≡ variable_in l.name (drop l.i l.scopes)

@@ -1,4 +1,4 @@
-use Rattle.std.proofs.Common.{rules, ◌≡◌, ◌≤◌, ◌-◌, map, length, arith}
+use Rattle.std.proofs.Common.{rules, ◌≡◌, ◌-◌, map, length, arith}
 use Rattle.std.specs.Arc.{arc_value}
 use Rattle.std.proofs.lemmas.List.{length-map}
 use Rattle.class_summary.specs.Known.{canonical}

@@ -1,4 +1,4 @@
-use Rattle.std.proofs.Common.{rules, ◌≡◌, ◌∙◌, [], map, length, sym, ap}
+use Rattle.std.proofs.Common.{rules, ◌≡◌, ◌∙◌, map, length, sym, ap}
 use Rattle.std.specs.Prelude.{IfOk}
 use Rattle.std.specs.Arc.{arc_value}
 use Rattle.decl_index.specs.History.{Name}

@@ -1,7 +1,7 @@
 use Rattle.std.proofs.Common.{rules, ◌≡◌, true, false}
 use Rattle.decl_index.proofs.Names.{same}
 use Rattle.decl_index.proofs.RowLemmas.{oneof-none}
-use Rattle.decl_index.proofs.Searches.{one-at, not-next, not-all}
+use Rattle.decl_index.proofs.Searches.{one-at, not-next}
 use Rattle.decl_index.proofs.changed.is_one_of.Goals as goal
 
 pub loop-one-init : goal.loop-one-init

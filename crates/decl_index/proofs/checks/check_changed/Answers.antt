@@ -1,4 +1,4 @@
-use Rattle.std.proofs.Common.{rules, ◌≡◌, map, false}
+use Rattle.std.proofs.Common.{rules, map}
 use Rattle.std.specs.Arc.{arc_value}
 use Rattle.decl_index.specs.Changed.{Each, AvoidsItself}
 use Rattle.decl_index.proofs.Kept.{stays_free}

@@ -1,23 +1,15 @@
-use Rattle.std.proofs.Common.{rules, tests, ◌∷◌, [], arith, ap, length, refl, ◌-◌}
-use Rattle.std.proofs.lemmas.List.{length-append}
-use Rattle.documents.proofs.Rests.{rest_drop}
-use Rattle.documents.proofs.LineStarts.{starts-more, last-more}
+use Rattle.std.proofs.Common.{rules, tests, ap, ◌∙◌, ◌≡◌, ◌++◌, ◌∷◌, [], length, List, ℕ, subst, take, drop, ◌-◌}
+use Rattle.documents.specs.Places.{ends_in}
+use Rattle.documents.proofs.Rests.{empty}
+use Rattle.documents.proofs.Moves.{found-whole}
 use Rattle.documents.proofs.starts.learn.Goals as goal
 
-pub loop-rest-preserved : goal.loop-rest-preserved
-loop-rest-preserved c =
-    let text = c.args.text.now in
-    let inv = c.loop-rest.invariant in
-    let next = c.in-Some.next.now in
-    let starts = c.loop-rest.starts.items in
-    let new = c.keep.new.starts.items in
-    let far = c.in-Some.ensures in
-    let rest = rest_drop text c.loop-rest.rest.now next inv.rest far.rest in
-    let pushed = c.if-not-keep.ensures.kept (search (rules, tests)) in
-    record {
-      are = starts-more text c.loop-rest.rest.now next starts new (length text - length next) (search rules) inv.are inv.some inv.last far.value rest refl pushed;
-      some = omega (arith, ap length pushed, length-append starts ((length text - length next) ∷ []));
-      last = last-more text c.loop-rest.rest.now next starts new (length text - length next) inv.some inv.last far.value pushed;
-      rest = rest;
-      text = search rules;
-    }
+pub returns-else-not-find_ends : goal.returns-else-not-find_ends
+returns-else-not-find_ends c = λ some.
+    let old = c.args.starts.now.items in
+    let none : length old ≡ 0 = search (rules, tests) in
+    let pushed : c.push.new.self.items ≡ old ++ 0 ∷ [] = search (rules, tests) in
+    let P : List ℕ → Type 0 = λ x. c.find_ends.new.ends.items ≡ c.push.new.self.items ++ ends_in 0 (take (length c.args.text.now - 0) (drop 0 x)) (drop (length c.args.text.now) x) in
+    let found : P c.args.text.now = subst P c.as_bytes.ensures.value (c.if-not-find_ends.ensures (search (rules, tests))) in
+    found-whole c.args.text.now c.find_ends.new.ends.items
+    (found ∙ ap (λ y. y ++ ends_in 0 (take (length c.args.text.now - 0) (drop 0 c.args.text.now)) (drop (length c.args.text.now) c.args.text.now)) (pushed ∙ ap (λ y. y ++ 0 ∷ []) (empty old none)))

@@ -2,6 +2,7 @@ use Rattle.std.proofs.Common.{rules, ◌≡◌, length, ◌∙◌, [], ◌∷◌
 use Rattle.graphs.specs.Graph.{edges}
 use Rattle.graphs.proofs.Marks.{row_is, begins, goes_on, ends, smaller}
 use Rattle.graphs.proofs.Lists.{found_first, found_more, found_all, free_again, last_in}
+use Rattle.graphs.proofs.Once.{fresh-is, apart-first, apart-more}
 use Rattle.graphs.proofs.reach.ancestors.Goals as goal
 
 pub loop-node-init : goal.loop-node-init
@@ -11,6 +12,7 @@ loop-node-init c =
     record {
       search = begins c.args.graph.now c.args.from (c.args.marks.now.items, c.new-waiting.result.items) (c.mark_row.new.marks.items, c.mark_row.new.waiting.items) m c.requires.marks.0 c.requires.marks.1 (search rules);
       found = rw nothing (found_first (c.args.marks.now.items, c.new-waiting.result.items) (c.mark_row.new.marks.items, c.mark_row.new.waiting.items) (edges c.args.graph.now c.args.from) m c.requires.marks.1);
+      once = rw nothing (apart-first (c.args.marks.now.items, c.new-waiting.result.items) (c.mark_row.new.marks.items, c.mark_row.new.waiting.items) (fresh-is (edges c.args.graph.now c.args.from) (c.args.marks.now.items, c.new-waiting.result.items) (c.mark_row.new.marks.items, c.mark_row.new.waiting.items) (λ b h. rw c.requires.marks.0 (c.requires.range c.args.from b h)) (search rules)) (search rules));
     }
 
 pub loop-node-smaller : goal.loop-node-smaller
@@ -26,12 +28,16 @@ loop-node-preserved c =
     record {
       search = goes_on c.args.graph.now c.args.from c.in-Some.node c.loop-node.marks.items c.loop-node.waiting.items c.pop.new.self.items (c.mark_row-in-Some.new.marks.items, c.mark_row-in-Some.new.waiting.items) c.loop-node.invariant.search popped m;
       found = rw more (found_more c.loop-node.marks.items c.loop-node.found.items c.loop-node.waiting.items c.pop.new.self.items c.in-Some.node (edges c.args.graph.now c.in-Some.node) (c.mark_row-in-Some.new.marks.items, c.mark_row-in-Some.new.waiting.items) c.loop-node.invariant.found popped (c.loop-node.invariant.search.waits c.in-Some.node (rw popped (last_in c.in-Some.node c.pop.new.self.items))) m);
+      once = rw more (apart-more c.loop-node.marks.items c.loop-node.found.items c.loop-node.waiting.items c.pop.new.self.items c.in-Some.node (c.mark_row-in-Some.new.marks.items, c.mark_row-in-Some.new.waiting.items) c.loop-node.invariant.once popped c.loop-node.invariant.search.waits c.loop-node.invariant.found.marked (fresh-is (edges c.args.graph.now c.in-Some.node) (c.loop-node.marks.items, c.pop.new.self.items) (c.mark_row-in-Some.new.marks.items, c.mark_row-in-Some.new.waiting.items) (λ b h. rw c.loop-node.invariant.search.long (c.requires.range c.in-Some.node b h)) (search rules)));
     }
 
 pub returns-clause-exact : goal.returns-clause-exact
 returns-clause-exact c =
     let none : c.loop-node.waiting.items ≡ [] = search rules in
     found_all c.args.graph.now c.args.from c.loop-node.marks.items c.loop-node.found.items c.loop-node.waiting.items c.loop-node.invariant.found (ends c.args.graph.now c.args.from c.loop-node.marks.items c.loop-node.waiting.items c.loop-node.invariant.search none) none
+
+pub returns-clause-distinct : goal.returns-clause-distinct
+returns-clause-distinct c = c.loop-node.invariant.once.found
 
 pub returns-clause-free : goal.returns-clause-free
 returns-clause-free c =

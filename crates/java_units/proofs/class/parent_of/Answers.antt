@@ -6,7 +6,7 @@ use Rattle.java_units.proofs.class.parent_of.Goals as goal
 pub returns-then-begins : goal.returns-then-begins
 returns-then-begins c =
     let e = parent_hit c.args.places.now c.loop-i.i _ _ (search rules) (sym c.begins.ensures.value ∙ c.if-begins.true) c.loop-i.invariant.rest in
-    let v = c.in_ok-type_text.ensures ∙ ap (type_text 0) c.tail.ensures in
+    let v = c.in_ok-type_text.ensures.exact ∙ ap (type_text 0) c.tail.ensures.rest in
     c.in_ok-push.ensures.ok ∙ (ap (λ r. r ++ c.in_ok-type_text.field-0 ∷ []) c.loop-i.invariant.none ∙ (ap (λ y. y ∷ []) v ∙ e))
 
 pub loop-i-preserved : goal.loop-i-preserved

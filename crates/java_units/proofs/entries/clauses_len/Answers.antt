@@ -8,7 +8,7 @@ pub loop-n-init : goal.loop-n-init
 loop-n-init c = spans_none clause_len (seen c.args.lexemes.now)
 
 pub returns-then-len-eq0-clause-value : goal.returns-then-len-eq0-clause-value
-returns-then-len-eq0-clause-value c = spans_end clause_len (seen c.args.lexemes.now) _ c.loop-n.n c.clause_len-len.result c.tail.ensures c.clause_len-len.ensures.value (search rules) c.loop-n.invariant
+returns-then-len-eq0-clause-value c = spans_end clause_len (seen c.args.lexemes.now) _ c.loop-n.n c.clause_len-len.result c.tail.ensures.rest c.clause_len-len.ensures.value (search rules) c.loop-n.invariant
 
 pub loop-n-preserved : goal.loop-n-preserved
-loop-n-preserved c = spans_on clause_len (seen c.args.lexemes.now) _ c.loop-n.n c.clause_len-len.result c.tail.ensures c.clause_len-len.ensures.value (search rules) c.clause_len-len.ensures.within c.loop-n.invariant
+loop-n-preserved c = spans_on clause_len (seen c.args.lexemes.now) _ c.loop-n.n c.clause_len-len.result c.tail.ensures.rest c.clause_len-len.ensures.value (search rules) c.clause_len-len.ensures.within c.loop-n.invariant

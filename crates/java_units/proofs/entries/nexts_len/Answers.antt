@@ -8,7 +8,7 @@ pub loop-entry-init : goal.loop-entry-init
 loop-entry-init c = spans_none (next_len c.args.entry) (seen c.args.lexemes.now)
 
 pub returns-then-len-eq0-clause-value : goal.returns-then-len-eq0-clause-value
-returns-then-len-eq0-clause-value c = spans_end (next_len c.args.entry) (seen c.args.lexemes.now) _ c.loop-entry.n c.next_len-len.result c.tail.ensures c.next_len-len.ensures.value (search rules) c.loop-entry.invariant
+returns-then-len-eq0-clause-value c = spans_end (next_len c.args.entry) (seen c.args.lexemes.now) _ c.loop-entry.n c.next_len-len.result c.tail.ensures.rest c.next_len-len.ensures.value (search rules) c.loop-entry.invariant
 
 pub loop-entry-preserved : goal.loop-entry-preserved
-loop-entry-preserved c = spans_on (next_len c.args.entry) (seen c.args.lexemes.now) _ c.loop-entry.n c.next_len-len.result c.tail.ensures c.next_len-len.ensures.value (search rules) c.next_len-len.ensures.within c.loop-entry.invariant
+loop-entry-preserved c = spans_on (next_len c.args.entry) (seen c.args.lexemes.now) _ c.loop-entry.n c.next_len-len.result c.tail.ensures.rest c.next_len-len.ensures.value (search rules) c.next_len-len.ensures.within c.loop-entry.invariant

@@ -8,7 +8,7 @@ pub loop-n-init : goal.loop-n-init
 loop-n-init c = spans_none name_tail (seen c.args.lexemes.now)
 
 pub returns-then-len-eq0-clause-value : goal.returns-then-len-eq0-clause-value
-returns-then-len-eq0-clause-value c = spans_end name_tail (seen c.args.lexemes.now) _ c.loop-n.n c.name_tail-len.result c.tail.ensures c.name_tail-len.ensures.value (search rules) c.loop-n.invariant
+returns-then-len-eq0-clause-value c = spans_end name_tail (seen c.args.lexemes.now) _ c.loop-n.n c.name_tail-len.result c.tail.ensures.rest c.name_tail-len.ensures.value (search rules) c.loop-n.invariant
 
 pub loop-n-preserved : goal.loop-n-preserved
-loop-n-preserved c = spans_on name_tail (seen c.args.lexemes.now) _ c.loop-n.n c.name_tail-len.result c.tail.ensures c.name_tail-len.ensures.value (search rules) c.name_tail-len.ensures.within c.loop-n.invariant
+loop-n-preserved c = spans_on name_tail (seen c.args.lexemes.now) _ c.loop-n.n c.name_tail-len.result c.tail.ensures.rest c.name_tail-len.ensures.value (search rules) c.name_tail-len.ensures.within c.loop-n.invariant

@@ -2,11 +2,12 @@ use Rattle.std.proofs.Common.{◌≡◌, ◌++◌, ◌∷◌, [], sym, ap, ◌�
 use Rattle.java_units.specs.Signs.{seen}
 use Rattle.java_units.specs.Blocks.{seen_back}
 use Rattle.java_units.proofs.Walks.{seen-nil}
-use Rattle.java_units.proofs.BlockLaws.{all_within, turn, turned}
+use Rattle.java_tokens.proofs.Total.{all_within}
+use Rattle.java_units.proofs.BlockLaws.{turn, turned}
 use Rattle.java_units.proofs.reading.lexemes.Goals as goal
 
 pub lexemes_back-requires : goal.lexemes_back-requires
-lexemes_back-requires c = all_within c.args.text.now c.args.tokens.now c.utf8.text c.requires
+lexemes_back-requires c = all_within c.args.text.now c.args.tokens.now c.utf8.text c.requires.own_tokens
 
 pub loop-lexeme-init : goal.loop-lexeme-init
 loop-lexeme-init c =
@@ -21,4 +22,4 @@ loop-lexeme-preserved c =
 pub returns : goal.returns
 returns c =
     let e : c.loop-lexeme.back.items ≡ [] = search rules in
-    turned c.loop-lexeme.all.items c.loop-lexeme.back.items _ e c.loop-lexeme.invariant
+    record { exact = turned c.loop-lexeme.all.items c.loop-lexeme.back.items _ e c.loop-lexeme.invariant }

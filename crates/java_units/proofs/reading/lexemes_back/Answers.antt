@@ -21,7 +21,7 @@ loop-number-preserved c =
     let nothing : Token = record { kind = White; start = 0; end = 0 } in
     let len : c.len.result ≡ length c.loop-number.back.items = search rules in
     backs_push c.args.text.now c.args.tokens.now _ c.loop-number.number (c.loop-number.number - 1) c.loop-number.back.items c.push.new.self.items c.loop-number.closers.items c.block.new.closers.items _ (omega arith) (sym c.is_blank.ensures ∙ c.if-is_blank.false)
-    c.word-word.ensures (c.is_name-is_name.ensures ∙ ap (λ x. is_word (slice_index_or c.args.tokens.now (c.loop-number.number - 1) nothing).kind && not (has reserved x)) c.word-word.ensures) refl
+    c.word-word.ensures (c.is_name-is_name.ensures.value ∙ ap (λ x. is_word (slice_index_or c.args.tokens.now (c.loop-number.number - 1) nothing).kind && not (has reserved x)) c.word-word.ensures) refl
     (c.in_ok-holds.ensures.len ∙ ap (λ n. block_len c.word-word.result.now n (from_last c.loop-number.closers.items)) len)
     (c.in_ok-holds.ensures.kept ∙ ap (λ n. closers_after c.word-word.result.now n (from_last c.loop-number.closers.items)) len)
     c.in_ok-push.ensures.items c.loop-number.invariant

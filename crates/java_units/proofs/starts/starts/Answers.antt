@@ -15,9 +15,9 @@ pub returns-then-n-eq0 : goal.returns-then-n-eq0
 returns-then-n-eq0 c = starts_end (run_len c.args.run) (seens c.loop-rest.all.items) (seen c.loop-rest.rest.now) c.run_len-n.result _ c.run_len-n.ensures.value (search rules) c.loop-rest.invariant
 
 pub loop-rest-preserved : goal.loop-rest-preserved
-loop-rest-preserved c = starts_on (run_len c.args.run) (seens c.loop-rest.all.items) (seens c.push.new.self.items) (seen c.loop-rest.rest.now) (seen c.tail-rest.result.now) c.run_len-n.result _ (seens-push c.loop-rest.all.items c.push.new.self.items c.loop-rest.rest (search rules)) c.run_len-n.ensures.value (search rules) (omega (arith, c.run_len-n.ensures.within)) c.tail-rest.ensures c.loop-rest.invariant
+loop-rest-preserved c = starts_on (run_len c.args.run) (seens c.loop-rest.all.items) (seens c.push.new.self.items) (seen c.loop-rest.rest.now) (seen c.tail-rest.result.now) c.run_len-n.result _ (seens-push c.loop-rest.all.items c.push.new.self.items c.loop-rest.rest (search rules)) c.run_len-n.ensures.value (search rules) (omega (arith, c.run_len-n.ensures.within)) c.tail-rest.ensures.rest c.loop-rest.invariant
 
 pub loop-rest-smaller : goal.loop-rest-smaller
 loop-rest-smaller c =
     let z : c.run_len-n.result ≢ 0 = search rules in
-    omega (arith, ap length c.tail-rest.ensures, length-drop c.run_len-n.result (seen c.loop-rest.rest.now), c.run_len-n.ensures.within)
+    omega (arith, ap length c.tail-rest.ensures.rest, length-drop c.run_len-n.result (seen c.loop-rest.rest.now), c.run_len-n.ensures.within)

@@ -23,7 +23,7 @@ loop-preserved-then-not-is_class c =
     let g : Frame = record { around = c.in-Some.frame.around; rest = c.tail-after.result } in
     let z = seen_some c.in-Some.frame.rest.now (sym c.is_empty.ensures ∙ c.if-is_empty.false) in
     step_plain c.args.count (seen c.args.lexemes.now) c.loop.classes c.loop.frames.items c.pop.new.self.items c.push-in-loop.new.self.items c.in-Some.frame g
-    c.in-Some.ensures.items c.in_ok-push-2.ensures.items refl (c.tail-after.ensures ∙ ap (λ n. drop n rest) c.piece_len.ensures.value) z (sym c.is_class.ensures ∙ c.if-not-is_class.true) c.loop.invariant
+    c.in-Some.ensures.items c.in_ok-push-2.ensures.items refl (c.tail-after.ensures.rest ∙ ap (λ n. drop n rest) c.piece_len.ensures.value) z (sym c.is_class.ensures ∙ c.if-not-is_class.true) c.loop.invariant
 
 pub loop-preserved : goal.loop-preserved
 loop-preserved c =
@@ -32,5 +32,5 @@ loop-preserved c =
     let i : Frame = record { around = Some (record { number = c.in_ok-number.number; kind = c.in_ok-class.class.kind }); rest = c.members_of.result } in
     step_class c.args.count (seen c.args.lexemes.now) c.loop.classes c.push-in-loop-2.new.self c.loop.frames.items c.pop.new.self.items c.push-in-loop.new.self.items c.push-in-loop-3.new.self.items
     c.in-Some.frame g i c.in_ok-class.class c.in_ok-number.number
-    c.in-Some.ensures.items c.in_ok-push-2.ensures.items refl (c.tail-after.ensures ∙ ap (λ n. drop n rest) c.piece_len.ensures.value) (sym c.is_class.ensures ∙ c.if-not-is_class.false)
+    c.in-Some.ensures.items c.in_ok-push-2.ensures.items refl (c.tail-after.ensures.rest ∙ ap (λ n. drop n rest) c.piece_len.ensures.value) (sym c.is_class.ensures ∙ c.if-not-is_class.false)
     c.in_ok-class.ensures c.in_ok-push-3.ensures.ok (c.in_ok-number.ensures ∙ c.len.ensures) refl c.members_of.ensures c.in_ok-push-4.ensures.items c.loop.invariant

@@ -4,6 +4,7 @@ use Rattle.java_units.specs.Units.{IsUnit}
 use Rattle.java_units.proofs.UnitLaws.{nested_unit, one_unit}
 use Rattle.java_units.proofs.UnitThere.{unit_there}
 use Rattle.java_units.proofs.FewDims.{few_dims}
+use Rattle.java_units.proofs.Counts.{few_unit}
 use Rattle.java_units.proofs.unit.read_unit.Goals as goal
 
 pub returns-in_err-all-clause-total : goal.returns-in_err-all-clause-total
@@ -41,3 +42,9 @@ returns-clause-dims c =
     let u : unit.Unit = record { «package» = c.in_ok-package.package; imports = c.in_ok-imports.imports; classes = c.in_ok-classes.classes } in
     let is : IsUnit c.args.text.now c.args.tokens.now u = search rules in
     few_dims c.args.text.now c.args.tokens.now u is
+
+pub returns-clause-counts : goal.returns-clause-counts
+returns-clause-counts c =
+    let u : unit.Unit = record { «package» = c.in_ok-package.package; imports = c.in_ok-imports.imports; classes = c.in_ok-classes.classes } in
+    let is : IsUnit c.args.text.now c.args.tokens.now u = search rules in
+    few_unit c.args.text.now c.args.tokens.now u is

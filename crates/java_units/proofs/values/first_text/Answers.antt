@@ -4,7 +4,7 @@ use Rattle.java_units.proofs.Lists.{first_none, first_some}
 use Rattle.java_units.proofs.values.first_text.Goals as goal
 
 pub returns-then-is_empty : goal.returns-then-is_empty
-returns-then-is_empty c = first_none c.args.lexemes.now (sym c.is_empty.ensures ∙ c.if-is_empty.true)
+returns-then-is_empty c = record { value = first_none c.args.lexemes.now (sym c.is_empty.ensures ∙ c.if-is_empty.true) }
 
 pub returns : goal.returns
-returns c = first_some c.args.lexemes.now _ (length-some c.args.lexemes.now (sym c.is_empty.ensures ∙ c.if-is_empty.false))
+returns c = record { value = first_some c.args.lexemes.now _ (length-some c.args.lexemes.now (sym c.is_empty.ensures ∙ c.if-is_empty.false)) }

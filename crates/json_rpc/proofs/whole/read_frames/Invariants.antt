@@ -1,6 +1,13 @@
-use Rattle.std.proofs.Common.{◌≡◌, None}
+use Rattle.std.proofs.Common.{◌≡◌, ◌≤◌, None}
 use Rattle.json_rpc.specs.Whole.{Follows, bodies_of}
 use Rattle.json_rpc.proofs.whole.read_frames.Given as goal
 
 abbrev pub invariant-loop : goal.invariant-loop
-invariant-loop g l = (l.frames.fault ≡ None) × Follows l.frames (g.S.Source.left l.fn.source) (g.S.Source.left l.source) (bodies_of l.bodies.items)
+invariant-loop g l =
+    let left = g.S.Source.left in
+    let faults = g.S.Source.faults in
+    record {
+      fault : l.frames.fault ≡ None;
+      follows : Follows l.frames (left l.fn.source) (left l.source) (bodies_of l.bodies.items);
+      later : faults l.fn.source ≤ faults l.source;
+    }

@@ -1,10 +1,9 @@
-use Rattle.std.proofs.Common.{◌≤◌, take}
-use Rattle.std.specs.Io.KnownBytes.{Appends}
-use Rattle.json.specs.Print.{escape}
+use Rattle.std.proofs.Common.{◌≤◌}
+use Rattle.json_rpc.specs.Replies.{HasRun}
 use Rattle.json_rpc.proofs.write.write_escaped.Given as goal
 
 abbrev pub invariant-loop-i : goal.invariant-loop-i
 invariant-loop-i g l = record {
-  front : Appends (g.K.Sink.written l.fn.sink) (g.K.Sink.written l.sink) (escape (take l.i l.bytes));
+  run : HasRun (g.K.Sink.written l.fn.sink) (g.K.Sink.written l.sink) l.bytes l.done l.i;
   later : g.K.Sink.faults l.fn.sink ≤ g.K.Sink.faults l.sink;
 }

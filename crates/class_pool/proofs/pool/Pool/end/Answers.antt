@@ -1,4 +1,3 @@
-use Rattle.std.proofs.Common.{◌≡◌, subst}
 use Rattle.class_pool.proofs.IndexLaws.{end_of}
 use Rattle.class_pool.specs.Views.{index_seen}
 use Rattle.class_pool.proofs.pool.Pool.end.Goals as goal

@@ -1,4 +1,4 @@
-use Rattle.std.proofs.Common.{◌≡◌, ◌∙◌, sym, ap}
+use Rattle.std.proofs.Common.{◌∙◌, sym, ap}
 use Rattle.class_pool.specs.Spelling.{Head}
 use Rattle.class_pool.specs.Views.{index_seen}
 use Rattle.class_pool.proofs.IndexLaws.{found_in}

@@ -1,4 +1,4 @@
-use Rattle.std.proofs.Common.{◌≡◌, ◌∙◌, subst, ap, List, ℕ, get_or}
+use Rattle.std.proofs.Common.{◌∙◌, ap, List, ℕ, get_or}
 use Rattle.class_pool.specs.Spelling.{Head}
 use Rattle.class_pool.specs.Index.{start_in}
 use Rattle.class_pool.specs.Views.{index_seen}

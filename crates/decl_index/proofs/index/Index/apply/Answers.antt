@@ -5,7 +5,7 @@ use Rattle.decl_index.specs.declared.change.ChangeFault.TheVariants.{OutOfMemory
 use Rattle.decl_index.specs.declared.change.Change.{Change}
 use Rattle.decl_index.specs.declared.change.Change.TheVariants.{Publish, Withdraw}
 use Rattle.decl_index.specs.History.{IsState}
-use Rattle.decl_index.specs.Refusals.{Refuses, IsTooHigh}
+use Rattle.decl_index.specs.Refusals.{RefusesFor, IsTooHigh}
 use Rattle.decl_index.specs.Steps.{IsPublished, IsPublishFault, IsWithdrawn}
 use Rattle.decl_index.proofs.Results.{ok_then, err_then, or_then}
 use Rattle.decl_index.proofs.State.{add_published, publish_lawful, publish_refused, add_withdrawn, withdraw_lawful, withdraw_refused}
@@ -21,8 +21,8 @@ returns-in-Publish c =
     let failed : IfErr c.published.result (λ fault. (fault ≡ OutOfMemory) ⊎ IsPublishFault puts removes old fault) = search rules in
     record {
       state = λ h is. subst (λ (change : Change). IfOk c.published.result (λ next. IsState (h ++ change ∷ []) next)) (sym c.in-Publish.is) (ok_then (λ next. IsPublished puts removes counts old next) (λ next. IsState (h ++ Publish puts removes counts ∷ []) next) c.published.result made (λ next p. add_published h puts removes counts old next is p));
-      lawful = λ h is. subst (λ (change : Change). IfOk c.published.result (λ next. (fault : ChangeFault) → Refuses h change fault → ⊥)) (sym c.in-Publish.is) (ok_then (λ next. IsPublished puts removes counts old next) (λ next. (fault : ChangeFault) → Refuses h (Publish puts removes counts) fault → ⊥) c.published.result made (λ next p. publish_lawful h puts removes counts old next is p));
-      refused = λ h is. subst (λ (change : Change). IfErr c.published.result (λ fault. (fault ≡ OutOfMemory) ⊎ Refuses h change fault)) (sym c.in-Publish.is) (err_then (λ fault. (fault ≡ OutOfMemory) ⊎ IsPublishFault puts removes old fault) (λ fault. (fault ≡ OutOfMemory) ⊎ Refuses h (Publish puts removes counts) fault) c.published.result failed (λ fault p. or_then p (publish_refused h puts removes counts old fault is)));
+      lawful = λ h is. subst (λ (change : Change). IfOk c.published.result (λ next. (fault : ChangeFault) → RefusesFor h change fault → ⊥)) (sym c.in-Publish.is) (ok_then (λ next. IsPublished puts removes counts old next) (λ next. (fault : ChangeFault) → RefusesFor h (Publish puts removes counts) fault → ⊥) c.published.result made (λ next p. publish_lawful h puts removes counts old next is p));
+      refused = λ h is. subst (λ (change : Change). IfErr c.published.result (λ fault. (fault ≡ OutOfMemory) ⊎ RefusesFor h change fault)) (sym c.in-Publish.is) (err_then (λ fault. (fault ≡ OutOfMemory) ⊎ IsPublishFault puts removes old fault) (λ fault. (fault ≡ OutOfMemory) ⊎ RefusesFor h (Publish puts removes counts) fault) c.published.result failed (λ fault p. or_then p (publish_refused h puts removes counts old fault is)));
     }
 
 pub returns-in-Withdraw : goal.returns-in-Withdraw
@@ -33,6 +33,6 @@ returns-in-Withdraw c =
     let failed : IfErr c.withdrawn.result (λ fault. (fault ≡ OutOfMemory) ⊎ IsTooHigh old.number m fault) = search rules in
     record {
       state = λ h is. subst (λ (change : Change). IfOk c.withdrawn.result (λ next. IsState (h ++ change ∷ []) next)) (sym c.in-Withdraw.is) (ok_then (λ next. IsWithdrawn m old next) (λ next. IsState (h ++ Withdraw m ∷ []) next) c.withdrawn.result made (λ next p. add_withdrawn h m old next is p));
-      lawful = λ h is. subst (λ (change : Change). IfOk c.withdrawn.result (λ next. (fault : ChangeFault) → Refuses h change fault → ⊥)) (sym c.in-Withdraw.is) (ok_then (λ next. IsWithdrawn m old next) (λ next. (fault : ChangeFault) → Refuses h (Withdraw m) fault → ⊥) c.withdrawn.result made (λ next p. withdraw_lawful h m old next is p));
-      refused = λ h is. subst (λ (change : Change). IfErr c.withdrawn.result (λ fault. (fault ≡ OutOfMemory) ⊎ Refuses h change fault)) (sym c.in-Withdraw.is) (err_then (λ fault. (fault ≡ OutOfMemory) ⊎ IsTooHigh old.number m fault) (λ fault. (fault ≡ OutOfMemory) ⊎ Refuses h (Withdraw m) fault) c.withdrawn.result failed (λ fault p. or_then p (withdraw_refused h m old fault is)));
+      lawful = λ h is. subst (λ (change : Change). IfOk c.withdrawn.result (λ next. (fault : ChangeFault) → RefusesFor h change fault → ⊥)) (sym c.in-Withdraw.is) (ok_then (λ next. IsWithdrawn m old next) (λ next. (fault : ChangeFault) → RefusesFor h (Withdraw m) fault → ⊥) c.withdrawn.result made (λ next p. withdraw_lawful h m old next is p));
+      refused = λ h is. subst (λ (change : Change). IfErr c.withdrawn.result (λ fault. (fault ≡ OutOfMemory) ⊎ RefusesFor h change fault)) (sym c.in-Withdraw.is) (err_then (λ fault. (fault ≡ OutOfMemory) ⊎ IsTooHigh old.number m fault) (λ fault. (fault ≡ OutOfMemory) ⊎ RefusesFor h (Withdraw m) fault) c.withdrawn.result failed (λ fault p. or_then p (withdraw_refused h m old fault is)));
     }

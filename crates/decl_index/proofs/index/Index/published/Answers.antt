@@ -1,14 +1,14 @@
 use Rattle.std.proofs.Common.{rules, ◌≡◌, ◌⊎◌, ◌++◌, sym, subst, map, List, ℕ}
-use Rattle.std.specs.Prelude.{unwrap_or, IfErr}
+use Rattle.std.specs.Prelude.{IfErr}
 use Rattle.decl_index.specs.declared.change.ChangeFault.{ChangeFault}
 use Rattle.decl_index.specs.declared.change.ChangeFault.TheVariants.{OutOfMemory}
 use Rattle.decl_index.specs.Steps.{IsPublishFault}
 use Rattle.std.specs.Arc.{arc_value}
-use Rattle.decl_index.specs.History.{Name, use_of, counted, remove, put}
+use Rattle.decl_index.specs.History.{Name, count_at, or_else, counted, remove, put}
 use Rattle.decl_index.specs.Places.{Leaves, count_pairs}
 use Rattle.decl_index.specs.Refusals.{IsSound, IsFaultOf}
 use Rattle.decl_index.proofs.Places.{leaves-then}
-use Rattle.decl_index.proofs.CountLemmas.{counted-use}
+use Rattle.decl_index.proofs.CountLemmas.{counted-at}
 use Rattle.decl_index.proofs.Results.{or_then, err_then}
 use Rattle.decl_index.proofs.index.Index.published.Goals as goal
 
@@ -39,7 +39,8 @@ returns c =
     record {
       state = record {
         classes = leaves-then _ _ _ _ _ first second;
-        counts = subst (λ (ps : List (Name × ℕ)). (key : Name) → use_of (count_pairs (arc_value c.in_ok-with_counts.field-0)) key ≡ unwrap_or (counted key c.args.counts.now) (use_of ps key)) (sym view) (counted-use (arc_value c.self.inside.counts) (arc_value c.in_ok-with_counts.field-0) c.args.counts.now c.in_ok-with_counts.ensures);
+        counts = subst (λ (ps : List (Name × ℕ)). (key : Name) → count_at (count_pairs (arc_value c.in_ok-with_counts.field-0)) key ≡ or_else (counted key c.args.counts.now) (count_at ps key)) (sym view) (counted-at (arc_value c.self.inside.counts) (arc_value c.in_ok-with_counts.field-0) c.args.counts.now c.in_ok-with_counts.ensures.counts);
+        keys = c.in_ok-with_counts.ensures.keys;
         number = search rules;
         sound = sound;
       };

@@ -11,4 +11,4 @@ pub returns : goal.returns
 returns c =
     let view : c.args.self.now.counts ≡ count_pairs (arc_value c.self.inside.counts) = search rules in
     let got : c.unwrap_or.result ≡ unwrap_or (get_by_text (arc_value c.self.inside.counts) c.args.key.now) 0 = search rules in
-    got ∙ sym (ap (λ ps. use_of ps c.args.key.now) view ∙ pairs-use (arc_value c.self.inside.counts) c.args.key.now)
+    record { count = got ∙ sym (ap (λ ps. use_of ps c.args.key.now) view ∙ pairs-use (arc_value c.self.inside.counts) c.args.key.now) }

@@ -1,18 +1,12 @@
-use Rattle.std.proofs.Common.{rules, ◌≡◌, ◌++◌, List, ℕ, subst, take, drop, string_bytes}
-use Rattle.std.proofs.lemmas.Str.{IsUtf8-string_bytes}
-use Rattle.std.specs.Str.{IsUtf8}
+use Rattle.std.proofs.Common.{rules, subst, refl, ◌≡◌, ◌++◌, take, drop, List, ℕ}
 use Rattle.documents.specs.Places.{AreStarts}
-use Rattle.documents.proofs.LineStarts.{starts-replaced}
+use Rattle.documents.proofs.Moves.{edited}
 use Rattle.documents.proofs.document.Document.replace.Goals as goal
 
-pub invariant_of-self-2 : goal.invariant_of-self-2
-invariant_of-self-2 c =
+pub update-requires-clause-edited : goal.update-requires-clause-edited
+update-requires-clause-edited c =
     let old = c.args.self.now in
-    let new = c.args.new.now in
     let same = c.self.view_is in
-    let P : List ℕ → Type 0 = λ x. IsUtf8 x in
     let Q : List ℕ → Type 0 = λ x. AreStarts x c.self.inside.starts.items in
-    let u : IsUtf8 old = subst P same (IsUtf8-string_bytes c.self.inside.text) in
-    let all : string_bytes c.replace_range.new.self ≡ (take c.args.from old ++ new) ++ drop c.args.to old = search rules in
-    let kept : c.truncate.new.self.items ≡ take c.args.line c.self.inside.starts.items = search rules in
-    (search rules, starts-replaced old new (string_bytes c.replace_range.new.self) c.self.inside.starts.items c.truncate.new.self.items c.args.line c.args.from c.args.to u c.utf8.new c.requires.from c.requires.to (subst Q same c.self.invariant.1) c.requires.lines all kept)
+    let all : c.as_str.result.now ≡ (take c.args.from old ++ c.args.new.now) ++ drop c.args.to old = search rules in
+    edited c.self.inside.starts.items old c.args.new.now c.as_str.result.now c.args.from c.args.to c.saturating_sub-edge.result _ (subst Q same c.self.invariant.1) c.requires.range c.requires.to.0 all c.saturating_sub-edge.ensures refl

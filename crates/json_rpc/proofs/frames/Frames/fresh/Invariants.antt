@@ -1,6 +1,5 @@
-use Rattle.std.proofs.Common.{◌≡◌, ◌≤◌, ◌+◌, ◌^◌, ◌-◌, ◌++◌, List, ℕ, length}
-use Rattle.std.specs.Io.KnownBytes.{Consumes}
-use Rattle.json_rpc.specs.Streams.{Progress, Taken, budget}
+use Rattle.std.proofs.Common.{◌≤◌, ◌+◌, ◌^◌, ◌-◌, length}
+use Rattle.json_rpc.specs.Streams.{Taken, budget}
 use Rattle.json_rpc.proofs.frames.Frames.fresh.Given as goal
 
 abbrev pub invariant-loop-body : goal.invariant-loop-body

@@ -17,4 +17,4 @@ pub returns : goal.returns
 returns c =
     let valid : IsValid c.args.env.now = subst (λ (g : Parts). IsValid g) c.parts.ensures.value c.parts.ensures.valid in
     let solved : IsSolution c.args.limit c.in_ok-edges.edges.items c.in_ok-numbers.numbers.items = subst (λ (es : List Edge). IsSolution c.args.limit es c.in_ok-numbers.numbers.items) c.as_slice.ensures.value c.in_ok-numbers.ensures.solution in
-    record { least = are-least c.args.env.now c.args.compressed.now c.args.patterns.now c.in_ok-edges.edges.items c.in_ok-numbers.numbers.items c.args.limit (length c.states-count.result.now) valid c.requires.compressed c.requires.patterns (valid-depth c.args.env.now valid) c.requires.limit (ap length c.states-count.ensures.value) c.in_ok-edges.ensures.all c.in_ok-numbers.ensures.as_many solved }
+    record { least = are-least c.args.env.now c.args.compressed.now c.args.patterns.now c.in_ok-edges.edges.items c.in_ok-numbers.numbers.items c.args.limit (length c.states-count.result.now) valid c.requires.compressed c.requires.patterns.1 (valid-depth c.args.env.now valid) c.requires.limit (ap length c.states-count.ensures.value) c.in_ok-edges.ensures.all c.in_ok-numbers.ensures.as_many solved }

@@ -1,18 +1,15 @@
-use Rattle.std.proofs.Common.{◌≡◌, ◌≤◌, ◌+◌, ◌-◌, length, true, false, cond}
-use Rattle.terms.specs.Listing.{Skipped}
-use Rattle.listing.specs.Found.{IsKept, IsLonger, IsNoFurther}
+use Rattle.std.proofs.Common.{◌≡◌, ◌≤◌, ◌+◌, ◌-◌, length, false, cond}
+use Rattle.listing.specs.Found.{IsLonger, IsNoFurther}
 use Rattle.listing.proofs.growing.Growing.lengthen.Given as goal
 
 abbrev pub invariant-loop-alloc : goal.invariant-loop-alloc
 invariant-loop-alloc g l = record {
-  kept : IsKept (g.E.Levels.progress l.self.levels) l.self.found.items l.self.waiting l.self.keyed.items l.self.weight l.self.below l.self.at_end;
-  begun : Skipped (g.E.Levels.progress l.self.levels).parts l.self.below (g.E.Levels.reached l.self.levels);
-  parts : (g.E.Levels.progress l.self.levels).parts ≡ (g.E.Levels.progress l.fn.self.levels).parts;
-  longer : IsLonger l.fn.self.found.items l.self.found.items;
-  bound : IsNoFurther (g.E.Levels.progress l.self.levels).parts l.wanted l.fn.self.found.items l.self.found.items;
-  end : l.self.at_end ≡ false → l.fn.self.at_end ≡ false;
-  pops_rise : g.E.Levels.popped l.fn.self.levels ≤ g.E.Levels.popped l.self.levels;
+  parts : l.self.listed.parts ≡ l.fn.self.listed.parts;
+  longer : IsLonger l.fn.self.listed.found l.self.listed.found;
+  bound : IsNoFurther l.self.listed.parts l.wanted l.fn.self.listed.found l.self.listed.found;
+  end : l.self.listed.at_end ≡ false → l.fn.self.listed.at_end ≡ false;
+  pops_rise : l.fn.self.listed.pops ≤ l.self.listed.pops;
 }
 
 abbrev pub decreases-loop-alloc : goal.decreases-loop-alloc
-decreases-loop-alloc g l = (l.wanted - length l.self.found.items) + cond l.self.at_end 0 1
+decreases-loop-alloc g l = (l.wanted - length l.self.listed.found) + cond l.self.listed.at_end 0 1

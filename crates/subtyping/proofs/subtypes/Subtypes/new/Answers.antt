@@ -17,3 +17,6 @@ returns g c =
     let without : IsWithout c.in_ok-names.names (graph_of (g.C.Classes.listed c.args.known.now) c.in_ok-names.names) c.in_ok-steps.steps = subst (λ k. IsWithout c.in_ok-names.names k c.in_ok-steps.steps) (c.as_slice.ensures ∙ c.in_ok-graph.ensures) c.in_ok-steps.ensures in
     let rows : AreRows c.in_ok-steps.steps c.in_ok-rows.rows = subst (λ k. AreRows k c.in_ok-rows.rows) c.as_slice-2.ensures c.in_ok-rows.ensures in
     record { of_known = ancestry-of (g.C.Classes.listed c.args.known.now) c.in_ok-names.names c.in_ok-steps.steps c.in_ok-names.ensures without c.in_ok-rows.rows rows }
+
+pub invariant_of-result : goal.invariant_of-result
+invariant_of-result g c = c.in_ok-rows.ensures.rises

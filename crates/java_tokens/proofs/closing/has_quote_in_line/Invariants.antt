@@ -1,0 +1,6 @@
+use Rattle.std.proofs.Common.{◌≡◌, drop, false}
+use Rattle.java_tokens.specs.Rules.{has_quote_in_line}
+use Rattle.java_tokens.proofs.closing.has_quote_in_line.Given as goal
+
+abbrev pub invariant-loop-i : goal.invariant-loop-i
+invariant-loop-i l = has_quote_in_line l.mark false l.bytes ≡ has_quote_in_line l.mark l.taken (drop l.i l.bytes)

@@ -1,0 +1,16 @@
+use Rattle.json_rpc.proofs.Parts.{frame-at, frame-next, frame_of-frame}
+use Rattle.json_rpc.proofs.Wholes.{next-frame}
+use Rattle.json_rpc.proofs.Stops.{next-refused}
+use Rattle.json_rpc.proofs.laws.frame_laws.Goals as goal
+
+pub returns-clause-read : goal.returns-clause-read
+returns-clause-read c = frame-next
+
+pub returns-clause-written : goal.returns-clause-written
+returns-clause-written c = frame_of-frame
+
+pub returns-clause-exactly : goal.returns-clause-exactly
+returns-clause-exactly c = λ at bytes body rest. (next-frame at bytes body rest, λ f. frame-at at bytes body rest f)
+
+pub returns-clause-refused : goal.returns-clause-refused
+returns-clause-refused c = next-refused
