@@ -40,10 +40,7 @@ fn is_list(word: &String) -> bool
 }
 
 /// Runs `list` over one end: reads a sheet from its source to the end, and writes its list to its sink.
-fn list<S: Source + Drop, K: Sink + Drop, H: Shelf + Drop>(
-    alloc: Global,
-    end: &mut End<S, K, H>,
-) -> Ending
+fn list<S: Source, K: Sink, H: Shelf>(alloc: Global, end: &mut End<S, K, H>) -> Ending
     ensures ending { EndsBy result (S.left end.old.source) (S.left end.new.source) (K.written end.old.sink) (K.written end.new.sink)
         (S.faults end.old.source) (S.faults end.new.source) (K.faults end.old.sink) (K.faults end.new.sink) }
     ensures shelf { end.new.shelf ≡ end.old.shelf }
@@ -70,7 +67,7 @@ fn list<S: Source + Drop, K: Sink + Drop, H: Shelf + Drop>(
 /// one end's source and writes its list to the end's sink. The code is 0 where all was read and written, 2
 /// where the words or the ends don't fit, 3 where the input is no sheet (its line and cause), 4 or 5 where
 /// the source or the sink failed, 6 where memory was wanting.
-pub fn run<S: Source + Drop, K: Sink + Drop, H: Shelf + Drop>(
+pub fn run<S: Source, K: Sink, H: Shelf>(
     alloc: Global,
     words: &[String],
     ends: &mut Vec<End<S, K, H>>,

@@ -1,5 +1,5 @@
 use Rattle.std.proofs.Common.{rules, tests, arith, ◌≡◌, ◌⊎◌, ◌≤◌, ◌==◌, ◌∙◌, sym, refl, ap, subst, map, length, get_or, Some, None, false}
-use Rattle.std.specs.Prelude.{string_bytes, slice_set, slice_get}
+use Rattle.std.specs.Prelude.{string_bytes, slice_set}
 use Rattle.outside.specs.Causes.{Rose}
 use Rattle.serving.specs.Runs.{words_status}
 use Rattle.serving.specs.declared.status.Status.{Status}
