@@ -1,7 +1,8 @@
 ghost use Rattle.std.specs.Prelude.{◌≡◌, IfOk};
 
-use crate::sources::{Nothing, unit_of};
+use crate::sources::unit_of;
 use class_summary::resolve_name;
+use decl_index::Index;
 use java_units::TypeText;
 use lists::{Items, Text};
 use std::alloc::{AllocError, Global};
@@ -24,7 +25,8 @@ fn string_in(alloc: Global, text: &str) -> Result<Text, Fail> {
         return Err("a class".into());
     }
     let name = named(alloc, "String")?;
-    let kind = resolve_name(alloc, &unit, 0, None, &name, &Nothing)?;
+    let none = Index::empty(alloc)?;
+    let kind = resolve_name(alloc, &unit, 0, None, &name, &none)?;
     Ok(descriptor(alloc, &kind)?)
 }
 

@@ -1,5 +1,6 @@
-use crate::sources::{Nothing, summaries_of};
+use crate::sources::summaries_of;
 use class_summary::{ClassSummary, Merged};
+use decl_index::Index;
 use std::alloc::Global;
 use std::test::Fail;
 use subtyping::Subtypes;
@@ -38,8 +39,9 @@ fn is_below(alloc: Global, subtypes: &Subtypes, low: &str, high: &str) -> Result
 
 #[test]
 fn the_classes_of_a_text_have_subtypes(rt: HostRuntime) -> Result<(), Fail> {
-    let listed = summaries_of(rt.alloc(), LIBRARY, &Nothing)?;
-    let library = Merged::new(rt.alloc(), &Nothing, listed)?;
+    let none = Index::empty(rt.alloc())?;
+    let listed = summaries_of(rt.alloc(), LIBRARY, &none)?;
+    let library = Merged::new(rt.alloc(), &none, listed)?;
     let declared = summaries_of(rt.alloc(), TEXT, &library)?;
     let known = Merged::new(rt.alloc(), &library, declared)?;
     let subtypes = Subtypes::new(rt.alloc(), &known)?;
@@ -73,7 +75,8 @@ fn is_of_a(summary: &ClassSummary) -> bool {
 
 #[test]
 fn a_class_of_a_text_is_summed_up(rt: HostRuntime) -> Result<(), Fail> {
-    let summaries = summaries_of(rt.alloc(), "class A{int f;}", &Nothing)?;
+    let none = Index::empty(rt.alloc())?;
+    let summaries = summaries_of(rt.alloc(), "class A{int f;}", &none)?;
     assert_eq!(rt; summaries.len(), 1);
     let summary = summaries.get(0).ok_or("a class")?;
     assert_eq!(rt; summary.name.as_str(), "A");
@@ -108,8 +111,9 @@ const FIELDS: [(&str, usize, &str); 8] = [
 
 #[test]
 fn a_field_has_the_erasure_of_its_variable(rt: HostRuntime) -> Result<(), Fail> {
+    let none = Index::empty(rt.alloc())?;
     for (text, number, wanted) in FIELDS {
-        let summaries = summaries_of(rt.alloc(), text, &Nothing)?;
+        let summaries = summaries_of(rt.alloc(), text, &none)?;
         let summary = summaries.get(0).ok_or("a class")?;
         let field = summary.fields.get(number).ok_or("a field")?;
         let found = descriptor(rt.alloc(), &field.kind)?;

@@ -1,4 +1,4 @@
-ghost use Rattle.std.specs.Prelude.{◌+◌, ◌<◌, ◌^◌, [], IfOk};
+ghost use Rattle.std.specs.Prelude.{◌+◌, ◌<◌, ◌^◌, IfOk};
 ghost use Rattle.java_units.specs.UnitLaws.{IsNested};
 ghost use Rattle.java_units.specs.Dimensions.{dims_of_bounds, greatest, type_dims};
 
@@ -7,30 +7,6 @@ use java_tokens::tokens;
 use java_units::{Unit, read_unit};
 use lists::Items;
 use std::alloc::{AllocError, Global};
-
-/// No class is known.
-#[derive(Drop)]
-pub struct Nothing;
-
-impl Classes for Nothing {
-    ghost listed = { λ _. [] };
-
-    fn count(&self) -> usize {
-        0
-    }
-
-    fn at(&self, _place: usize) -> &ClassSummary {
-        unreachable!()
-    }
-
-    fn find(&self, _name: &str) -> Option<usize> {
-        None
-    }
-
-    fn by_canonical(&self, _dotted: &str) -> Option<usize> {
-        None
-    }
-}
 
 /// The unit of a text, and want of memory for one of more than 16 MiB.
 pub fn unit_of(alloc: Global, text: &str) -> Result<Unit, AllocError>

@@ -1,35 +1,10 @@
-ghost use Rattle.std.specs.Prelude.{[]};
-
 use crate::Subtypes;
-use class_summary::{ClassSummary, Classes, Merged};
+use class_summary::{ClassSummary, Merged};
+use decl_index::Index;
 use lists::{Items, Text};
 use std::alloc::{AllocError, Global};
 use std::test::Fail;
 use type_names::read_field;
-
-/// No class is known.
-#[derive(Drop)]
-struct NoClasses;
-
-impl Classes for NoClasses {
-    ghost listed = { λ s. [] };
-
-    fn count(&self) -> usize {
-        0
-    }
-
-    fn at(&self, _place: usize) -> &ClassSummary {
-        unreachable!()
-    }
-
-    fn find(&self, _name: &str) -> Option<usize> {
-        None
-    }
-
-    fn by_canonical(&self, _dotted: &str) -> Option<usize> {
-        None
-    }
-}
 
 /// The primitive types, and for each those to which it widens (JLS 5.1.2).
 const WIDENINGS: [(&str, &str); 8] = [
@@ -76,7 +51,8 @@ fn holds(alloc: Global, subtypes: &Subtypes, a: &str, b: &str) -> Result<bool, F
 
 #[test]
 fn primitives_widen_by_the_table(rt: HostRuntime) -> Result<(), Fail> {
-    let subtypes = Subtypes::new(rt.alloc(), &NoClasses)?;
+    let none = Index::empty(rt.alloc())?;
+    let subtypes = Subtypes::new(rt.alloc(), &none)?;
     for (from, wider) in WIDENINGS {
         for (to, _) in WIDENINGS {
             let widens = holds(rt.alloc(), &subtypes, from, to)?;
@@ -88,7 +64,8 @@ fn primitives_widen_by_the_table(rt: HostRuntime) -> Result<(), Fail> {
 
 #[test]
 fn unknown_classes_and_arrays_have_their_steps(rt: HostRuntime) -> Result<(), Fail> {
-    let subtypes = Subtypes::new(rt.alloc(), &NoClasses)?;
+    let none = Index::empty(rt.alloc())?;
+    let subtypes = Subtypes::new(rt.alloc(), &none)?;
     for (a, b, is_sub) in WITHOUT_CLASSES {
         assert_eq!(rt; holds(rt.alloc(), &subtypes, a, b)?, is_sub, "{a} {b}");
     }
@@ -136,7 +113,8 @@ const WITH_CLASSES: [(&str, &str, bool); 12] = [
 
 #[test]
 fn known_classes_are_below_what_stands_above_them(rt: HostRuntime) -> Result<(), Fail> {
-    let known = Merged::new(rt.alloc(), &NoClasses, three(rt.alloc())?)?;
+    let none = Index::empty(rt.alloc())?;
+    let known = Merged::new(rt.alloc(), &none, three(rt.alloc())?)?;
     let subtypes = Subtypes::new(rt.alloc(), &known)?;
     for (a, b, is_sub) in WITH_CLASSES {
         assert_eq!(rt; holds(rt.alloc(), &subtypes, a, b)?, is_sub, "{a} {b}");
@@ -170,7 +148,8 @@ const WITH_A_CIRCLE: [(&str, &str, bool); 11] = [
 
 #[test]
 fn a_step_that_leads_back_to_the_class_is_left_out(rt: HostRuntime) -> Result<(), Fail> {
-    let three = Merged::new(rt.alloc(), &NoClasses, three(rt.alloc())?)?;
+    let none = Index::empty(rt.alloc())?;
+    let three = Merged::new(rt.alloc(), &none, three(rt.alloc())?)?;
     let known = Merged::new(rt.alloc(), &three, below_a(rt.alloc())?)?;
     let subtypes = Subtypes::new(rt.alloc(), &known)?;
     for (a, b, is_sub) in WITH_A_CIRCLE {
@@ -203,7 +182,8 @@ const LISTED: [(&str, &str, bool); 6] = [
 
 #[test]
 fn what_stands_above_a_class_is_listed(rt: HostRuntime) -> Result<(), Fail> {
-    let known = Merged::new(rt.alloc(), &NoClasses, three(rt.alloc())?)?;
+    let none = Index::empty(rt.alloc())?;
+    let known = Merged::new(rt.alloc(), &none, three(rt.alloc())?)?;
     let subtypes = Subtypes::new(rt.alloc(), &known)?;
     for (low, high, listed) in LISTED {
         assert!(rt; is_listed(&subtypes, low, high) == listed, "{low} {high}");
