@@ -1,12 +1,11 @@
 -- Variables, their bounds and their scopes.
-use Rattle.std.proofs.Common.{◌≡◌, ◌∙◌, ap, sym, refl, arith, subst, ℕ, zero, suc, ◌+◌, ◌-◌, ◌<◌, ◌≤◌, Bool, true, false, List, [], ◌∷◌, length, take, drop, get_or, add-one, add-zero, add_assoc, bytes_eq, is_some, Option, Some, None, IfSome, Result, Ok, Err, IfOk}
+use Rattle.std.proofs.Common.{◌≡◌, ◌∙◌, ap, sym, refl, arith, subst, ℕ, zero, suc, ◌+◌, ◌-◌, ◌<◌, ◌≤◌, false, List, [], ◌∷◌, length, take, drop, get_or, add-one, add-zero, add_assoc, bytes_eq, is_some, Option, Some, None, IfSome, Result, Ok, Err, IfOk}
 use Rattle.std.specs.Option.{option_copied}
 use Rattle.std.proofs.lemmas.List.{drop_all, drop_more}
 use Rattle.std.proofs.lemmas.Bool.{false_from_ne_true}
 use Rattle.std.proofs.lemmas.Slice.Eq.{bytes_eq-Decides}
 use Rattle.java_units.specs.declared.types.TypeText.{TypeText}
 use Rattle.java_units.specs.declared.types.TypeVar.{TypeVar}
-use Rattle.java_units.specs.Dimensions.{total}
 use Rattle.class_summary.specs.declared.variables.Ending.{Ending}
 use Rattle.class_summary.specs.Variables.{Scope, End, Found, bound_of, found_here, variable_in, variable_of, end_at, more_dims, by_bound, by_variable, through, variables, end_with}
 

@@ -7,7 +7,8 @@ use Rattle.java_units.specs.declared.types.Unit as unit
 use Rattle.java_units.specs.Dimensions.{greatest}
 use Rattle.class_summary.specs.declared.summary.ClassSummary.{ClassSummary}
 use Rattle.class_summary.specs.declared.summary.MethodSummary.{MethodSummary}
-use Rattle.class_summary.specs.SourceSummaries.{method_of, methods_from}
+use Rattle.java_units.specs.declared.types.SourceClass.{SourceClass}
+use Rattle.class_summary.specs.SourceSummaries.{method_of, methods_from, summary_at, summaries_from}
 
 pub greatest_at : {A : Type 0} (f : A → ℕ) (xs : List A) (i : ℕ) (d : A) → i < length xs → f (get_or xs i d) ≤ greatest f xs
 greatest_at f [] i d l = absurd (omega arith)
@@ -64,3 +65,21 @@ class_fits {A} f xs ys i x own limit e l at h = item_fits f xs i x own limit l (
 
 pub class_is : {A : Type 0} (xs ys : List A) (i : ℕ) (x d : A) → ys ≡ xs → x ≡ get_or ys i x → slice_get xs i ≡ Some d → x ≡ d
 class_is {A} xs ys i x d e at g = at ∙ (ap (λ (r : List A). get_or r i x) e ∙ get_or_from_slice_get xs i d x g)
+
+summaries-cons : (u : unit.Unit) (known : List ClassSummary) (i : ℕ) (c : SourceClass) (cs : List SourceClass) → summaries_from u known i (c ∷ cs) ≡ summary_at u i known c ∷ summaries_from u known (suc i) cs
+unfolding summaries_from
+summaries-cons u known i c cs = refl
+
+summaries-none : (u : unit.Unit) (known : List ClassSummary) (i : ℕ) → summaries_from u known i [] ≡ []
+unfolding summaries_from
+summaries-none u known i = refl
+
+pub summaries_on : (u : unit.Unit) (known : List ClassSummary) (cs : List SourceClass) (i : ℕ) (c : SourceClass) (whole old new : List ClassSummary) (v : ClassSummary) → i < length cs → c ≡ get_or cs i c → v ≡ summary_at u i known c → new ≡ old ++ v ∷ [] → whole ≡ old ++ summaries_from u known i (drop i cs) → whole ≡ new ++ summaries_from u known (i + 1) (drop (i + 1) cs)
+summaries_on u known cs i c whole old new v l e x n h =
+    let d : drop i cs ≡ c ∷ drop (i + 1) cs = drop_more cs i c l ∙ ap (λ (y : SourceClass). y ∷ drop (i + 1) cs) (sym e) in
+    let t : summaries_from u known i (drop i cs) ≡ v ∷ summaries_from u known (i + 1) (drop (i + 1) cs) = ap (summaries_from u known i) d ∙ (summaries-cons u known i c (drop (i + 1) cs) ∙ (ap (λ (y : ClassSummary). y ∷ summaries_from u known (suc i) (drop (i + 1) cs)) (sym x) ∙ ap (λ (k : ℕ). v ∷ summaries_from u known k (drop (i + 1) cs)) (sym (add-one i)))) in
+    h ∙ (ap (λ (r : List ClassSummary). old ++ r) t ∙ (sym (append_assoc old (v ∷ []) (summaries_from u known (i + 1) (drop (i + 1) cs))) ∙ ap (λ (r : List ClassSummary). r ++ summaries_from u known (i + 1) (drop (i + 1) cs)) (sym n)))
+
+pub summaries_end : (u : unit.Unit) (known : List ClassSummary) (cs : List SourceClass) (i : ℕ) (whole old : List ClassSummary) → length cs ≤ i → whole ≡ old ++ summaries_from u known i (drop i cs) → old ≡ whole
+summaries_end u known cs i whole old l h =
+    sym (h ∙ (ap (λ (r : List ClassSummary). old ++ r) (ap (summaries_from u known i) (drop_all i cs l) ∙ summaries-none u known i) ∙ append-nil old))

@@ -14,4 +14,5 @@ pub mod Searches
 pub mod Sources
 pub mod Steps
 pub mod Tables
+pub mod UnitTables
 pub mod Ways

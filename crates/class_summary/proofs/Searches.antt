@@ -1,5 +1,5 @@
 -- What stands first, by loops over numbers, classes and imports.
-use Rattle.std.proofs.Common.{◌≡◌, ◌∙◌, ap, sym, refl, arith, ℕ, zero, suc, ◌+◌, ◌-◌, ◌<◌, ◌≤◌, Bool, true, false, List, [], ◌∷◌, length, drop, get_or, add-one, bytes_eq, Option, Some, None}
+use Rattle.std.proofs.Common.{◌≡◌, ◌∙◌, ap, sym, refl, ℕ, suc, ◌+◌, ◌<◌, ◌≤◌, true, false, List, [], ◌∷◌, length, drop, get_or, add-one, bytes_eq, Option, Some, None}
 use Rattle.std.specs.Option.{option_or}
 use Rattle.std.proofs.lemmas.List.{drop_all, drop_more}
 use Rattle.java_units.specs.declared.types.SourceClass.{SourceClass}
@@ -8,37 +8,7 @@ use Rattle.java_units.specs.declared.types.Unit as unit
 use Rattle.class_summary.specs.declared.summary.ClassSummary.{ClassSummary}
 use Rattle.class_summary.specs.declared.rules.Denoted.{Denoted}
 use Rattle.class_summary.specs.Sources.{name_at}
-use Rattle.class_summary.specs.Names.{first_from, is_member, member_from, member_named, enclosing, ends_with, imported, below_star, starred}
-
-number-hit : (n i : ℕ) (test : ℕ → Bool) → test i ≡ true → first_from (suc n) i test ≡ Some i
-unfolding first_from
-number-hit n i test e = rw e refl
-
-number-on : (n i : ℕ) (test : ℕ → Bool) → test i ≡ false → first_from (suc n) i test ≡ first_from n (suc i) test
-unfolding first_from
-number-on n i test e = rw e refl
-
-number-none : (i : ℕ) (test : ℕ → Bool) → first_from zero i test ≡ None
-unfolding first_from
-number-none i test = refl
-
-pub number_first : (n : ℕ) (test : ℕ → Bool) → first_from n 0 test ≡ first_from (n - 0) 0 test
-number_first n test = let e : n ≡ n - 0 = omega arith in ap (λ k. first_from k 0 test) e
-
-pub number_hit : (n i : ℕ) (test : ℕ → Bool) → i < n → test i ≡ true → first_from n 0 test ≡ first_from (n - i) i test → Some i ≡ first_from n 0 test
-number_hit n i test l e h =
-    let s : n - i ≡ suc (n - (i + 1)) = omega arith in
-    sym (h ∙ (ap (λ k. first_from k i test) s ∙ number-hit (n - (i + 1)) i test e))
-
-pub number_on : (n i : ℕ) (test : ℕ → Bool) → i < n → test i ≡ false → first_from n 0 test ≡ first_from (n - i) i test → first_from n 0 test ≡ first_from (n - (i + 1)) (i + 1) test
-number_on n i test l e h =
-    let s : n - i ≡ suc (n - (i + 1)) = omega arith in
-    h ∙ (ap (λ k. first_from k i test) s ∙ (number-on (n - (i + 1)) i test e ∙ ap (λ k. first_from (n - (i + 1)) k test) (sym (add-one i))))
-
-pub number_end : (n i : ℕ) (test : ℕ → Bool) → n ≤ i → first_from n 0 test ≡ first_from (n - i) i test → None ≡ first_from n 0 test
-number_end n i test l h =
-    let z : n - i ≡ 0 = omega arith in
-    sym (h ∙ (ap (λ k. first_from k i test) z ∙ number-none i test))
+use Rattle.class_summary.specs.Names.{is_member, member_from, member_named, enclosing, ends_with, imported, below_star, starred}
 
 member-hit : (i : ℕ) (o : Option ℕ) (name : List ℕ) (c : SourceClass) (cs : List SourceClass) → is_member o name c ≡ true → member_from i o name (c ∷ cs) ≡ Some i
 unfolding member_from

@@ -7,4 +7,5 @@ pub mod Variables
 pub mod Outwards
 pub mod Names
 pub mod SourceSummaries
+pub mod UnitTables
 pub mod Laws

@@ -1,5 +1,5 @@
 -- What is kept of a class that a source text declares (JLS 8, 9).
-use Rattle.std.specs.Prelude.{◌≡◌, ℕ, suc, ◌==◌, ◌&&◌, max, if◌then◌else◌, Bool, List, [], ◌∷◌, ◌++◌, map, drop, slice_get, codes, Option, Some, None, unwrap_or}
+use Rattle.std.specs.Prelude.{◌≡◌, ℕ, suc, ◌==◌, ◌&&◌, if◌then◌else◌, Bool, List, [], ◌∷◌, ◌++◌, map, drop, slice_get, codes, Option, Some, None, unwrap_or}
 use Rattle.std.specs.List.{filter_map}
 use Rattle.type_names.specs.declared.kinds.Base.{Base}
 use Rattle.type_names.specs.declared.kinds.Base.TheVariants.{Byte, Char, Double, Float, Int, Long, Short, Boolean, Class}
@@ -119,3 +119,17 @@ summary_at u i known c = record {
 -- This is the summary of the class number i.
 abbrev pub IsSourceSummary : unit.Unit → ℕ → List ClassSummary → ClassSummary → Type 0
 IsSourceSummary u i known summary = (c : SourceClass) → slice_get u.classes i ≡ Some c → summary ≡ summary_at u i known c
+
+-- A unit, with the classes known besides those of it.
+pub record Source : Type 0 where
+  pub unit : unit.Unit
+  pub known : List ClassSummary
+
+-- The summaries of these classes, which are numbered from i on.
+unfoldable pub summaries_from : unit.Unit → List ClassSummary → ℕ → List SourceClass → List ClassSummary
+summaries_from u known i [] = []
+summaries_from u known i (c ∷ cs) = summary_at u i known c ∷ summaries_from u known (suc i) cs
+
+-- The summaries of all classes of a text, in their order.
+abbrev pub summaries_of : unit.Unit → List ClassSummary → List ClassSummary
+summaries_of u known = summaries_from u known 0 u.classes

@@ -1,5 +1,5 @@
 -- The type variables of a source text, and types through their bounds (JLS 4.4, 4.6, 8.1.2, 8.4.4).
-use Rattle.std.specs.Prelude.{◌≡◌, ⊤, ℕ, zero, suc, ◌+◌, ◌<◌, if◌then◌else◌, List, [], ◌∷◌, length, drop, map, slice_get, bytes_eq, Option, Some, None}
+use Rattle.std.specs.Prelude.{⊤, ℕ, zero, suc, ◌+◌, ◌<◌, if◌then◌else◌, List, [], ◌∷◌, length, map, slice_get, bytes_eq, Option, Some, None}
 use Rattle.java_units.specs.declared.types.TypeText.{TypeText}
 use Rattle.java_units.specs.declared.types.TypeVar.{TypeVar}
 use Rattle.java_units.specs.declared.types.SourceMethod.{SourceMethod}

@@ -11,19 +11,20 @@ mod laws;
 mod merged;
 mod naming;
 mod paths;
+mod resolver;
 mod rules;
 mod shape;
 mod source;
 mod summary;
+mod unit_names;
 mod variables;
 
 pub use classes::Classes;
 pub use laws::canonical_names;
 pub use merged::Merged;
-pub use naming::resolve_name;
 pub use paths::{canonical_name, internal_name};
+pub use resolver::{Resolver, from_unit, resolve_name};
 pub use shape::from_shape;
-pub use source::from_unit;
 pub use summary::{ClassSummary, FieldSummary, MethodSummary, Nesting};
 
 #[cfg(test)]

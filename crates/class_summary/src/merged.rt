@@ -38,7 +38,7 @@ impl<'a, C: Classes> Model for Merged<'a, C> {
 }
 
 /// Gives a name a number.
-fn put(
+pub fn put(
     alloc: Global,
     numbers: &mut BTreeMap<String, usize>,
     name: &str,

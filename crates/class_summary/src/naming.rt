@@ -1,16 +1,16 @@
-ghost use Rattle.std.specs.Prelude.{◌≡◌, ◌+◌, ◌<◌, ◌^◌, length, IfOk};
+ghost use Rattle.std.specs.Prelude.{◌≡◌, ◌+◌, ◌<◌, ◌^◌, IfOk};
 ghost use Rattle.std.specs.Option.{option_copied};
 ghost use Rattle.java_units.specs.UnitLaws.{IsNested};
 ghost use Rattle.java_units.specs.Dimensions.{dims_of_bounds};
 ghost use Rattle.class_summary.specs.Names.{internal_of, simple_class, canonical_of, member_class, dotted_class, in_package_else, class_of_name, primitive, primitive_of, base_of, denoted_type};
-ghost use Rattle.class_summary.specs.Variables.{IsMethodOf};
 
 use crate::classes::Classes;
 use crate::known::canonical;
 use crate::paths::{canonical_name, follow, joined};
 use crate::rules::{Denoted, class_with, internal_of, is, joined_with, simple_class, spelled};
+use crate::unit_names::UnitNames;
 use crate::variables::{end_of, scopes_at};
-use java_units::{TypeText, Unit};
+use java_units::TypeText;
 use lists::{Copies, Text};
 use std::alloc::{AllocError, Global};
 use type_names::{Base, Erased};
@@ -18,14 +18,14 @@ use type_names::{Base, Erased};
 /// The canonical name of a class.
 fn canonical_of<C: Classes>(
     alloc: Global,
-    unit: &Unit,
+    unit: &UnitNames<'_>,
     known: &C,
     class: &Denoted,
 ) -> Result<Text, AllocError>
     ensures { IfOk result (λ name. name ≡ canonical_of unit.now (C.listed known.now) class.now) }
 {
     match class {
-        Denoted::Own(i) => canonical_name(alloc, unit, *i),
+        Denoted::Own(i) => canonical_name(alloc, unit.unit(), *i),
         Denoted::Other(name) => canonical(alloc, known, name),
     }
 }
@@ -34,7 +34,7 @@ fn canonical_of<C: Classes>(
 #[tactic(auto, unfolding(crate::specs::Names::member_class))]
 fn member_class<C: Classes>(
     alloc: Global,
-    unit: &Unit,
+    unit: &UnitNames<'_>,
     known: &C,
     class: &Denoted,
     rest: &[Text],
@@ -54,7 +54,7 @@ fn member_class<C: Classes>(
 /// The class that a name of one part denotes.
 fn class_of_simple<C: Classes>(
     alloc: Global,
-    unit: &Unit,
+    unit: &UnitNames<'_>,
     class: usize,
     known: &C,
     name: &Text,
@@ -64,13 +64,13 @@ fn class_of_simple<C: Classes>(
     if let Some(found) = simple_class(alloc, unit, class, known, name)? {
         return Ok(found);
     }
-    Ok(Denoted::Other(joined_with(alloc, "/", &unit.package, name)?))
+    Ok(Denoted::Other(joined_with(alloc, "/", unit.package(), name)?))
 }
 
 /// The class that a name of several parts denotes.
 fn class_of_dotted<C: Classes>(
     alloc: Global,
-    unit: &Unit,
+    unit: &UnitNames<'_>,
     class: usize,
     known: &C,
     first: &Text,
@@ -89,7 +89,7 @@ fn class_of_dotted<C: Classes>(
 #[tactic(auto, unfolding(crate::specs::Names::class_of_name))]
 fn class_of_name<C: Classes>(
     alloc: Global,
-    unit: &Unit,
+    unit: &UnitNames<'_>,
     class: usize,
     known: &C,
     parts: &[Text],
@@ -149,7 +149,7 @@ fn primitive_of(parts: &[Text]) -> Option<Base>
 #[tactic(auto, unfolding(crate::specs::Names::base_of))]
 fn base_of<C: Classes>(
     alloc: Global,
-    unit: &Unit,
+    unit: &UnitNames<'_>,
     class: usize,
     known: &C,
     parts: Option<&[Text]>,
@@ -166,20 +166,11 @@ fn base_of<C: Classes>(
     Ok(Base::Class(internal_of(alloc, unit, &found)?))
 }
 
-fn wide(number: Option<u32>) -> Option<usize>
-    ensures { result ≡ number }
-{
-    match number {
-        Some(number) => Some(number as usize),
-        None => None,
-    }
-}
-
 /// The erased type that a type denotes at a class of the text, or at a method of it.
 #[tactic(auto, unfolding(crate::specs::Names::denoted_type))]
 pub fn resolve_at<C: Classes>(
     alloc: Global,
-    unit: &Unit,
+    unit: &UnitNames<'_>,
     class: usize,
     method: Option<usize>,
     name: &TypeText,
@@ -189,31 +180,11 @@ pub fn resolve_at<C: Classes>(
     requires dims { name.now.dims + dims_of_bounds unit.now.classes < 2 ^ 64 }
     ensures { IfOk result (λ kind. kind ≡ denoted_type unit.now class method name.now (C.listed known.now)) }
 {
-    let scopes = scopes_at(alloc, unit.classes.as_slice(), class, method)?;
+    let scopes = scopes_at(alloc, unit.classes(), class, method)?;
     let end = end_of(scopes.as_slice(), class, name)?;
     let base = base_of(alloc, unit, end.class, known, end.parts)?;
     Ok(Erased {
         dims: end.dims,
         base,
     })
-}
-
-/// The erased type that a type denotes at a class of the text, or at a method of it; both are numbers in the
-/// text. `known` are the classes known besides those of the text.
-pub fn resolve_name<C: Classes>(
-    alloc: Global,
-    unit: &Unit,
-    class: u32,
-    method: Option<u32>,
-    name: &TypeText,
-    known: &C,
-) -> Result<Erased, AllocError>
-    requires nested { IsNested unit.now.classes }
-    requires class { class < length unit.now.classes }
-    requires method { IsMethodOf unit.now.classes class method }
-    requires dims { name.now.dims + dims_of_bounds unit.now.classes < 2 ^ 64 }
-    ensures exact { IfOk result (λ kind. kind ≡ denoted_type unit.now class method name.now (C.listed known.now)) }
-{
-    let kind = resolve_at(alloc, unit, class as usize, wide(method), name, known)?;
-    Ok(kind)
 }

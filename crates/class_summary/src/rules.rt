@@ -1,14 +1,15 @@
 ghost use Rattle.std.specs.Prelude.{◌≡◌, ◌<◌, ◌∷◌, ◌++◌, [], length, Some, IfOk, IfSome, bytes_eq};
 ghost use Rattle.std.specs.Option.{option_copied};
 ghost use Rattle.class_summary.specs.Known.{IsPlaceOf};
-ghost use Rattle.class_summary.specs.Sources.{joined};
-ghost use Rattle.class_summary.specs.Names.{internal_of, own_called, class_with, same_number, is_member, member_named, enclosing, own_class, ends_with, imported, spelled, known_as, same_text, is_nested, IsLesser, nested_class, nested_below, below, below_star, starred, of_java_lang, named_class, simple_class};
+ghost use Rattle.class_summary.specs.Sources.{joined, name_at};
+ghost use Rattle.class_summary.specs.Names.{internal_of, class_with, same_number, is_member, enclosing, own_class, ends_with, imported, spelled, known_as, same_text, is_nested, IsLesser, nested_class, nested_below, below, below_star, starred, of_java_lang, named_class, simple_class};
 
 use crate::classes::Classes;
-use crate::paths::{around, canonical_name, internal_name, joined, name_at};
+use crate::paths::{around, joined};
 use crate::summary::Nesting;
-use java_units::{Import, SourceClass, Unit};
-use lists::{Copies, Items, Text, copy_all};
+use crate::unit_names::UnitNames;
+use java_units::{Import, SourceClass};
+use lists::{Copies, Items, Text, at, copy_all};
 use std::alloc::{AllocError, Global};
 use std::cmp::Ordering;
 
@@ -34,39 +35,26 @@ pub fn is(text: &Text, word: &str) -> bool
 }
 
 /// The internal name of a class.
-pub fn internal_of(alloc: Global, unit: &Unit, class: &Denoted) -> Result<Text, AllocError>
+pub fn internal_of(alloc: Global, unit: &UnitNames<'_>, class: &Denoted) -> Result<Text, AllocError>
     ensures { IfOk result (λ name. name ≡ internal_of unit.now class.now) }
 {
     match class {
-        Denoted::Own(i) => internal_name(alloc, unit, *i),
+        Denoted::Own(i) => unit.internal(alloc, *i),
         Denoted::Other(name) => name.copy(alloc),
     }
-}
-
-/// The first class of the text with this canonical name.
-fn own_called(alloc: Global, unit: &Unit, name: &Text) -> Result<Option<usize>, AllocError>
-    ensures { IfOk result (λ found. found ≡ own_called unit.now name.now) }
-{
-    for i in 0..unit.classes.len() {
-        let own = canonical_name(alloc, unit, i)?;
-        if same(name, &own) {
-            return Ok(Some(i));
-        }
-    }
-    Ok(None)
 }
 
 /// The class with this canonical name, among those of the text and then the known ones.
 #[tactic(auto, unfolding(crate::specs::Names::class_with))]
 pub fn class_with<C: Classes>(
     alloc: Global,
-    unit: &Unit,
+    unit: &UnitNames<'_>,
     known: &C,
     name: &Text,
 ) -> Result<Option<Denoted>, AllocError>
     ensures { IfOk result (λ found. found ≡ class_with unit.now (C.listed known.now) name.now) }
 {
-    if let Some(i) = own_called(alloc, unit, name)? {
+    if let Some(i) = unit.called(name) {
         return Ok(Some(Denoted::Own(i)));
     }
     let Some(place) = known.by_canonical(name.as_str()) else {
@@ -86,7 +74,7 @@ fn same_number(left: Option<usize>, right: Option<usize>) -> bool
 }
 
 /// Whether a class has this name and stands directly in that class, or in none.
-fn is_member(class: &SourceClass, outer: Option<usize>, name: &Text) -> bool
+pub fn is_member(class: &SourceClass, outer: Option<usize>, name: &Text) -> bool
     ensures { result ≡ is_member outer name.now class.now }
 {
     let own = match class.outer {
@@ -96,55 +84,47 @@ fn is_member(class: &SourceClass, outer: Option<usize>, name: &Text) -> bool
     same_number(own, outer) && same(name, &class.name)
 }
 
-/// The first class of the text that has this name and stands directly in that class, or in none.
-fn member_named(classes: &[SourceClass], outer: Option<usize>, name: &Text) -> Option<usize>
-    ensures { result ≡ member_named outer name.now classes.now }
+/// Whether the class number i has this name.
+fn is_named(classes: &[SourceClass], i: usize, name: &Text) -> bool
+    ensures { result ≡ bytes_eq name.now (name_at classes.now i) }
 {
-    for i in 0..classes.len() {
-        if is_member(&classes[i], outer, name) {
-            return Some(i);
-        }
+    match at(classes, i) {
+        Some(class) => same(name, &class.name),
+        None => is(name, ""),
     }
-    None
 }
 
 /// From the innermost class outwards: that class, or one nested directly in it, by its name.
-fn enclosing(
-    alloc: Global,
-    classes: &[SourceClass],
-    numbers: &[usize],
-    name: &Text,
-) -> Result<Option<usize>, AllocError>
-    ensures { IfOk result (λ found. found ≡ enclosing classes.now name.now numbers.now) }
+fn enclosing(unit: &UnitNames<'_>, numbers: &[usize], name: &Text) -> Option<usize>
+    ensures { result ≡ enclosing unit.now.classes name.now numbers.now }
 {
     for k in 0..numbers.len() {
         let here = numbers[k];
-        let own = name_at(alloc, classes, here)?;
-        if same(name, &own) {
-            return Ok(Some(here));
+        if is_named(unit.classes(), here, name) {
+            return Some(here);
         }
-        let Some(member) = member_named(classes, Some(here), name) else {
+        let Some(member) = unit.member(Some(here), name) else {
             continue;
         };
-        return Ok(Some(member));
+        return Some(member);
     }
-    Ok(None)
+    None
 }
 
 /// A class of the text by its simple name: an enclosing class or a member of one, else a top-level class.
 fn own_class(
     alloc: Global,
-    unit: &Unit,
+    unit: &UnitNames<'_>,
     class: usize,
     name: &Text,
 ) -> Result<Option<usize>, AllocError>
     ensures { IfOk result (λ found. found ≡ own_class unit.now class name.now) }
 {
-    let numbers = around(alloc, unit.classes.as_slice(), class)?;
-    if let Some(i) = enclosing(alloc, unit.classes.as_slice(), numbers.as_slice(), name)? {
+    let numbers = around(alloc, unit.classes(), class)?;
+    if let Some(i) = enclosing(unit, numbers.as_slice(), name) {
         return Ok(Some(i));
     }
-    Ok(member_named(unit.classes.as_slice(), None, name))
+    Ok(unit.member(None, name))
 }
 
 /// Whether an import without star ends with this name.
@@ -177,7 +157,7 @@ fn imported<'a>(imports: &'a [Import], name: &Text) -> Option<&'a Import>
 #[tactic(auto, unfolding(crate::specs::Names::spelled))]
 pub fn spelled<C: Classes>(
     alloc: Global,
-    unit: &Unit,
+    unit: &UnitNames<'_>,
     known: &C,
     parts: &[Text],
 ) -> Result<Denoted, AllocError>
@@ -268,7 +248,7 @@ fn nested_class<C: Classes>(known: &C, outer: &Text, name: &Text) -> Option<usiz
 /// The known class nested directly in a class.
 fn nested_below<C: Classes>(
     alloc: Global,
-    unit: &Unit,
+    unit: &UnitNames<'_>,
     known: &C,
     name: &Text,
     class: &Denoted,
@@ -286,7 +266,7 @@ fn nested_below<C: Classes>(
 #[tactic(auto, unfolding(crate::specs::Names::below))]
 fn below<C: Classes>(
     alloc: Global,
-    unit: &Unit,
+    unit: &UnitNames<'_>,
     known: &C,
     name: &Text,
     parts: &Items<Text>,
@@ -307,7 +287,7 @@ fn below<C: Classes>(
 /// What one import has of this name.
 fn below_star<C: Classes>(
     alloc: Global,
-    unit: &Unit,
+    unit: &UnitNames<'_>,
     known: &C,
     name: &Text,
     import: &Import,
@@ -323,7 +303,7 @@ fn below_star<C: Classes>(
 /// The class of this name in the first import with star that has one.
 fn starred<C: Classes>(
     alloc: Global,
-    unit: &Unit,
+    unit: &UnitNames<'_>,
     known: &C,
     name: &Text,
     imports: &[Import],
@@ -360,20 +340,20 @@ fn of_java_lang<C: Classes>(
 #[tactic(auto, unfolding(crate::specs::Names::named_class))]
 fn named_class<C: Classes>(
     alloc: Global,
-    unit: &Unit,
+    unit: &UnitNames<'_>,
     known: &C,
     name: &Text,
 ) -> Result<Option<Denoted>, AllocError>
     ensures { IfOk result (λ found. found ≡ named_class unit.now (C.listed known.now) name.now) }
 {
-    if let Some(import) = imported(unit.imports.as_slice(), name) {
+    if let Some(import) = imported(unit.imports(), name) {
         return Ok(Some(spelled(alloc, unit, known, import.parts.as_slice())?));
     }
-    let inside = joined_with(alloc, "/", &unit.package, name)?;
+    let inside = joined_with(alloc, "/", unit.package(), name)?;
     if let Some(class) = known_as(known, inside) {
         return Ok(Some(class));
     }
-    if let Some(class) = starred(alloc, unit, known, name, unit.imports.as_slice())? {
+    if let Some(class) = starred(alloc, unit, known, name, unit.imports())? {
         return Ok(Some(class));
     }
     of_java_lang(alloc, known, name)
@@ -383,7 +363,7 @@ fn named_class<C: Classes>(
 #[tactic(auto, unfolding(crate::specs::Names::simple_class))]
 pub fn simple_class<C: Classes>(
     alloc: Global,
-    unit: &Unit,
+    unit: &UnitNames<'_>,
     class: usize,
     known: &C,
     name: &Text,

@@ -7,9 +7,9 @@ ghost use Rattle.class_summary.specs.SourceSummaries.{class_of, super_of, parent
 
 use crate::classes::Classes;
 use crate::naming::resolve_at;
-use crate::paths::internal_name;
 use crate::summary::{ClassSummary, FieldSummary, MethodSummary, Nesting};
-use java_units::{ClassKind, Param, SourceClass, SourceField, SourceMethod, TypeText, Unit};
+use crate::unit_names::UnitNames;
+use java_units::{ClassKind, Param, SourceClass, SourceField, SourceMethod, TypeText};
 use lists::{Copies, Items, Text};
 use std::alloc::{AllocError, Global};
 use type_names::{Base, Erased};
@@ -32,7 +32,7 @@ fn class_of(kind: Erased) -> Option<Text>
 #[tactic(auto, unfolding(crate::specs::SourceSummaries::super_of))]
 fn super_of<C: Classes>(
     alloc: Global,
-    unit: &Unit,
+    unit: &UnitNames<'_>,
     class: usize,
     known: &C,
     kind: &TypeText,
@@ -61,7 +61,7 @@ fn parent_of(kind: ClassKind) -> &'static str
 #[tactic(auto, unfolding(crate::specs::SourceSummaries::field_of))]
 fn field_of<C: Classes>(
     alloc: Global,
-    unit: &Unit,
+    unit: &UnitNames<'_>,
     class: usize,
     known: &C,
     field: &SourceField,
@@ -81,7 +81,7 @@ fn field_of<C: Classes>(
 /// The fields.
 fn fields_of<C: Classes>(
     alloc: Global,
-    unit: &Unit,
+    unit: &UnitNames<'_>,
     class: usize,
     known: &C,
     fields: &[SourceField],
@@ -100,7 +100,7 @@ fn fields_of<C: Classes>(
 /// The types of the parameters of the method number m.
 fn params_of<C: Classes>(
     alloc: Global,
-    unit: &Unit,
+    unit: &UnitNames<'_>,
     class: usize,
     method: usize,
     known: &C,
@@ -121,7 +121,7 @@ fn params_of<C: Classes>(
 #[tactic(auto, unfolding(crate::specs::SourceSummaries::param_of))]
 fn param_of<C: Classes>(
     alloc: Global,
-    unit: &Unit,
+    unit: &UnitNames<'_>,
     class: usize,
     method: usize,
     known: &C,
@@ -138,7 +138,7 @@ fn param_of<C: Classes>(
 /// The type of the result of the method number m.
 fn result_of<C: Classes>(
     alloc: Global,
-    unit: &Unit,
+    unit: &UnitNames<'_>,
     class: usize,
     method: usize,
     known: &C,
@@ -159,7 +159,7 @@ fn result_of<C: Classes>(
 #[tactic(auto, unfolding(crate::specs::SourceSummaries::method_of))]
 fn method_of<C: Classes>(
     alloc: Global,
-    unit: &Unit,
+    unit: &UnitNames<'_>,
     class: usize,
     known: &C,
     number: usize,
@@ -182,7 +182,7 @@ fn method_of<C: Classes>(
 /// The methods.
 fn methods_of<C: Classes>(
     alloc: Global,
-    unit: &Unit,
+    unit: &UnitNames<'_>,
     class: usize,
     known: &C,
     methods: &[SourceMethod],
@@ -215,7 +215,7 @@ fn names_super(declared: &SourceClass) -> bool
 #[tactic(auto, unfolding(crate::specs::SourceSummaries::first_super))]
 fn first_super<C: Classes>(
     alloc: Global,
-    unit: &Unit,
+    unit: &UnitNames<'_>,
     class: usize,
     known: &C,
     declared: &SourceClass,
@@ -253,7 +253,7 @@ fn interfaces(declared: &SourceClass) -> &[TypeText]
 /// The classes that some supers denote.
 fn classes_of<C: Classes>(
     alloc: Global,
-    unit: &Unit,
+    unit: &UnitNames<'_>,
     class: usize,
     known: &C,
     supers: &[TypeText],
@@ -276,7 +276,7 @@ fn classes_of<C: Classes>(
 #[tactic(auto, unfolding(crate::specs::SourceSummaries::supers_of))]
 fn supers_of<C: Classes>(
     alloc: Global,
-    unit: &Unit,
+    unit: &UnitNames<'_>,
     class: usize,
     known: &C,
     declared: &SourceClass,
@@ -315,7 +315,7 @@ fn last_supers(alloc: Global, kind: ClassKind) -> Result<Items<Text>, AllocError
 /// How a class stands in the class around it; a top-level class has no nesting.
 fn nesting_of(
     alloc: Global,
-    unit: &Unit,
+    unit: &UnitNames<'_>,
     declared: &SourceClass,
 ) -> Result<Option<Nesting>, AllocError>
     ensures { IfOk result (λ nesting. nesting ≡ nesting_of unit.now declared.now declared.now.outer) }
@@ -324,16 +324,16 @@ fn nesting_of(
         return Ok(None);
     };
     Ok(Some(Nesting {
-        outer: Some(internal_name(alloc, unit, outer as usize)?),
+        outer: Some(unit.internal(alloc, outer as usize)?),
         simple: Some(declared.name.copy(alloc)?),
         flags: declared.flags,
     }))
 }
 
 /// The summary of a class of the text.
-fn summary_at<C: Classes>(
+pub fn summary_at<C: Classes>(
     alloc: Global,
-    unit: &Unit,
+    unit: &UnitNames<'_>,
     class: usize,
     known: &C,
     declared: &SourceClass,
@@ -342,7 +342,7 @@ fn summary_at<C: Classes>(
     requires dims { type_dims declared.now + dims_of_bounds unit.now.classes < 2 ^ 64 }
     ensures { IfOk result (λ summary. summary ≡ summary_at unit.now class (C.listed known.now) declared.now) }
 {
-    let name = internal_name(alloc, unit, class)?;
+    let name = unit.internal(alloc, class)?;
     let nesting = nesting_of(alloc, unit, declared)?;
     let supers = supers_of(alloc, unit, class, known, declared)?;
     let fields = fields_of(alloc, unit, class, known, declared.fields.as_slice())?;
@@ -355,22 +355,4 @@ fn summary_at<C: Classes>(
         fields,
         methods,
     })
-}
-
-/// The summary of the class number i of a text. `known` are the classes known besides those of the text.
-pub fn from_unit<C: Classes>(
-    alloc: Global,
-    unit: &Unit,
-    class: u32,
-    known: &C,
-) -> Result<ClassSummary, AllocError>
-    requires nested { IsNested unit.now.classes }
-    requires class { class < length unit.now.classes }
-    requires dims { greatest type_dims unit.now.classes + dims_of_bounds unit.now.classes < 2 ^ 64 }
-    ensures exact { IfOk result (IsSourceSummary unit.now class (C.listed known.now)) }
-{
-    let classes = unit.classes.as_slice();
-    let declared = &classes[class as usize];
-    let summary = summary_at(alloc, unit, class as usize, known, declared)?;
-    Ok(summary)
 }

@@ -36,7 +36,9 @@ fn a_class_file_is_read_from_a_real_file(rt: HostRuntime) -> Result<(), Fail> {
     assert!(rt; fs::write(&rt, "A.class", &A[..]).is_ok());
     let mut bytes = Vec::new(rt.alloc());
     let mut shelf = FileShelf::new(&rt, rt.alloc());
-    assert!(rt; matches!(shelf.load("A.class", &mut bytes), Ok(Loaded::Bytes)));
+    let loaded = shelf.load("A.class", &mut bytes);
+    assert!(rt; fs::remove_file(&rt, "A.class").is_ok());
+    assert!(rt; matches!(loaded, Ok(Loaded::Bytes)));
     assert_eq!(rt; bytes.as_slice(), &A[..]);
     let shape = shape_of(rt.alloc(), &bytes)?;
     assert!(rt; is_shape_of_a(&shape));

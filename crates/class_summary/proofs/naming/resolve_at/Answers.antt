@@ -10,5 +10,5 @@ pub returns : goal.returns
 unfolding denoted_type
 returns g c =
     let u = c.args.unit.now in
-    let ends = c.in_ok-end.ensures ∙ ap (λ (ss : List Scope). end_of ss c.args.class c.args.name.now) (c.as_slice-2.ensures.value ∙ (c.in_ok-scopes.ensures ∙ ap (λ (q : List SourceClass). scopes_at q c.args.class c.args.method) c.as_slice.ensures)) in
+    let ends = c.in_ok-end.ensures ∙ ap (λ (ss : List Scope). end_of ss c.args.class c.args.name.now) (c.as_slice.ensures.value ∙ (c.in_ok-scopes.ensures ∙ ap (λ (q : List SourceClass). scopes_at q c.args.class c.args.method) c.classes.ensures)) in
     ap (λ (b : Base). let e : Erased = record { dims = c.in_ok-end.end.dims; base = b } in e) c.in_ok-base.ensures ∙ ap (erased_end u (g.C.Classes.listed c.args.known.now)) ends

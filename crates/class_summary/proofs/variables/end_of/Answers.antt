@@ -1,4 +1,4 @@
-use Rattle.std.proofs.Common.{◌≡◌, ◌∙◌, ap, sym, subst, arith, rules, suc, ◌+◌, ◌-◌, ◌<◌, ℕ, List, Some, None, drop}
+use Rattle.std.proofs.Common.{◌≡◌, ◌∙◌, ap, sym, subst, arith, suc, ◌+◌, ◌-◌, ◌<◌, ℕ, List, Some, None, drop}
 use Rattle.std.specs.Option.{option_copied}
 use Rattle.class_summary.specs.Variables.{Found, end_at, end_of, through, variables}
 use Rattle.class_summary.proofs.Bounds.{GoesOn, goes_first, goes_name, goes_object, goes_bound, goes_round, ended_with}

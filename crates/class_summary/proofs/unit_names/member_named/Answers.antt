@@ -1,7 +1,7 @@
 use Rattle.std.proofs.Common.{◌≡◌, true, false, get_or, rules}
 use Rattle.class_summary.specs.Names.{is_member}
 use Rattle.class_summary.proofs.Searches.{member_hit, member_on, member_end}
-use Rattle.class_summary.proofs.rules.member_named.Goals as goal
+use Rattle.class_summary.proofs.unit_names.member_named.Goals as goal
 
 pub returns-then-is_member : goal.returns-then-is_member
 returns-then-is_member c =

@@ -1,0 +1,36 @@
+-- What stands in the tables of a unit's names.
+use Rattle.std.specs.Prelude.{◌≡◌, ℕ, zero, suc, ◌==◌, ◌&&◌, if◌then◌else◌, List, [], ◌∷◌, slice_get, bytes_eq, Option, Some, None}
+use Rattle.java_units.specs.declared.types.SourceClass.{SourceClass}
+use Rattle.java_units.specs.declared.types.Unit as unit
+use Rattle.class_summary.specs.Names.{member_named, own_called}
+
+-- A text's package, imports and classes.
+abbrev pub SourceUnit : Type 0
+SourceUnit = unit.Unit
+
+-- The values of a function at n numbers from k on.
+abbrev pub numbered : {A : Type 0} → (ℕ → A) → ℕ → ℕ → List A
+numbered f k zero = []
+numbered f k (suc n) = f k ∷ numbered f (suc k) n
+
+-- A table of numbers by names.
+abbrev pub Table : Type 0
+Table = List ℕ → Option ℕ
+
+-- The table gives the first class of the text with a canonical name.
+abbrev pub GivesCalled : unit.Unit → Table → Type 0
+GivesCalled u table = (name : List ℕ) → table name ≡ own_called u name
+
+-- The table gives the top-level classes by their names.
+abbrev pub GivesTop : List SourceClass → Table → Type 0
+GivesTop cs table = (name : List ℕ) → table name ≡ member_named None name cs
+
+-- The table of each class gives its members by their names.
+abbrev pub GiveMembers : List SourceClass → List Table → Type 0
+GiveMembers cs tables = (i : ℕ) (table : Table) (name : List ℕ) → slice_get tables i ≡ Some table → table name ≡ member_named (Some i) name cs
+
+-- The tables as before, with a number at a name of the table at this place.
+abbrev pub PutsAt : ℕ → List ℕ → ℕ → List Table → List Table → Type 0
+PutsAt place name number old new =
+    (k : ℕ) (after : Table) → slice_get new k ≡ Some after →
+    (before : Table) × (slice_get old k ≡ Some before) × ((other : List ℕ) → after other ≡ (if place == k && bytes_eq other name then Some number else before other))
