@@ -31,9 +31,13 @@ first_below f (suc n) = or_then (first_below f n) (f n)
 abbrev pub limit_fault : Parts → Option EnvFault
 limit_fault g = unless (nat_lt 0 g.limit && nat_lt g.limit 10001) (Limit g.limit)
 
--- a fault, unless the depth is 0 or 1
+-- lambdas of an environment nest at most this deep
+abbrev pub greatest_depth : ℕ
+greatest_depth = 1
+
+-- a fault, unless the depth is at most the greatest
 abbrev pub depth_fault : Parts → Option EnvFault
-depth_fault g = unless (nat_lt g.depth 2) (Depth g.depth)
+depth_fault g = unless (nat_lt g.depth (greatest_depth + 1)) (Depth g.depth)
 
 -- pair n, after these pairs: both sides are type numbers and differ, and it didn't stand before
 unfoldable pub pair_fault : ℕ → ℕ → List (ℕ × ℕ) → ℕ × ℕ → Option EnvFault

@@ -1,8 +1,8 @@
 -- Places where terms are wanted, what fits them, and what it weighs there; then the inhabitants of the goal.
 use Rattle.std.specs.Prelude.{◌≡◌, ℕ, zero, suc, ◌+◌, ◌≤◌, Bool, true, false, ◌&&◌, nat_le, List, [], length}
 use Rattle.terms.specs.Expr.{Expr, var, head, Args, no_args, plain, lam}
-use Rattle.terms.specs.Typing.{some_below, type_in}
-use Rattle.terms.specs.Weights.{weight_in, step}
+use Rattle.terms.specs.Typing.{most_rows, some_below, type_in}
+use Rattle.terms.specs.Weights.{weight_in, step_in}
 use Rattle.terms.specs.declared.parts.Parts.{Parts}
 
 -- where a term is wanted: the rows of the lambdas around it, how many more may nest, and the type
@@ -30,11 +30,11 @@ fits_place g p e = some_below g (type_in g p.ctx e) p.wanted && shallow p.left e
 
 -- what it weighs there, the coercion to the wanted type included
 unfoldable pub weigh : Parts → Place → Expr → ℕ
-weigh g p e = weight_in g p.ctx e + step (type_in g p.ctx e) p.wanted
+weigh g p e = weight_in g p.ctx e + step_in g (type_in g p.ctx e) p.wanted
 
--- rows and lambdas are at most 3 together
+-- rows and lambdas together are no more than may be
 abbrev pub HasRoom : Place → Type 0
-HasRoom p = length p.ctx + p.left ≤ 3
+HasRoom p = length p.ctx + p.left ≤ most_rows
 
 -- the place of the goal: no lambda around it, the depth left, the goal's type
 abbrev pub goal_place : Parts → Place

@@ -1,10 +1,10 @@
 -- The type and the weight of a term at once, as one walk over the term finds them. Weights above 2^32 stand for 2^32.
-use Rattle.std.specs.Prelude.{ℕ, ◌+◌, min, Bool, ◌&&◌, nat_le, if◌then◌else◌, ◌==◌, List, [], ◌∷◌, Option, Some, None}
+use Rattle.std.specs.Prelude.{ℕ, ◌+◌, min, Bool, ◌&&◌, nat_le, if◌then◌else◌, List, [], ◌∷◌, Option, Some, None}
 use Rattle.terms.specs.Expr.{Expr, Args, no_args}
 use Rattle.terms.specs.View.{arg}
 use Rattle.terms.specs.Typing.{type_in, fits, is_below}
 use Rattle.terms.specs.Place.{shallow}
-use Rattle.terms.specs.Weights.{weight_in, args_weight}
+use Rattle.terms.specs.Weights.{weight_in, args_weight, step_in}
 use Rattle.terms.specs.declared.parts.Arg.{Arg}
 use Rattle.terms.specs.declared.parts.Decl.{Decl}
 use Rattle.terms.specs.declared.parts.Parts.{Parts}
@@ -36,10 +36,10 @@ rated_args g ctx xs wanted = capped_if (fits g ctx xs wanted) (args_weight g ctx
 unfoldable pub rated_arg : Parts → List (List ℕ) → TermArg → Arg → Option ℕ
 rated_arg g ctx a wanted = rated_args g ctx (arg a no_args) (wanted ∷ [])
 
--- what was rated, where b is wanted, under so many binders
+-- what was rated, where b is wanted, under binders of this weight
 abbrev pub at_place : Parts → Option Rating → ℕ → ℕ → Option ℕ
 at_place g None b binders = None
-at_place g (Some r) b binders = if is_below g r.result b then Some (capped (r.weight + binders + (if r.result == b then 0 else 10))) else None
+at_place g (Some r) b binders = if is_below g r.result b then Some (capped (r.weight + binders + step_in g (Some r.result) b)) else None
 
 -- a declaration over what its arguments weigh
 abbrev pub over : Option Decl → Option ℕ → Option Rating
@@ -55,4 +55,4 @@ plus (Some a) (Some b) = Some (capped (a + b))
 
 -- whether a closed term with this rating is an inhabitant
 unfoldable pub is_wanted : Parts → Rating → Expr → Bool
-is_wanted g r e = (is_below g r.result g.goal && shallow g.depth e) && nat_le (r.weight + (if r.result == g.goal then 0 else 10)) g.limit
+is_wanted g r e = (is_below g r.result g.goal && shallow g.depth e) && nat_le (r.weight + step_in g (Some r.result) g.goal) g.limit

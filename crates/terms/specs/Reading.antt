@@ -4,7 +4,7 @@ use Rattle.std.specs.Prelude.{ℕ, zero, suc, ◌+◌, Bool, true, false, ◌&&�
 use Rattle.terms.specs.Expr.{Expr}
 use Rattle.terms.specs.Place.{Place, fits_place, weigh}
 use Rattle.terms.specs.Typing.{is_below, joined}
-use Rattle.terms.specs.Weights.{step}
+use Rattle.terms.specs.Weights.{variable_weight, binders_weight, step_in}
 use Rattle.terms.specs.declared.parts.Arg.{Arg}
 use Rattle.terms.specs.declared.parts.Arg.TheVariants.{Plain, Fun}
 use Rattle.terms.specs.declared.parts.Decl.{Decl}
@@ -72,12 +72,12 @@ and_then (Some x) f = f x
 -- a variable at a place: what it weighs there with its coercion
 abbrev pub variable_at : Parts → Place → Option ℕ → Option Reading
 variable_at g p None = None
-variable_at g p (Some t) = some_when (is_below g t p.wanted) (record { weight = 1 + step (Some t) p.wanted; open_places = [] })
+variable_at g p (Some t) = some_when (is_below g t p.wanted) (record { weight = variable_weight g + step_in g (Some t) p.wanted; open_places = [] })
 
 -- a declaration at a place: what it weighs there with its binders and its coercion, and the places that it opens
 abbrev pub declared_at : Parts → Place → Option Decl → Option Reading
 declared_at g p None = None
-declared_at g p (Some d) = some_when (is_below g d.result p.wanted && has_room p.left d.args) (record { weight = d.weight + binders d.args + step (Some d.result) p.wanted; open_places = places p.ctx p.left d.args })
+declared_at g p (Some d) = some_when (is_below g d.result p.wanted && has_room p.left d.args) (record { weight = d.weight + binders_weight g (binders d.args) + step_in g (Some d.result) p.wanted; open_places = places p.ctx p.left d.args })
 
 -- a head at a place
 abbrev pub turn_by : Parts → Place → Symbol → Option Reading

@@ -9,6 +9,10 @@ use Rattle.terms.specs.declared.parts.Decl.{Decl}
 use Rattle.terms.specs.declared.parts.Parts.{Parts}
 use Rattle.terms.specs.declared.context.Ctx.{Ctx}
 
+-- rows and nested lambdas are at most so many together
+abbrev pub most_rows : ℕ
+most_rows = 3
+
 -- all rows joined: variable n is the n-th of them, from 0
 unfoldable pub joined : List (List ℕ) → List ℕ
 joined [] = []
@@ -47,13 +51,13 @@ unfoldable mutual
   type_in g ctx (var n) = slice_get (joined ctx) n
   type_in g ctx (head d xs) = result_if (slice_get g.decls d) (fits g ctx xs (args_wanted (slice_get g.decls d)))
 
-  -- as many arguments as wanted, and each fits; rows and lambdas are at most 3 together
+  -- as many arguments as wanted, and each fits; rows and lambdas are no more than may be
   pub fits : Parts → List (List ℕ) → Args → List Arg → Bool
   fits g ctx no_args [] = true
   fits g ctx (plain e rest) (Plain b ∷ more) = some_below g (type_in g ctx e) b && fits g ctx rest more
-  fits g ctx (lam e rest) (Fun ps r ∷ more) = nat_lt (length ctx) 3 && some_below g (type_in g (ctx ++ ps ∷ []) e) r && fits g ctx rest more
+  fits g ctx (lam e rest) (Fun ps r ∷ more) = nat_lt (length ctx) most_rows && some_below g (type_in g (ctx ++ ps ∷ []) e) r && fits g ctx rest more
   fits g ctx _ _ = false
 
 -- the type of a term in a context of the code, which has at most three rows
 abbrev pub type_of : Parts → Ctx → Expr → Option ℕ
-type_of g c e = if nat_le c.used 3 then type_in g (rows c) e else None
+type_of g c e = if nat_le c.used most_rows then type_in g (rows c) e else None

@@ -1,6 +1,9 @@
 ghost use Rattle.std.specs.Prelude.{◌≡◌, ◌<◌, ◌≤◌, ◌+◌, ◌++◌, ◌∷◌, [], slice_get};
 ghost use Rattle.terms.specs.Typing.{joined, rows};
 
+/// How many rows and nested lambdas there are at most together.
+pub const MOST_ROWS: u32 = 3;
+
 /// The parameter types of the lambdas around a term, outermost first. The first `used` rows count.
 #[derive(Clone, Copy, Debug)]
 pub struct Ctx<'a> {

@@ -11,12 +11,12 @@ ghost use Rattle.terms.specs.declared.fault.EnvFault.TheVariants.{OutOfMemory};
 
 use crate::above;
 use crate::closed::closed_types;
-use crate::context::Ctx;
+use crate::context::{Ctx, MOST_ROWS};
 use crate::declarations::decls_fault;
 use crate::depth::is_shallow;
 use crate::fault::EnvFault;
-use crate::parts::Parts;
-use crate::rating::{Rating, step, told};
+use crate::parts::{GREATEST_DEPTH, Parts};
+use crate::rating::{Rating, told};
 use crate::term::Term;
 use lists::{Copies, Items};
 use std::alloc::{AllocError, Global};
@@ -55,6 +55,18 @@ impl Env {
         match bounds_fault(&parts) {
             Some(fault) => Err(fault),
             None => Env::with_bounds(alloc, parts),
+        }
+    }
+
+    /// The environment of parts that are known to be valid. It makes the table alone and looks for no fault.
+    pub fn of_valid(alloc: Global, parts: Parts) -> Result<Env, AllocError>
+        requires valid { IsValid parts }
+        requires lengths { HasLengths parts }
+        ensures very_parts { IfOk result (λ env. env ≡ parts) }
+    {
+        match above::table_of(alloc, parts.types.as_slice().len(), parts.pairs.as_slice()) {
+            Ok(above) => Ok(Env { parts, above }),
+            Err(_) => Err(AllocError),
         }
     }
 
@@ -128,7 +140,7 @@ impl Env {
     pub fn type_of(&self, ctx: &Ctx<'_>, term: &Term) -> Option<u32>
         ensures { result ≡ type_of self.now ctx.now (expr term.now) }
     {
-        if ctx.used > 3 {
+        if ctx.used > MOST_ROWS {
             return None;
         }
         match self.rate(ctx, term) {
@@ -142,7 +154,7 @@ impl Env {
     pub fn weight(&self, ctx: &Ctx<'_>, term: &Term) -> Option<u32>
         ensures { result ≡ weight_of self.now ctx.now (expr term.now) }
     {
-        if ctx.used > 3 {
+        if ctx.used > MOST_ROWS {
             return None;
         }
         match self.rate(ctx, term) {
@@ -175,7 +187,7 @@ impl Env {
         if !is_shallow(term, parts.depth) {
             return false;
         }
-        rating.weight + step(rating.result, parts.goal) <= parts.limit as u64
+        rating.weight + self.step(rating.result, parts.goal) as u64 <= parts.limit as u64
     }
 }
 
@@ -192,7 +204,7 @@ fn bounds_fault(parts: &Parts) -> Option<EnvFault>
     if parts.limit == 0 || parts.limit > 10_000 {
         return Some(EnvFault::Limit(parts.limit));
     }
-    if parts.depth > 1 {
+    if parts.depth > GREATEST_DEPTH {
         return Some(EnvFault::Depth(parts.depth));
     }
     None

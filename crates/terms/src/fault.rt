@@ -15,7 +15,7 @@ pub enum EnvFault {
     Limit(u32),
     /// The first is below the second and that below the third, but the first isn't below the third.
     NotTransitive(u32, u32, u32),
-    /// The depth, which isn't 0 or 1.
+    /// The depth, which is above the greatest.
     Depth(u32),
     /// A declaration whose arguments don't suit its form.
     Form(u32),

@@ -17,12 +17,12 @@ mod parts;
 mod rating;
 mod term;
 
-pub use context::Ctx;
+pub use context::{Ctx, MOST_ROWS};
 pub use env::Env;
 pub use fault::EnvFault;
 pub use laws::{list_laws, pair_laws, text_laws};
 pub use levels::{Level, Levels};
-pub use parts::{Arg, Decl, Form, Parts};
+pub use parts::{Arg, Decl, Form, GREATEST_DEPTH, Parts};
 pub use term::{Term, TermArg};
 
 #[cfg(test)]

@@ -4,6 +4,9 @@ ghost use Rattle.terms.specs.Faults.{HasLengths};
 use lists::{Copies, Items, Text, copy_all};
 use std::alloc::{AllocError, Global};
 
+/// How deep lambdas of an environment nest at most.
+pub const GREATEST_DEPTH: u32 = 1;
+
 /// What a declaration wants at a place.
 #[derive(Debug, Drop)]
 pub enum Arg {

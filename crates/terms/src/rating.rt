@@ -1,9 +1,10 @@
-ghost use Rattle.std.specs.Prelude.{◌≡◌, ◌≤◌, ◌+◌, ◌==◌, nat_lt, if◌then◌else◌, IfSome, Some, None};
+ghost use Rattle.std.specs.Prelude.{◌≡◌, ◌≤◌, ◌+◌, nat_lt, if◌then◌else◌, IfSome, Some, None};
 ghost use Rattle.terms.specs.View.{expr, args_view};
 ghost use Rattle.terms.specs.Typing.{rows};
+ghost use Rattle.terms.specs.Weights.{variable_weight, binder_weight, binders_weight, coercion_weight, step_in};
 ghost use Rattle.terms.specs.Rating.{rated, rated_args, rated_arg, at_place, capped};
 
-use crate::context::Ctx;
+use crate::context::{Ctx, MOST_ROWS};
 use crate::env::Env;
 use crate::parts::Arg;
 use crate::term::{Term, TermArg};
@@ -27,13 +28,6 @@ fn capped(a: u64, b: u64) -> u64
     (a + b).min(CAP)
 }
 
-/// What the coercion from the one type to the other weighs.
-pub(crate) fn step(from: u32, to: u32) -> u64
-    ensures { result ≡ (if from == to then 0 else 10) }
-{
-    if from == to { 0 } else { 10 }
-}
-
 /// The weight, where it is below the cap.
 pub(crate) fn told(weight: u64) -> Option<u32>
     ensures { result ≡ (if nat_lt weight 4294967296 then Some weight else None) }
@@ -46,6 +40,45 @@ pub(crate) fn told(weight: u64) -> Option<u32>
 }
 
 impl Env {
+    /// What a use of a variable weighs.
+    pub fn variable_weight(&self) -> u32
+        ensures { result ≡ variable_weight self.now }
+    {
+        1
+    }
+
+    /// What a binder of a lambda weighs.
+    pub fn binder_weight(&self) -> u32
+        ensures { result ≡ binder_weight self.now }
+    {
+        1
+    }
+
+    /// What a coercion weighs.
+    pub fn coercion_weight(&self) -> u32
+        ensures { result ≡ coercion_weight self.now }
+    {
+        10
+    }
+
+    /// What the coercion from the one type to the other weighs: nothing where they are one.
+    pub fn step(&self, from: u32, to: u32) -> u32
+        ensures { result ≡ step_in self.now (Some from) to }
+    {
+        if from == to {
+            0
+        } else {
+            self.coercion_weight()
+        }
+    }
+
+    /// What so many binders weigh together, up to the cap.
+    fn binders_weight(&self, count: usize) -> u64
+        ensures { result ≡ capped (binders_weight self.now count) }
+    {
+        ((count as u64).min(CAP) * self.binder_weight() as u64).min(CAP)
+    }
+
     /// The type and the weight of a term, in one walk.
     #[cycle(rate)]
     #[tactic(auto, using(crate::proofs::Ratings::rating))]
@@ -56,7 +89,10 @@ impl Env {
     {
         match term {
             Term::Var(number) => match ctx.variable(*number) {
-                Some(result) => Some(Rating { result, weight: 1 }),
+                Some(result) => Some(Rating {
+                    result,
+                    weight: self.variable_weight() as u64,
+                }),
                 None => None,
             },
             Term::Head(number, args) => match self.parts().decls.get(*number as usize) {
@@ -104,27 +140,28 @@ impl Env {
         match (arg, wanted) {
             (TermArg::Plain(term), Arg::Plain(to)) => self.at_place(self.rate(ctx, term), *to, 0),
             (TermArg::Lam(body), Arg::Fun(params, to)) => {
-                if ctx.used == 3 {
+                if ctx.used == MOST_ROWS {
                     return None;
                 }
                 let found = self.rate(&ctx.with(params.as_slice()), body);
-                self.at_place(found, *to, params.len() as u64)
+                self.at_place(found, *to, self.binders_weight(params.len()))
             }
             _ => None,
         }
     }
 
-    /// The weight of what was rated, where a type is wanted, under so many binders.
+    /// The weight of what was rated, where a type is wanted, under binders of this weight.
     fn at_place(&self, found: Option<Rating>, to: u32, binders: u64) -> Option<u64>
-        requires { IfSome found (λ r. r.weight ≤ 4294967296) }
+        requires rating { IfSome found (λ r. r.weight ≤ 4294967296) }
+        requires binders { binders ≤ 4294967296 }
         ensures exact { result ≡ at_place self.now found to binders }
         ensures bound { IfSome result (λ sum. sum ≤ 4294967296) }
     {
         match found {
             Some(rating) => {
                 if self.is_below(rating.result, to) {
-                    let sum = capped(rating.weight, binders.min(CAP));
-                    Some(capped(sum, step(rating.result, to)))
+                    let sum = capped(rating.weight, binders);
+                    Some(capped(sum, self.step(rating.result, to) as u64))
                 } else {
                     None
                 }

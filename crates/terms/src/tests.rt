@@ -175,6 +175,30 @@ fn copies_answer_alike(rt: HostRuntime) -> Result<(), EnvFault> {
     Ok(())
 }
 
+/// The environment of the same parts, which are valid.
+fn again(alloc: Global, env: &Env) -> Result<Env, AllocError> {
+    Env::of_valid(alloc, env.parts().copy(alloc)?)
+}
+
+#[test]
+fn valid_parts_are_an_environment(rt: HostRuntime) -> Result<(), EnvFault> {
+    let env = again(rt.alloc(), &calls(rt.alloc(), COERCIONS)?)?;
+    assert!(rt; env.is_below(0, 1) && !env.is_below(1, 0) && !env.is_below(0, 2));
+    assert!(rt; is_so(&env, &nested(rt.alloc(), 2)?, Some(65), true));
+    Ok(())
+}
+
+#[test]
+fn an_environment_tells_its_weights(rt: HostRuntime) -> Result<(), EnvFault> {
+    let env = calls(rt.alloc(), COERCIONS)?;
+    assert_eq!(rt; env.variable_weight(), 1);
+    assert_eq!(rt; env.binder_weight(), 1);
+    assert_eq!(rt; env.coercion_weight(), 10);
+    assert_eq!(rt; env.step(0, 1), 10);
+    assert_eq!(rt; env.step(1, 1), 0);
+    Ok(())
+}
+
 #[test]
 fn lambdas_bind_and_are_weighed(rt: HostRuntime) -> Result<(), EnvFault> {
     let bound = over(rt.alloc(), TermArg::Lam(Term::Var(0)))?;
