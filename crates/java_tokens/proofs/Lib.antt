@@ -2,3 +2,4 @@ pub mod Runs
 pub mod Tiles
 mod Closed
 pub mod Total
+mod WordLaws

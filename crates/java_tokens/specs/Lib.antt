@@ -1,3 +1,4 @@
 pub mod Classes
 pub mod Rules
 pub mod Tokens
+pub mod Words

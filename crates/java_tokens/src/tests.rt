@@ -1,4 +1,4 @@
-use crate::{TokenKind, is_closed, tokens};
+use crate::{TokenKind, is_closed, is_word, tokens};
 use std::alloc::AllocError;
 
 /// A text, and its tokens: a letter for the kind of each, and where each ends.
@@ -228,4 +228,27 @@ fn closing_marks_are_seen(rt: HostRuntime) -> Result<(), AllocError> {
         assert_eq!(rt; is_closed(text, &found.as_slice()[0]), *closed, "{text}");
     }
     Ok(())
+}
+
+/// Texts, and whether each is one word.
+const WORDS: [(&str, bool); 12] = [
+    ("a", true),
+    ("_", true),
+    ("$1", true),
+    ("class", true),
+    ("\u{E9}t\u{E9}", true),
+    ("a\u{661}", true),
+    ("", false),
+    ("1a", false),
+    ("a b", false),
+    ("a.b", false),
+    ("a-", false),
+    ("\u{661}", false),
+];
+
+#[test]
+fn words_are_told(rt: HostRuntime) {
+    for (text, one) in &WORDS {
+        assert_eq!(rt; is_word(text), *one, "{text}");
+    }
 }
