@@ -2,4 +2,4 @@ pub mod Runs
 pub mod Tiles
 mod Closed
 pub mod Total
-mod WordLaws
+pub mod WordLaws

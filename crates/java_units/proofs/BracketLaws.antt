@@ -10,14 +10,14 @@ use Rattle.java_units.specs.Brackets.{IsMatched, BracketsMatch}
 use Rattle.java_units.proofs.Walks.{pick, closing-last, closing-right, closing-left, closing-other}
 
 -- no sign has both texts
-abbrev Apart : List ℕ → List ℕ → Type 0
+abbrev pub Apart : List ℕ → List ℕ → Type 0
 Apart l r = (s : Sign) → is r s ≡ true → is l s ≡ false
 
 apart_if : (b : Bool) (l r w : List ℕ) → l ≢ r → bytes_eq r w ≡ true → bytes_eq l w ≡ b → b ≡ false
 apart_if true l r w n e h = absurd (n ((bytes_eq-Decides l w).0 h ∙ sym ((bytes_eq-Decides r w).0 e)))
 apart_if false l r w n e h = refl
 
-apart : (l r : List ℕ) → l ≢ r → Apart l r
+pub apart : (l r : List ℕ) → l ≢ r → Apart l r
 unfolding is
 apart l r n s e = apart_if (bytes_eq l s.text) l r s.text n e refl
 

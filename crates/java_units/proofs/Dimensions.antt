@@ -46,7 +46,7 @@ dots_within (s ∷ t ∷ []) = none_least (not (is (codes ".") s) || not (is (co
 dots_within (s ∷ t ∷ u ∷ ss) = let l : 3 ≤ suc (suc (suc (length ss))) = omega arith in three_least (not (is (codes ".") s) || not (is (codes ".") t)) (is (codes ".") u) (suc (suc (suc (length ss)))) l
 
 -- forms one after the other, each of them no longer than what it is read from
-span_within : (n : ℕ) (f : List Sign → ℕ) → ((x : List Sign) → f x ≤ length x) → (xs : List Sign) (m : ℕ) → m ≡ f xs → length xs ≤ n → span f xs ≤ length xs
+pub span_within : (n : ℕ) (f : List Sign → ℕ) → ((x : List Sign) → f x ≤ length x) → (xs : List Sign) (m : ℕ) → m ≡ f xs → length xs ≤ n → span f xs ≤ length xs
 span_within n f h xs zero e l = omega (arith, span-none f xs (sym e))
 span_within zero f h xs (suc m) e l = absurd (omega (arith, h xs, e, l))
 span_within (suc n) f h xs (suc m) e l =

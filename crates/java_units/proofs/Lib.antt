@@ -17,3 +17,6 @@ mod PlainPieces
 mod TextSigns
 mod OnlySigns
 mod BracketLaws
+mod Groups
+mod TypeGrammar
+pub mod IdentifierLaws

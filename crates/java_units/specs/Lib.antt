@@ -1,5 +1,6 @@
 pub mod Words
 pub mod Signs
+pub mod Identifiers
 pub mod Forms
 pub mod Pieces
 pub mod Values
@@ -10,3 +11,4 @@ pub mod UnitLaws
 pub mod Dimensions
 pub mod SameSigns
 pub mod Brackets
+pub mod Grammar

@@ -8,7 +8,7 @@ pub use crate::entries::{Entry, declared_len, entries_len, entry_len};
 pub use crate::lexemes::{Lexeme, begins, begins_any, begins_name, front, is, tail};
 use crate::names::rounds;
 pub use crate::names::{base_len, dims_len, name_len, type_len};
-pub use crate::reading::{is_name, lexemes};
+pub use crate::reading::{is_identifier, is_name, lexemes};
 pub use crate::starts::entries;
 pub use crate::values::{first_text, type_text};
 use crate::words::is_modifier;

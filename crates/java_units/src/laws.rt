@@ -1,4 +1,6 @@
 ghost use Rattle.java_units.specs.Brackets.{BracketsMatch};
+ghost use Rattle.java_units.specs.Grammar.{TypesAreLongest};
+ghost use Rattle.java_units.specs.Identifiers.{AsciiIdentifiers, TextsHaveFreeNames};
 ghost use Rattle.java_units.specs.Pieces.{PiecesTile};
 ghost use Rattle.java_units.specs.SameSigns.{OnlySignsCount};
 
@@ -16,4 +18,16 @@ pub fn only_signs_count()
 /// that matches it by counting both.
 pub fn brackets_match()
     ensures law { BracketsMatch }
+{}
+
+/// Reading a type takes the longest front that the grammar of types spells.
+pub fn types_are_longest()
+    ensures law { TypesAreLongest }
+{}
+
+/// A text of ASCII characters is an identifier where tests that compute say so; no lexeme of a text that counts
+/// as an identifier is a reserved word.
+pub fn identifier_laws()
+    ensures ascii { AsciiIdentifiers }
+    ensures free { TextsHaveFreeNames }
 {}

@@ -22,7 +22,7 @@ mod unit;
 mod values;
 mod words;
 
-pub use laws::{brackets_match, only_signs_count, pieces_tile};
+pub use laws::{brackets_match, identifier_laws, only_signs_count, pieces_tile, types_are_longest};
 pub use types::{
     ClassKind, Import, Param, SourceClass, SourceField, SourceMethod, TypeText, TypeVar, Unit,
 };

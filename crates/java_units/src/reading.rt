@@ -1,5 +1,6 @@
 ghost use Rattle.std.specs.Prelude.{◌≡◌, ◌≤◌, ◌<◌, ◌&&◌, not, length, IfOk, OnOk, IsTrue};
 ghost use Rattle.java_tokens.specs.Tokens.{AreTokensOf, IsWithin, AreWithin};
+ghost use Rattle.java_units.specs.Identifiers.{is_identifier};
 ghost use Rattle.java_units.specs.Signs.{Sign, sign, seen, has, reserved, is_blank, is_word, text_of, signs_of};
 ghost use Rattle.java_units.specs.Blocks.{from_last, block_len, closers_after, seen_back};
 
@@ -43,6 +44,14 @@ pub fn is_name(kind: TokenKind, word: &str) -> bool
     ensures value { result ≡ (is_word kind && not (has reserved word.now)) }
 {
     is_word(kind) && !is_reserved(word)
+}
+
+/// Whether a text is an identifier: one word that is not reserved (JLS 3.8).
+#[tactic(auto, unfolding(crate::specs::Identifiers::is_identifier))]
+pub fn is_identifier(text: &str) -> bool
+    ensures value { result ≡ is_identifier text.now }
+{
+    java_tokens::is_word(text) && !is_reserved(text)
 }
 
 /// The text of a token.
