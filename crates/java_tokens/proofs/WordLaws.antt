@@ -1,20 +1,25 @@
 -- Texts that are one word.
-use Rattle.std.proofs.Common.{◌≡◌, ◌≢◌, ◌∙◌, ap, sym, subst, ℕ, zero, suc, ◌+◌, ◌<◌, ◌≤◌, ◌==◌, ◌&&◌, ◌||◌, Bool, true, false, drop, take, take_all, length, arith, rules, tests, List, [], ◌∷◌, refl, IsUtf8, if◌then◌else◌, codes, get_or, lit<}
+use Rattle.std.proofs.Common.{◌≡◌, ◌≢◌, ◌∙◌, ap, sym, subst, ℕ, zero, suc, ◌+◌, ◌<◌, ◌≤◌, ◌==◌, ◌&&◌, ◌||◌, Bool, true, false, drop, take, take_all, length, arith, rules, tests, List, [], ◌∷◌, refl, IsUtf8, if◌then◌else◌, codes, get_or, lit<, All, ◌++◌, ◌-◌, append_assoc, length-append}
 use Rattle.std.specs.List.{list_all}
 use Rattle.std.specs.Char.{is_ascii}
 use Rattle.std.specs.Str.{chars}
-use Rattle.std.proofs.lemmas.List.{drop_all, length-drop}
-use Rattle.std.proofs.lemmas.Str.{chars-IsAscii, encodes-chars}
+use Rattle.std.proofs.lemmas.List.{drop_all, length-drop, take-append-drop}
+use Rattle.std.proofs.lemmas.Str.{chars-IsAscii, chars-encodes, encodes-append, encodes-chars, scalars-chars}
+use Rattle.std.proofs.lemmas.List.Elements.{All-nil, All-cons}
+use Rattle.std.proofs.Math.Seq.{take-append_seam, drop-append_seam}
+use lib.Utf8.{encodes, scalars, scalar}
 use Rattle.unicode_ident.specs.Ident.{is_xid_start, is_xid_continue}
 use Rattle.unicode_ident.proofs.IdentLemmas.{is_xid_start-ascii, is_xid_continue-ascii, is_xid_start-is_xid_continue}
 use Rattle.java_tokens.specs.Classes.{is_white, is_word_start, is_word_part, is_digit}
 use Rattle.java_tokens.specs.Rules.{rule, run_of, begins, up_to, quoted, quoted_in_line}
 use Rattle.java_tokens.specs.Tokens.{byte_len, AreTokens}
-use Rattle.java_tokens.specs.Words.{is_word, begins_word, is_ascii_word, is_ascii_word_start, is_ascii_word_part, WordLaws, word_token}
+use Rattle.java_tokens.specs.Words.{is_word, begins_word, is_ascii_word, is_ascii_word_start, is_ascii_word_part, IsWordByText, WordLaws, word_token}
 use Rattle.java_tokens.specs.declared.char_class.CharClass.TheVariants.{InLine, WordPart, NumberPart}
+use Rattle.java_tokens.specs.declared.token.Token.{Token}
 use Rattle.java_tokens.specs.declared.token.TokenKind.{TokenKind}
 use Rattle.java_tokens.specs.declared.token.TokenKind.TheVariants as kind
 use Rattle.java_tokens.proofs.Runs.{byte_len-encodes}
+use Rattle.java_tokens.proofs.Total.{scalars_drop}
 
 and_left : (a b : Bool) → (a && b) ≡ true → a ≡ true
 and_left true b e = refl
@@ -230,5 +235,51 @@ only_of (c ∷ cs) end (n, r, s, f, more) =
 no_other : (text : List ℕ) (end : ℕ) → AreTokens 0 (chars text) (record { kind = kind.Word; start = 0; end = end } ∷ []) → is_word (chars text) ≡ true
 no_other text end e = only_of (chars text) end e
 
+-- each word among the tokens
+
+run_parts_by : (b : Bool) (c : ℕ) (cs : List ℕ) → is_word_part c ≡ b → list_all is_word_part (take (run_of WordPart cs) cs) ≡ true → list_all is_word_part (take (if b then suc (run_of WordPart cs) else 0) (c ∷ cs)) ≡ true
+run_parts_by true c cs e h = and_true (is_word_part c) (list_all is_word_part (take (run_of WordPart cs) cs)) e h
+run_parts_by false c cs e h = refl
+
+run_parts : (cs : List ℕ) → list_all is_word_part (take (run_of WordPart cs) cs) ≡ true
+unfolding run_of
+run_parts [] = refl
+run_parts (c ∷ cs) = run_parts_by (is_word_part c) c cs refl (run_parts cs)
+
+front_word : (c : ℕ) (cs : List ℕ) (n : ℕ) → Reads c cs n → is_word (take n (c ∷ cs)) ≡ true
+unfolding is_word
+front_word c cs n r =
+    subst (λ k. is_word (take k (c ∷ cs)) ≡ true) r.runs (and_true (is_word_start c) (list_all is_word_part (take (run_of WordPart cs) cs)) r.starts (run_parts cs))
+
+scalars_take : (n : ℕ) (cs : List ℕ) → scalars cs ≡ true → scalars (take n cs) ≡ true
+scalars_take zero cs e = refl
+scalars_take (suc n) [] e = refl
+scalars_take (suc n) (c ∷ cs) e = and_true (scalar c) (scalars (take n cs)) (and_left (scalar c) (scalars cs) e) (scalars_take n cs (and_right (scalar c) (scalars cs) e))
+
+cut_text : (text pre front rest : List ℕ) (start end : ℕ) → text ≡ pre ++ (front ++ rest) → start ≡ length pre → end ≡ length pre + length front → take (end - start) (drop start text) ≡ front
+cut_text text pre front rest start end e a b =
+    let size : end - start ≡ length front = omega (arith, a, b) in
+    let left : drop start text ≡ front ++ rest = ap (drop start) e ∙ (ap (λ k. drop k (pre ++ (front ++ rest))) a ∙ drop-append_seam pre (front ++ rest)) in
+    ap (λ k. take k (drop start text)) size ∙ (ap (take (length front)) left ∙ take-append_seam front rest)
+
+each_from : (text pre cs : List ℕ) (at : ℕ) (ts : List Token) → text ≡ pre ++ encodes cs → at ≡ length pre → scalars cs ≡ true → AreTokens at cs ts → All (IsWordByText text) ts
+each_from text pre cs at [] e a s are = All-nil (IsWordByText text)
+each_from text pre [] at (t ∷ ts) e a s are = absurd are
+each_from text pre (c ∷ cs) at (t ∷ ts) e a s (n, r, first, last, more) =
+    let all = c ∷ cs in
+    let front = encodes (take n all) in
+    let longer = pre ++ front in
+    let e1 : text ≡ pre ++ (front ++ encodes (drop n all)) = e ∙ ap (λ x. pre ++ x) (sym (ap encodes (take-append-drop n all)) ∙ encodes-append (take n all) (drop n all)) in
+    let e2 : text ≡ longer ++ encodes (drop n all) = e1 ∙ sym (append_assoc pre front (encodes (drop n all))) in
+    let size = byte_len-encodes (take n all) in
+    let a2 : t.end ≡ length longer = omega (arith, last, a, size, length-append pre front) in
+    let from : t.start ≡ length pre = first ∙ a in
+    let to : t.end ≡ length pre + length front = omega (arith, last, a, size) in
+    let same : chars (take (t.end - t.start) (drop t.start text)) ≡ take n all = ap chars (cut_text text pre front (encodes (drop n all)) t.start t.end e1 from to) ∙ chars-encodes (take n all) (scalars_take n all s) in
+    All-cons (IsWordByText text) t ts (λ k. ap is_word same ∙ front_word c cs n (word_reads c cs n (r ∙ ap (λ x. (x, n)) k))) (each_from text longer (drop n all) t.end ts e2 a2 (scalars_drop n all s) more)
+
+each : (text : List ℕ) (ts : List Token) → IsUtf8 text → AreTokens 0 (chars text) ts → All (IsWordByText text) ts
+each text ts u are = each_from text [] (chars text) 0 ts (sym (encodes-chars text u)) refl (scalars-chars text u) are
+
 pub word_laws : WordLaws
-word_laws = record { ascii = ascii; one_token = one_token; no_other = no_other }
+word_laws = record { ascii = ascii; one_token = one_token; no_other = no_other; each = each }

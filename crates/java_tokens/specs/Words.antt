@@ -1,5 +1,5 @@
 -- Texts that are one word.
-use Rattle.std.specs.Prelude.{◌≡◌, ℕ, ◌==◌, ◌&&◌, ◌||◌, Bool, true, false, List, [], ◌∷◌, length}
+use Rattle.std.specs.Prelude.{◌≡◌, ℕ, ◌-◌, ◌==◌, ◌&&◌, ◌||◌, Bool, true, false, All, List, [], ◌∷◌, length, take, drop}
 use Rattle.std.specs.List.{list_all}
 use Rattle.std.specs.Char.{is_ascii, is_ascii_alphabetic, is_ascii_alphanumeric}
 use Rattle.std.specs.Str.{chars, IsUtf8}
@@ -33,6 +33,10 @@ is_ascii_word (c ∷ cs) = is_ascii_word_start c && list_all is_ascii_word_part 
 abbrev pub word_token : List ℕ → Token
 word_token text = record { kind = kind.Word; start = 0; end = length text }
 
+-- A token of the kind of words is a word by its text.
+abbrev pub IsWordByText : List ℕ → Token → Type 0
+IsWordByText text t = t.kind ≡ kind.Word → is_word (chars (take (t.end - t.start) (drop t.start text))) ≡ true
+
 -- What holds of texts that are words.
 pub record WordLaws : Type 0 where
   -- a text of ASCII characters is a word where the tests say so
@@ -41,3 +45,5 @@ pub record WordLaws : Type 0 where
   pub one_token : (text : List ℕ) → IsUtf8 text → is_word (chars text) ≡ true → AreTokensOf text (word_token text ∷ [])
   -- no other text is one word
   pub no_other : (text : List ℕ) (end : ℕ) → AreTokensOf text (record { kind = kind.Word; start = 0; end = end } ∷ []) → is_word (chars text) ≡ true
+  -- each token of this kind is a word
+  pub each : (text : List ℕ) (tokens : List Token) → IsUtf8 text → AreTokensOf text tokens → All (IsWordByText text) tokens

@@ -1,15 +1,18 @@
 -- Types are read as the grammar spells them, the longest one.
-use Rattle.std.proofs.Common.{◌≡◌, ◌≢◌, ◌<◌, ◌≤◌, ◌∙◌, ap, sym, subst, ℕ, zero, suc, ◌+◌, ◌==◌, Bool, true, false, ◌&&◌, ◌||◌, if◌then◌else◌, List, [], ◌∷◌, ◌++◌, length, take, drop, refl, arith, codes, length-append, append_assoc}
+use Rattle.std.proofs.Common.{◌≡◌, ◌≢◌, ◌<◌, ◌≤◌, ◌∙◌, ap, sym, subst, ℕ, zero, suc, ◌+◌, ◌==◌, Bool, true, false, ◌&&◌, ◌||◌, not, if◌then◌else◌, List, [], ◌∷◌, ◌++◌, length, take, drop, refl, arith, codes, length-append, append_assoc}
 use Rattle.std.proofs.lemmas.List.{take-append-drop, length-drop, length-take-le}
 use Rattle.std.proofs.lemmas.List.Elements.{All-head}
 use Rattle.std.proofs.Math.Seq.{take-add, drop-append_seam}
 use Rattle.std.specs.Prelude.{bytes_eq}
 use Rattle.std.specs.List.{list_all}
 use Rattle.std.proofs.lemmas.Slice.Eq.{bytes_eq-Decides}
+use Rattle.std.specs.Str.{chars}
+use Rattle.java_tokens.specs.Words.{is_word}
 use Rattle.java_units.specs.Signs.{Sign, is, has, reserved}
 use Rattle.java_units.specs.Forms.{begins, begins_any, begins_name, primitives, span, angles, name_tail, type_tail, base_len, dim_len, dims_len, type_len}
-use Rattle.java_units.specs.Identifiers.{NamesAreFree}
-use Rattle.java_units.specs.Grammar.{IsGroup, IsPart, bare, applied, IsClassType, last, dotted, IsDims, none, one_more, IsType, primitive, class, TakesLongest, TypesAreLongest}
+use Rattle.java_units.specs.Identifiers.{is_identifier}
+use Rattle.java_units.specs.Grammar.{IsSign, sign, IsBoth, both, IsEither, one, other, IsOptional, absent, present, IsMany, no_more, one_more, IsList, last, followed, IsGroup, IsIdentifier, identifier, IsPrimitive, primitive, IsPart, IsClassType, IsDims, IsType}
+use Rattle.java_units.specs.Longest.{NamesAreIdentifiers, TakesLongest, TypesAreLongest}
 use Rattle.java_units.proofs.Walks.{pick, span-none, span-more}
 use Rattle.java_units.proofs.Dimensions.{span_within, dims_within}
 use Rattle.java_units.proofs.Groups.{is_other, differ, matched_group, group_matched, matched_none, matched_within}
@@ -59,18 +62,18 @@ span_dot dot zs a b =
 
 part_just : (part : List Sign) → IsPart part → (tail : List Sign) → begins (codes "<") tail ≡ false → part_len (part ++ tail) ≡ length part
 unfolding part_len
-part_just _ (bare name e) tail h = ap suc (angles_none tail h)
-part_just _ (applied name arguments e g) tail h = ap suc (angles_just arguments tail g)
+part_just _ (both _ _ (identifier name e) absent) tail h = ap suc (angles_none tail h)
+part_just _ (both _ _ (identifier name e) (present arguments g)) tail h = ap suc (angles_just arguments tail g)
 
 part_least : (part : List Sign) → IsPart part → (tail : List Sign) → length part ≤ part_len (part ++ tail)
 unfolding part_len
-part_least _ (bare name e) tail = omega arith
-part_least _ (applied name arguments e g) tail = omega (arith, angles_just arguments tail g)
+part_least _ (both _ _ (identifier name e) absent) tail = omega arith
+part_least _ (both _ _ (identifier name e) (present arguments g)) tail = omega (arith, angles_just arguments tail g)
 
 part_names : (part : List Sign) → IsPart part → (tail : List Sign) → begins_name (part ++ tail) ≡ true
 unfolding begins_name
-part_names _ (bare name e) tail = e
-part_names _ (applied name arguments e g) tail = e
+part_names _ (both _ _ (identifier name e) absent) tail = e
+part_names _ (both _ _ (identifier name e) (present arguments g)) tail = e
 
 no_angle : (dot : Sign) (zs : List Sign) → is (codes ".") dot ≡ true → begins (codes "<") (dot ∷ zs) ≡ false
 unfolding begins
@@ -87,7 +90,7 @@ parts_on part dot zs p d n =
 
 class_names : (ss : List Sign) → IsClassType ss → (tail : List Sign) → begins_name (ss ++ tail) ≡ true
 class_names _ (last part p) tail = part_names part p tail
-class_names _ (dotted part dot others p d c) tail = ap begins_name (append_assoc part (dot ∷ others) tail) ∙ part_names part p (dot ∷ (others ++ tail))
+class_names _ (followed part dot others p d c) tail = ap begins_name (append_assoc part (dot ∷ others) tail) ∙ part_names part p (dot ∷ (others ++ tail))
 
 dotted_len : (part : List Sign) (dot : Sign) (others tail : List Sign) → IsPart part → is (codes ".") dot ≡ true → IsClassType others → parts_len ((part ++ (dot ∷ others)) ++ tail) ≡ length part + suc (parts_len (others ++ tail))
 dotted_len part dot others tail p d c = ap parts_len (append_assoc part (dot ∷ others) tail) ∙ parts_on part dot (others ++ tail) p d (class_names others c tail)
@@ -95,13 +98,13 @@ dotted_len part dot others tail p d c = ap parts_len (append_assoc part (dot ∷
 class_least : (ss : List Sign) → IsClassType ss → (tail : List Sign) → length ss ≤ parts_len (ss ++ tail)
 unfolding parts_len
 class_least _ (last part p) tail = omega (arith, part_least part p tail)
-class_least _ (dotted part dot others p d c) tail =
+class_least _ (followed part dot others p d c) tail =
     omega (arith, dotted_len part dot others tail p d c, class_least others c tail, length-append part (dot ∷ others))
 
 pub class_just : (ss : List Sign) → IsClassType ss → (tail : List Sign) → begins (codes "<") tail ≡ false → name_tail tail ≡ 0 → parts_len (ss ++ tail) ≡ length ss
 class_just _ (last part p) tail h k =
     omega (arith, past_part part tail (part_just part p tail h), span-none type_tail tail (tail_none tail k))
-class_just _ (dotted part dot others p d c) tail h k =
+class_just _ (followed part dot others p d c) tail h k =
     omega (arith, dotted_len part dot others tail p d c, class_just others c tail h k, length-append part (dot ∷ others))
 
 -- dimensions
@@ -117,15 +120,18 @@ dims_on a b xs e f =
     omega (arith, span-more dim_len (a ∷ b ∷ xs) 2 (sym (dim_two a b xs e f)) some there)
 
 pub dims_least : (ds : List Sign) → IsDims ds → (tail : List Sign) → length ds ≤ dims_len (ds ++ tail)
-dims_least _ none tail = omega arith
-dims_least _ (one_more a b others e f d) tail = omega (arith, dims_on a b (others ++ tail) e f, dims_least others d tail)
+dims_least _ no_more tail = omega arith
+dims_least _ (one_more _ others (both _ _ (sign a e) (sign b f)) d) tail = omega (arith, dims_on a b (others ++ tail) e f, dims_least others d tail)
 
 pub dims_just : (ds : List Sign) → IsDims ds → (tail : List Sign) → dim_len tail ≡ 0 → dims_len (ds ++ tail) ≡ length ds
-dims_just _ none tail h = span-none dim_len tail h
-dims_just _ (one_more a b others e f d) tail h = omega (arith, dims_on a b (others ++ tail) e f, dims_just others d tail h)
+dims_just _ no_more tail h = span-none dim_len tail h
+dims_just _ (one_more _ others (both _ _ (sign a e) (sign b f)) d) tail h = omega (arith, dims_on a b (others ++ tail) e f, dims_just others d tail h)
+
+dim_more : (a b : Sign) (xs : List Sign) → is (codes "[") a ≡ true → is (codes "]") b ≡ true → IsDims xs → IsDims (a ∷ b ∷ xs)
+dim_more a b xs e f d = one_more (a ∷ b ∷ []) xs (both (a ∷ []) (b ∷ []) (sign a e) (sign b f)) d
 
 no_dims : (xs : List Sign) → dim_len xs ≡ 0 → IsDims (take (dims_len xs) xs)
-no_dims xs e = subst (λ k. IsDims (take k xs)) (sym (span-none dim_len xs e)) none
+no_dims xs e = subst (λ k. IsDims (take k xs)) (sym (span-none dim_len xs e)) no_more
 
 none_if : (a : Bool) → ◌≡◌ {A = ℕ} (if a && false then 2 else 0) 0
 none_if true = refl
@@ -136,7 +142,7 @@ none_unless a b e = rw (e) (none_if a)
 
 dims_by : (a b : Sign) (xs : List Sign) → IsDims (take (dims_len xs) xs) → (p q : Bool) → is (codes "[") a ≡ p → is (codes "]") b ≡ q → IsDims (take (dims_len (a ∷ b ∷ xs)) (a ∷ b ∷ xs))
 unfolding dim_len begins
-dims_by a b xs d true true e f = subst (λ k. IsDims (take k (a ∷ b ∷ xs))) (sym (dims_on a b xs e f)) (one_more a b (take (dims_len xs) xs) e f d)
+dims_by a b xs d true true e f = subst (λ k. IsDims (take k (a ∷ b ∷ xs))) (sym (dims_on a b xs e f)) (dim_more a b (take (dims_len xs) xs) e f d)
 dims_by a b xs d true false e f = no_dims (a ∷ b ∷ xs) (none_unless (is (codes "[") a) (is (codes "]") b) f)
 dims_by a b xs d false q e f = no_dims (a ∷ b ∷ xs) (rw (e) refl)
 
@@ -154,8 +160,8 @@ names_some [] e = absurd (cc)
 names_some (s ∷ ss) e = omega arith
 
 part_by : (s : Sign) (xs : List Sign) (n : ℕ) → s.is_name ≡ true → n ≡ angles xs → IsPart (s ∷ take n xs)
-part_by s xs zero e h = bare s e
-part_by s xs (suc n) e h = applied s (take (suc n) xs) e (angles_group xs n h)
+part_by s xs zero e h = both (s ∷ []) [] (identifier s e) absent
+part_by s xs (suc n) e h = both (s ∷ []) (take (suc n) xs) (identifier s e) (present (take (suc n) xs) (angles_group xs n h))
 
 part_sound : (ss : List Sign) → begins_name ss ≡ true → IsPart (take (part_len ss) ss)
 unfolding part_len begins_name
@@ -169,14 +175,14 @@ record IsDotted (ys : List Sign) : Type 0 where
   is_dot : is (codes ".") dot ≡ true
   names : begins_name others ≡ true
 
-both : (a b : Bool) → (a && b) ≡ true → (a ≡ true) × (b ≡ true)
-both true b e = (refl, e)
-both false b e = absurd (cc)
+halves : (a b : Bool) → (a && b) ≡ true → (a ≡ true) × (b ≡ true)
+halves true b e = (refl, e)
+halves false b e = absurd (cc)
 
 is_dotted : (ys : List Sign) → (begins (codes ".") ys && begins_name (drop 1 ys)) ≡ true → IsDotted ys
 unfolding begins
 is_dotted [] e = absurd (cc)
-is_dotted (s ∷ ys) e = let p = both (is (codes ".") s) (begins_name ys) e in record { dot = s; others = ys; are = refl; is_dot = p.0; names = p.1 }
+is_dotted (s ∷ ys) e = let p = halves (is (codes ".") s) (begins_name ys) e in record { dot = s; others = ys; are = refl; is_dot = p.0; names = p.1 }
 
 take_more : (n m : ℕ) (ss : List Sign) (dot : Sign) (zs : List Sign) → drop n ss ≡ dot ∷ zs → take (n + suc m) ss ≡ take n ss ++ (dot ∷ take m zs)
 take_more n m ss dot zs e = take-add n (suc m) ss ∙ ap (λ xs. take n ss ++ take (suc m) xs) e
@@ -187,7 +193,7 @@ class_by n ss l e ih true h =
     let d = is_dotted (drop (part_len ss) ss) h in
     let k : parts_len ss ≡ part_len ss + suc (parts_len d.others) = ap (λ xs. part_len ss + span type_tail xs) d.are ∙ ap (λ m. part_len ss + m) (span_dot d.dot d.others d.is_dot d.names) in
     let short : length d.others ≤ n = omega (arith, ap length d.are, length-drop (part_len ss) ss, l) in
-    let c = dotted (take (part_len ss) ss) d.dot (take (parts_len d.others) d.others) (part_sound ss e) d.is_dot (ih d.others short d.names) in
+    let c = followed (take (part_len ss) ss) d.dot (take (parts_len d.others) d.others) (part_sound ss e) d.is_dot (ih d.others short d.names) in
     subst IsClassType (sym (ap (λ m. take m ss) k ∙ take_more (part_len ss) (parts_len d.others) ss d.dot d.others d.are)) c
 class_by n ss l e ih false h =
     let z : name_tail (drop (part_len ss) ss) ≡ 0 = ap {B = ℕ} (λ b. if b then 2 else 0) h in
@@ -211,20 +217,29 @@ reserved_if false x xs w e a ih h = ih h
 one_reserved : (xs : List (List ℕ)) (w : List ℕ) → list_all (has reserved) xs ≡ true → has xs w ≡ true → has reserved w ≡ true
 unfolding has
 one_reserved [] w a h = absurd (cc)
-one_reserved (x ∷ xs) w a h = let p = both (has reserved x) (list_all (has reserved) xs) a in reserved_if (bytes_eq x w) x xs w refl p.0 (one_reserved xs w p.1) h
+one_reserved (x ∷ xs) w a h = let p = halves (has reserved x) (list_all (has reserved) xs) a in reserved_if (bytes_eq x w) x xs w refl p.0 (one_reserved xs w p.1) h
 
 primitives_reserved : list_all (has reserved) primitives ≡ true
 unfolding has reserved
 primitives_reserved = refl
 
+not_if : (a b : Bool) → (a && not b) ≡ true → b ≡ false
+not_if a false e = refl
+not_if true true e = absurd (cc)
+not_if false true e = absurd (cc)
+
+pub not_reserved : (w : List ℕ) → is_identifier w ≡ true → has reserved w ≡ false
+unfolding is_identifier
+not_reserved w e = not_if (is_word (chars w)) (has reserved w) e
+
 free_if : (b : Bool) (s : Sign) → has primitives s.text ≡ b → has reserved s.text ≡ false → b ≡ false
 free_if false s e f = refl
 free_if true s e f = let r = one_reserved primitives s.text primitives_reserved e in absurd (cc)
 
-pub not_primitive : (ss : List Sign) → NamesAreFree ss → begins_name ss ≡ true → begins_any primitives ss ≡ false
+pub not_primitive : (ss : List Sign) → NamesAreIdentifiers ss → begins_name ss ≡ true → begins_any primitives ss ≡ false
 unfolding begins_name begins_any
 not_primitive [] f e = absurd (cc)
-not_primitive (s ∷ ss) f e = free_if (has primitives s.text) s refl (All-head (λ s. s.is_name ≡ true → has reserved s.text ≡ false) s ss f e)
+not_primitive (s ∷ ss) f e = free_if (has primitives s.text) s refl (not_reserved s.text (All-head (λ s. s.is_name ≡ true → is_identifier s.text ≡ true) s ss f e))
 
 -- types
 
@@ -261,7 +276,7 @@ parts_some : (ss : List Sign) → parts_len ss ≡ suc (angles (drop 1 ss) + spa
 unfolding parts_len part_len
 parts_some ss = omega arith
 
-class_len : (ss : List Sign) → NamesAreFree ss → begins_name ss ≡ true → type_len ss ≡ parts_len ss + dims_len (drop (parts_len ss) ss)
+class_len : (ss : List Sign) → NamesAreIdentifiers ss → begins_name ss ≡ true → type_len ss ≡ parts_len ss + dims_len (drop (parts_len ss) ss)
 class_len ss f e =
     let some = parts_some ss in
     let m = angles (drop 1 ss) + span type_tail (drop (part_len ss) ss) in
@@ -279,25 +294,25 @@ bracket_no_dot : (a b : Sign) (xs : List Sign) → is (codes "[") a ≡ true →
 bracket_no_dot a b xs e = no_dot a (b ∷ xs) (is_other (codes ".") (codes "[") (differ 46 91 (λ e. absurd (omega arith))) a e)
 
 -- a class type with its dimensions, behind which the type goes no further than `tail` lets it
-array_least : (name dims tail : List Sign) → IsClassType name → IsDims dims → NamesAreFree (name ++ (dims ++ tail)) → length name + length dims ≤ type_len (name ++ (dims ++ tail))
-array_least name _ tail c none f = omega (arith, class_len (name ++ tail) f (class_names name c tail), class_least name c tail)
-array_least name _ tail c (one_more a b others e g d) f =
+array_least : (name dims tail : List Sign) → IsClassType name → IsDims dims → NamesAreIdentifiers (name ++ (dims ++ tail)) → length name + length dims ≤ type_len (name ++ (dims ++ tail))
+array_least name _ tail c no_more f = omega (arith, class_len (name ++ tail) f (class_names name c tail), class_least name c tail)
+array_least name _ tail c (one_more _ others (both _ _ (sign a e) (sign b g)) d) f =
     let rest = a ∷ b ∷ (others ++ tail) in
     let just = class_just name c rest (bracket_ends a b (others ++ tail) e) (bracket_no_dot a b (others ++ tail) e) in
     let past : dims_len (drop (parts_len (name ++ rest)) (name ++ rest)) ≡ dims_len rest = ap (λ n. dims_len (drop n (name ++ rest))) just ∙ ap (λ xs. dims_len xs) (drop-append_seam name rest) in
-    omega (arith, class_len (name ++ rest) f (class_names name c rest), just, past, dims_least (a ∷ b ∷ others) (one_more a b others e g d) tail)
+    omega (arith, class_len (name ++ rest) f (class_names name c rest), just, past, dims_least (a ∷ b ∷ others) (dim_more a b others e g d) tail)
 
-pub type_least : (ss : List Sign) → IsType ss → (tail : List Sign) → NamesAreFree (ss ++ tail) → length ss ≤ type_len (ss ++ tail)
-type_least _ (primitive word dims e d) tail f = omega (arith, primitive_len word (dims ++ tail) e, dims_least dims d tail)
-type_least _ (class name dims c d) tail f =
+pub type_least : (ss : List Sign) → IsType ss → (tail : List Sign) → NamesAreIdentifiers (ss ++ tail) → length ss ≤ type_len (ss ++ tail)
+type_least _ (both _ dims (one _ (primitive word e)) d) tail f = omega (arith, primitive_len word (dims ++ tail) e, dims_least dims d tail)
+type_least _ (both name dims (other _ c) d) tail f =
     let same = append_assoc name dims tail in
-    let g = subst NamesAreFree same f in
+    let g = subst NamesAreIdentifiers same f in
     omega (arith, ap type_len same, array_least name dims tail c d g, length-append name dims)
 
 primitive_sound : (ss : List Sign) → begins_any primitives ss ≡ true → IsType (take (type_len ss) ss)
 unfolding begins_any
 primitive_sound [] e = absurd (cc)
-primitive_sound (s ∷ ss) e = subst (λ n. IsType (take n (s ∷ ss))) (sym (primitive_len s ss e)) (primitive s (take (dims_len ss) ss) e (dims_sound ss))
+primitive_sound (s ∷ ss) e = subst (λ n. IsType (take n (s ∷ ss))) (sym (primitive_len s ss e)) (both (s ∷ []) (take (dims_len ss) ss) (one (s ∷ []) (primitive s e)) (dims_sound ss))
 
 type_by : (a b : Bool) (ss : List Sign) → begins_any primitives ss ≡ a → begins_name ss ≡ b → 0 < type_len ss → IsType (take (type_len ss) ss)
 type_by true b ss e h l = primitive_sound ss e
@@ -305,7 +320,7 @@ type_by false true ss e h l =
     let m = angles (drop 1 ss) + span type_tail (drop (part_len ss) ss) in
     let k = type_at ss m (base_class ss e h ∙ parts_some ss) ∙ ap (λ n. n + dims_len (drop n ss)) (sym (parts_some ss)) in
     let n = parts_len ss in
-    let t = class (take n ss) (take (dims_len (drop n ss)) (drop n ss)) (class_sound ss h) (dims_sound (drop n ss)) in
+    let t = both (take n ss) (take (dims_len (drop n ss)) (drop n ss)) (other (take n ss) (class_sound ss h)) (dims_sound (drop n ss)) in
     subst IsType (sym (ap (λ j. take j ss) k ∙ take-add n (dims_len (drop n ss)) ss)) t
 type_by false false ss e h l = absurd (omega (arith, no_type ss (base_none ss e h)))
 
@@ -361,29 +376,29 @@ type_within ss =
 -- no form is empty
 
 part_some : (part : List Sign) → IsPart part → 0 < length part
-part_some _ (bare name e) = omega arith
-part_some _ (applied name arguments e g) = omega arith
+part_some _ (both _ _ (identifier name e) absent) = omega arith
+part_some _ (both _ _ (identifier name e) (present arguments g)) = omega arith
 
 class_some : (name : List Sign) → IsClassType name → 0 < length name
 class_some _ (last part p) = part_some part p
-class_some _ (dotted part dot others p d c) = omega (arith, length-append part (dot ∷ others))
+class_some _ (followed part dot others p d c) = omega (arith, length-append part (dot ∷ others))
 
 pub type_some : (ss : List Sign) → IsType ss → 0 < length ss
-type_some _ (primitive word dims e d) = omega arith
-type_some _ (class name dims c d) = omega (arith, class_some name c, length-append name dims)
+type_some _ (both _ dims (one _ (primitive word e)) d) = omega arith
+type_some _ (both name dims (other _ c) d) = omega (arith, class_some name c, length-append name dims)
 
 -- what holds of the form with something behind it holds of each front
-pub takes_longest : (Spells : List Sign → Type 0) (len : List Sign → ℕ) → ((ss : List Sign) → len ss ≤ length ss) → ((ss : List Sign) → 0 < len ss → Spells (take (len ss) ss)) → ((ss : List Sign) → Spells ss → 0 < length ss) → ((ss : List Sign) → Spells ss → (tail : List Sign) → NamesAreFree (ss ++ tail) → length ss ≤ len (ss ++ tail)) → (ss : List Sign) → NamesAreFree ss → TakesLongest Spells len ss
+pub takes_longest : (Spells : List Sign → Type 0) (len : List Sign → ℕ) → ((ss : List Sign) → len ss ≤ length ss) → ((ss : List Sign) → 0 < len ss → Spells (take (len ss) ss)) → ((ss : List Sign) → Spells ss → 0 < length ss) → ((ss : List Sign) → Spells ss → (tail : List Sign) → NamesAreIdentifiers (ss ++ tail) → length ss ≤ len (ss ++ tail)) → (ss : List Sign) → NamesAreIdentifiers ss → TakesLongest Spells len ss
 takes_longest Spells len within sound some least ss free = record {
   within = within ss;
   sound = sound ss;
   longest = λ n l s.
       let whole = take-append-drop n ss in
-      let k = least (take n ss) s (drop n ss) (subst NamesAreFree (sym whole) free) in
+      let k = least (take n ss) s (drop n ss) (subst NamesAreIdentifiers (sym whole) free) in
       omega (arith, k, ap len whole, length-take-le n ss l);
   none = λ e n s.
       let whole = take-append-drop n ss in
-      let k = least (take n ss) s (drop n ss) (subst NamesAreFree (sym whole) free) in
+      let k = least (take n ss) s (drop n ss) (subst NamesAreIdentifiers (sym whole) free) in
       absurd (omega (arith, k, ap len whole, e, some (take n ss) s));
 }
 

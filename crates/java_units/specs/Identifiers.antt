@@ -1,11 +1,10 @@
 -- Texts that are identifiers.
-use Rattle.std.specs.Prelude.{◌≡◌, ℕ, Bool, true, false, ◌&&◌, not, All, List}
+use Rattle.std.specs.Prelude.{◌≡◌, ℕ, Bool, true, false, ◌&&◌, not, List}
 use Rattle.std.specs.List.{list_all}
 use Rattle.std.specs.Char.{is_ascii}
 use Rattle.std.specs.Str.{chars}
 use Rattle.java_tokens.specs.Words.{is_word, is_ascii_word}
-use Rattle.java_tokens.specs.declared.token.Token.{Token}
-use Rattle.java_units.specs.Signs.{Sign, has, reserved, signs_of}
+use Rattle.java_units.specs.Signs.{has, reserved}
 
 -- Whether the text is an identifier: a word that is not reserved (JLS 3.8).
 unfoldable pub is_identifier : List ℕ → Bool
@@ -18,11 +17,3 @@ is_ascii_identifier text = is_ascii_word text && not (has reserved text)
 -- A text of ASCII characters is an identifier where the tests say so.
 abbrev pub AsciiIdentifiers : Type 0
 AsciiIdentifiers = (text : List ℕ) → list_all is_ascii text ≡ true → is_identifier text ≡ is_ascii_identifier text
-
--- No sign that counts as an identifier is a reserved word.
-abbrev pub NamesAreFree : List Sign → Type 0
-NamesAreFree ss = All (λ s. s.is_name ≡ true → has reserved s.text ≡ false) ss
-
--- So it is of the signs of each text.
-abbrev pub TextsHaveFreeNames : Type 0
-TextsHaveFreeNames = (text : List ℕ) (tokens : List Token) → NamesAreFree (signs_of text tokens)

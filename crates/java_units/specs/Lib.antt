@@ -12,3 +12,4 @@ pub mod Dimensions
 pub mod SameSigns
 pub mod Brackets
 pub mod Grammar
+pub mod Longest

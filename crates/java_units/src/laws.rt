@@ -1,6 +1,6 @@
 ghost use Rattle.java_units.specs.Brackets.{BracketsMatch};
-ghost use Rattle.java_units.specs.Grammar.{TypesAreLongest};
-ghost use Rattle.java_units.specs.Identifiers.{AsciiIdentifiers, TextsHaveFreeNames};
+ghost use Rattle.java_units.specs.Longest.{TextsHaveNames, TypesAreLongest};
+ghost use Rattle.java_units.specs.Identifiers.{AsciiIdentifiers};
 ghost use Rattle.java_units.specs.Pieces.{PiecesTile};
 ghost use Rattle.java_units.specs.SameSigns.{OnlySignsCount};
 
@@ -25,9 +25,9 @@ pub fn types_are_longest()
     ensures law { TypesAreLongest }
 {}
 
-/// A text of ASCII characters is an identifier where tests that compute say so; no lexeme of a text that counts
-/// as an identifier is a reserved word.
+/// A text of ASCII characters is an identifier where tests that compute say so; each lexeme of a text that
+/// counts as an identifier is one by its text.
 pub fn identifier_laws()
     ensures ascii { AsciiIdentifiers }
-    ensures free { TextsHaveFreeNames }
+    ensures named { TextsHaveNames }
 {}
