@@ -38,7 +38,7 @@ three_least true b n l = omega arith
 three_least false true n l = l
 three_least false false n l = omega arith
 
-dots_within : (ss : List Sign) → dots_len ss ≤ length ss
+pub dots_within : (ss : List Sign) → dots_len ss ≤ length ss
 unfolding dots_len begins
 dots_within [] = omega arith
 dots_within (s ∷ []) = either_least (not (is (codes ".") s)) false 3 1

@@ -1,9 +1,8 @@
 -- Texts that are identifiers, and signs that count as such.
-use Rattle.std.proofs.Common.{◌≡◌, ap, ℕ, ◌+◌, Bool, true, false, ◌&&◌, not, if◌then◌else◌, List, [], ◌∷◌, refl, All, IsUtf8, codes}
+use Rattle.std.proofs.Common.{◌≡◌, ap, ℕ, ◌+◌, Bool, true, false, ◌&&◌, not, if◌then◌else◌, List, [], ◌∷◌, refl, All, codes}
 use Rattle.std.proofs.lemmas.List.Elements.{All-nil, All-cons, All-head, All-tail}
 use Rattle.std.specs.Str.{chars}
 use Rattle.java_tokens.specs.Words.{is_word, IsWordByText}
-use Rattle.java_tokens.specs.Tokens.{AreTokensOf}
 use Rattle.java_tokens.proofs.WordLaws.{word_laws}
 use Rattle.java_tokens.specs.declared.token.Token.{Token}
 use Rattle.java_tokens.specs.declared.token.TokenKind.{TokenKind}
@@ -47,9 +46,10 @@ unfolding signs_from
 from_named text n [] a = All-nil IsNamed
 from_named text n (t ∷ ts) a =
     let more = from_named text (n + 1) ts (All-tail (IsWordByText text) t ts a) in
-    elim (is_blank t.kind) as (λ b. NamesAreIdentifiers (if b then signs_from text (n + 1) ts else sign_of text n t ∷ signs_from text (n + 1) ts))
-    [ true ↦ more
-    | false ↦ All-cons IsNamed (sign_of text n t) (signs_from text (n + 1) ts) (one_named text n t (All-head (IsWordByText text) t ts a)) more ]
+    elim (is_blank t.kind) as (λ b. NamesAreIdentifiers (if b then signs_from text (n + 1) ts else sign_of text n t ∷ signs_from text (n + 1) ts)) [
+      | true ↦ more
+      | false ↦ All-cons IsNamed (sign_of text n t) (signs_from text (n + 1) ts) (one_named text n t (All-head (IsWordByText text) t ts a)) more
+    ]
 
 blocks_named : (ss : List Sign) → NamesAreIdentifiers ss → NamesAreIdentifiers (with_blocks ss)
 unfolding with_blocks

@@ -19,4 +19,9 @@ mod OnlySigns
 mod BracketLaws
 mod Groups
 mod TypeGrammar
+mod ListGrammar
+mod SignKinds
+mod Annotations
+mod ParamGrammar
+mod VarGrammar
 pub mod IdentifierLaws

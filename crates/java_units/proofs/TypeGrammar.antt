@@ -11,7 +11,7 @@ use Rattle.java_tokens.specs.Words.{is_word}
 use Rattle.java_units.specs.Signs.{Sign, is, has, reserved}
 use Rattle.java_units.specs.Forms.{begins, begins_any, begins_name, primitives, span, angles, name_tail, type_tail, base_len, dim_len, dims_len, type_len}
 use Rattle.java_units.specs.Identifiers.{is_identifier}
-use Rattle.java_units.specs.Grammar.{IsSign, sign, IsBoth, both, IsEither, one, other, IsOptional, absent, present, IsMany, no_more, one_more, IsList, last, followed, IsGroup, IsIdentifier, identifier, IsPrimitive, primitive, IsPart, IsClassType, IsDims, IsType}
+use Rattle.java_units.specs.Grammar.{sign, both, one, other, absent, present, no_more, one_more, last, followed, IsGroup, identifier, primitive, IsPart, IsClassType, IsDims, IsType}
 use Rattle.java_units.specs.Longest.{NamesAreIdentifiers, TakesLongest, TypesAreLongest}
 use Rattle.java_units.proofs.Walks.{pick, span-none, span-more}
 use Rattle.java_units.proofs.Dimensions.{span_within, dims_within}
@@ -309,6 +309,30 @@ type_least _ (both name dims (other _ c) d) tail f =
     let g = subst NamesAreIdentifiers same f in
     omega (arith, ap type_len same, array_least name dims tail c d g, length-append name dims)
 
+-- what ends a type: no type arguments, further part or dimension stand there
+pub record TypeEnds (tail : List Sign) : Type 0 where
+  pub no_angle : begins (codes "<") tail ≡ false
+  pub no_part : name_tail tail ≡ 0
+  pub no_dim : dim_len tail ≡ 0
+
+class_stops : (name dims tail : List Sign) → IsClassType name → IsDims dims → TypeEnds tail → parts_len (name ++ (dims ++ tail)) ≡ length name
+class_stops name _ tail c no_more h = class_just name c tail h.no_angle h.no_part
+class_stops name _ tail c (one_more _ others (both _ _ (sign a e) (sign b g)) d) h =
+    class_just name c (a ∷ b ∷ (others ++ tail)) (bracket_ends a b (others ++ tail) e) (bracket_no_dot a b (others ++ tail) e)
+
+array_just : (name dims tail : List Sign) → IsClassType name → IsDims dims → NamesAreIdentifiers (name ++ (dims ++ tail)) → TypeEnds tail → type_len (name ++ (dims ++ tail)) ≡ length name + length dims
+array_just name dims tail c d f h =
+    let just = class_stops name dims tail c d h in
+    let all = name ++ (dims ++ tail) in
+    let past : dims_len (drop (parts_len all) all) ≡ dims_len (dims ++ tail) = ap (λ n. dims_len (drop n all)) just ∙ ap (λ xs. dims_len xs) (drop-append_seam name (dims ++ tail)) in
+    omega (arith, class_len all f (class_names name c (dims ++ tail)), just, past, dims_just dims d tail h.no_dim)
+
+pub type_just : (ss : List Sign) → IsType ss → (tail : List Sign) → NamesAreIdentifiers (ss ++ tail) → TypeEnds tail → type_len (ss ++ tail) ≡ length ss
+type_just _ (both _ dims (one _ (primitive word e)) d) tail f h = omega (arith, primitive_len word (dims ++ tail) e, dims_just dims d tail h.no_dim)
+type_just _ (both name dims (other _ c) d) tail f h =
+    let same = append_assoc name dims tail in
+    omega (arith, ap type_len same, array_just name dims tail c d (subst NamesAreIdentifiers same f) h, length-append name dims)
+
 primitive_sound : (ss : List Sign) → begins_any primitives ss ≡ true → IsType (take (type_len ss) ss)
 unfolding begins_any
 primitive_sound [] e = absurd (cc)
@@ -340,7 +364,7 @@ two_within false [] = omega arith
 two_within false (s ∷ ss) = omega arith
 two_within true (s ∷ ss) = elim s.is_name as (λ b. (if b then 2 else 0) ≤ suc (suc (length ss))) [ true ↦ omega arith | false ↦ omega arith ]
 
-name_tail_within : (ys : List Sign) → name_tail ys ≤ length ys
+pub name_tail_within : (ys : List Sign) → name_tail ys ≤ length ys
 unfolding name_tail begins
 name_tail_within [] = omega arith
 name_tail_within (s ∷ ys) = two_within (is (codes ".") s) ys

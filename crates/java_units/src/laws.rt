@@ -1,5 +1,5 @@
 ghost use Rattle.java_units.specs.Brackets.{BracketsMatch};
-ghost use Rattle.java_units.specs.Longest.{TextsHaveNames, TypesAreLongest};
+ghost use Rattle.java_units.specs.Longest.{TextsHaveNames, TypesAreLongest, ParamsAreLongest, VarsAreLongest};
 ghost use Rattle.java_units.specs.Identifiers.{AsciiIdentifiers};
 ghost use Rattle.java_units.specs.Pieces.{PiecesTile};
 ghost use Rattle.java_units.specs.SameSigns.{OnlySignsCount};
@@ -30,4 +30,14 @@ pub fn types_are_longest()
 pub fn identifier_laws()
     ensures ascii { AsciiIdentifiers }
     ensures named { TextsHaveNames }
+{}
+
+/// Reading a parameter takes the longest front that the grammar of parameters spells.
+pub fn params_are_longest()
+    ensures law { ParamsAreLongest }
+{}
+
+/// Reading type variables takes the longest front that the grammar of type variables spells.
+pub fn vars_are_longest()
+    ensures law { VarsAreLongest }
 {}

@@ -29,4 +29,6 @@ pub use types::{
 pub use unit::read_unit;
 
 #[cfg(test)]
+mod identifier_tests;
+#[cfg(test)]
 mod tests;
