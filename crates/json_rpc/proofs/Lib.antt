@@ -1,11 +1,13 @@
+pub mod Backs
 mod Bodies
+mod Heading
 pub mod Inputs
 mod Lasting
 pub mod Lines
 pub mod Parsed
 pub mod Parts
 mod Pieces
-pub mod Stops
 mod Scans
+pub mod Stops
 pub mod Tails
 pub mod Wholes

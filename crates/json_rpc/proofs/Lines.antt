@@ -97,11 +97,11 @@ matched-is (b ∷ name) m l e =
     ap (λ k. matched_by k name) (pick_true _ (m + 1) 15 (some-of m b few first)) ∙ matched-is name (m + 1) (omega (arith, few)) rest
 
 -- one byte more
-name_on : (k d l b : ℕ) (t : Bool) → is_name b ≡ true → step (known Name k t d l) b ≡ On (known Name (matching k b) t d l)
+pub name_on : (k d l b : ℕ) (t : Bool) → is_name b ≡ true → step (known Name k t d l) b ≡ On (known Name (matching k b) t d l)
 unfolding step at_name
 name_on k d l b t e = pick_false (b == 58) _ _ (name-colon b e) ∙ pick_true (is_name b) _ _ e
 
-line_on : (k d l b : ℕ) (t : Bool) → is_name b ≡ true → step (known Line k t d l) b ≡ On (known Name (matching 0 b) t d l)
+pub line_on : (k d l b : ℕ) (t : Bool) → is_name b ≡ true → step (known Line k t d l) b ≡ On (known Name (matching 0 b) t d l)
 unfolding step at_line
 line_on k d l b t e = pick_false (b == 13) _ _ (name-return b e) ∙ pick_true (is_name b) _ _ e
 

@@ -177,7 +177,7 @@ second-run lines name n a e q =
     let split : name ≡ name ++ [] = sym (append-nil name) in
     (one.0, one.1 ∙ ap (run (known Line 0 true (one.0) n)) split ∙ run-line 0 (one.0) n true name [] some (length-visible name q) ∙ ap (λ k. run (known Name k true (one.0) n) []) (matched-is name 0 (lit≤ tt) q) ∙ run-nil (known Name 14 true (one.0) n))
 
-colon-twice : (d l : ℕ) → step (known Name 14 true d l) 58 ≡ Twice
+pub colon-twice : (d l : ℕ) → step (known Name 14 true d l) 58 ≡ Twice
 unfolding step at_name
 colon-twice d l = refl
 
@@ -221,7 +221,7 @@ twice-part LastEnd k d l b t e = never-twice (b == 10) _ _ _ e (λ q f. absurd c
 in-name : (m : Mode) (k d l line : ℕ) (t : Bool) (bytes : List ℕ) → m ≡ Name → Read (known m k t d l) line bytes → Read (known Name k t d l) line bytes
 in-name m k d l line t bytes e r = let P : Mode → Type 0 = λ v. Read (known v k t d l) line bytes in subst P e r
 
-second-met : (h : Head) (line b : ℕ) (front rest : List ℕ) → Read h line front → step h b ≡ Twice → SecondLength (front ++ (b ∷ rest)) line (length front)
+pub second-met : (h : Head) (line b : ℕ) (front rest : List ℕ) → Read h line front → step h b ≡ Twice → SecondLength (front ++ (b ∷ rest)) line (length front)
 second-met h line b front rest r e =
     let p = twice-part h.mode h.matched h.digits h.length b h.told e in
     let q = in-name h.mode h.matched h.digits h.length line h.told front p.0 r in
@@ -240,7 +240,7 @@ second-met h line b front rest r e =
     }
 
 -- why a reading was refused
-bad-place : (bytes : List ℕ) (k : ℕ) → AtBad [] bytes 0 k → IsRefusedAt bytes k
+pub bad-place : (bytes : List ℕ) (k : ℕ) → AtBad [] bytes 0 k → IsRefusedAt bytes k
 bad-place bytes k e =
     let at : length e.front ≡ e.at = omega (arith, e.place) in
     let front_is : take e.at bytes ≡ e.front = ap (take e.at) e.spelled ∙ ap (λ v. take v (e.front ++ (e.byte ∷ e.rest))) (sym at) ∙ take-append_seam e.front (e.byte ∷ e.rest) in

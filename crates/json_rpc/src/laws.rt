@@ -1,6 +1,6 @@
 ghost use Rattle.std.specs.Prelude.{◌≡◌, ◌↔◌, ◌≤◌, ◌+◌, ◌++◌, ℕ, List, length};
 ghost use Rattle.json_rpc.specs.Replies.{frame_of};
-ghost use Rattle.json_rpc.specs.Spelled.{BeginsFrame, IsFrame, IsRefusedAt};
+ghost use Rattle.json_rpc.specs.Spelled.{AreHeaderLines, BeginsFrame, BeginsLines, IsFrame, IsRefusedAt};
 ghost use Rattle.json_rpc.specs.Streams.{next_of, whole, wrong};
 ghost use Rattle.json_rpc.specs.declared.fault.FrameFault.{FrameFault};
 
@@ -8,6 +8,8 @@ ghost use Rattle.json_rpc.specs.declared.fault.FrameFault.{FrameFault};
 pub fn frame_laws()
     ensures exactly { (at : ℕ) (bytes body rest : List ℕ) → (next_of at bytes ≡ whole body rest) ↔ BeginsFrame bytes body rest }
     ensures read { (at : ℕ) (frame body rest : List ℕ) → IsFrame frame body → next_of at (frame ++ rest) ≡ whole body rest }
-    ensures refused { (at : ℕ) (bytes : List ℕ) (k : ℕ) → next_of at bytes ≡ wrong (FrameFault.Header k) → (place : ℕ) × (k ≡ at + place) × IsRefusedAt bytes place }
+    ensures refused { (at : ℕ) (bytes : List ℕ) (k : ℕ) → (next_of at bytes ≡ wrong (FrameFault.Header k)) ↔ ((place : ℕ) × (k ≡ at + place) × IsRefusedAt bytes place) }
+    ensures one_place { (bytes : List ℕ) (a b : ℕ) → IsRefusedAt bytes a → IsRefusedAt bytes b → a ≡ b }
+    ensures broken { (bytes : List ℕ) → ((more : List ℕ) → BeginsLines bytes more → ⊥) → ((front rest lengths : List ℕ) → bytes ≡ front ++ rest → AreHeaderLines front lengths → ⊥) → (place : ℕ) × IsRefusedAt bytes place }
     ensures written { (body : List ℕ) → length body ≤ 16777216 → IsFrame (frame_of body) body }
 {}

@@ -349,6 +349,7 @@ fn frames_are_written(rt: HostRuntime) -> Result<(), AllocError> {
         sink.bytes.as_slice()
             == b"Content-Length: 38\r\n\r\n{\"id\":2,\"jsonrpc\":\"2.0\",\"result\":null}".as_slice()
     );
+    assert_eq!(rt; sink.plan.calls, 2);
     let mut sink = MemSink::new(rt.alloc(), FaultPlan::none(rt.alloc()));
     assert!(rt; write_no_memory(&mut sink, &Id::Number(-7)).is_ok());
     assert!(rt;

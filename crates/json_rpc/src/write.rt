@@ -1,4 +1,4 @@
-ghost use Rattle.std.specs.Prelude.{◌≡◌, ◌≤◌, ◌<◌, ◌+◌, ◌*◌, ◌^◌, ◌++◌, ◌∷◌, [], ℕ, List, Option, length, codes, decimal, IsTrue, IfOk, OnOk, OnErr};
+ghost use Rattle.std.specs.Prelude.{◌≡◌, ◌≤◌, ◌<◌, ◌+◌, ◌*◌, ◌^◌, ◌++◌, ◌∷◌, [], ℕ, List, Option, length, codes, take, IsTrue, IfOk, OnOk, OnErr};
 ghost use Rattle.std.specs.Char.{digit_char};
 ghost use Rattle.std.specs.Io.KnownBytes.{Appends};
 ghost use Rattle.outside.specs.Causes.{HasCause};
@@ -13,37 +13,46 @@ use outside::{Failed, Sink, write_all};
 /// How many bytes the reply "no memory" has beside its id.
 const ROUND_ID: u128 = 69;
 
-/// Writes the length of a body and what ends the header part.
-#[tactic(auto, using(crate::proofs::Pieces::pieces))]
-fn write_length<K: Sink>(sink: &mut K, length: u128) -> Result<(), Failed>
-    ensures all { OnOk result (Appends (K.written sink.old) (K.written sink.new) (decimal length ++ codes "\r\n\r\n")) }
-    ensures front { OnErr result (WroteFront (K.written sink.old) (K.written sink.new) (decimal length ++ codes "\r\n\r\n")) }
-    ensures cause { HasCause (K.faults sink.old) (K.faults sink.new) result }
+/// Room for a header part: its length has at most 40 digits.
+const HEAD: usize = 64;
+
+/// Puts bytes into a buffer from a place on, and answers the place behind them.
+#[tactic(auto, using(crate::proofs::Heading::heading))]
+fn put(buffer: &mut [u8], place: usize, bytes: &[u8]) -> usize
+    requires room { place + length bytes.now ≤ length buffer.old }
+    ensures behind { result ≡ place + length bytes.now }
+    ensures holds { take result buffer.new ≡ take place buffer.old ++ bytes.now }
 {
-    let mut buffer = Buffer::new();
-    write_all(sink, buffer.format(length).as_bytes())?;
-    write_all(sink, b"\r\n\r\n")
+    for i in 0..bytes.len() {
+        buffer[place + i] = bytes[i];
+    }
+    place + bytes.len()
 }
 
-/// Writes what stands before the length.
-#[tactic(auto, unfolding(crate::specs::Replies::length_mark))]
-fn write_mark<K: Sink>(sink: &mut K) -> Result<(), Failed>
-    ensures all { OnOk result (Appends (K.written sink.old) (K.written sink.new) length_mark) }
-    ensures front { OnErr result (WroteFront (K.written sink.old) (K.written sink.new) length_mark) }
-    ensures cause { HasCause (K.faults sink.old) (K.faults sink.new) result }
+/// Puts a header part into a buffer, and answers its length.
+#[tactic(auto, using(crate::proofs::Heading::heading), unfolding(crate::specs::Replies::length_mark))]
+fn put_head(buffer: &mut [u8], digits: &[u8]) -> usize
+    requires room { length buffer.old ≡ HEAD }
+    requires few { length digits.now ≤ 40 }
+    ensures within { result ≤ HEAD }
+    ensures holds { take result buffer.new ≡ length_mark ++ (digits.now ++ codes "\r\n\r\n") }
 {
-    write_all(sink, b"Content-Length: ")
+    let mark = put(buffer, 0, b"Content-Length: ");
+    let told = put(buffer, mark, digits);
+    put(buffer, told, b"\r\n\r\n")
 }
 
-/// Writes the header part of a frame.
+/// Writes the header part of a frame, at once.
 #[tactic(auto, using(crate::proofs::Pieces::pieces), unfolding(crate::specs::Replies::head_of))]
 fn write_head<K: Sink>(sink: &mut K, length: u128) -> Result<(), Failed>
     ensures all { OnOk result (Appends (K.written sink.old) (K.written sink.new) (head_of length)) }
     ensures front { OnErr result (WroteFront (K.written sink.old) (K.written sink.new) (head_of length)) }
     ensures cause { HasCause (K.faults sink.old) (K.faults sink.new) result }
 {
-    write_mark(sink)?;
-    write_length(sink, length)
+    let mut digits = Buffer::new();
+    let mut head = [0; HEAD];
+    let end = put_head(&mut head, digits.format(length).as_bytes());
+    write_all(sink, &head[..end])
 }
 
 /// Writes a frame with this body, and takes no memory. After a fault a front of the frame is written.

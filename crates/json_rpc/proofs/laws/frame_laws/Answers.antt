@@ -1,3 +1,7 @@
+use Rattle.std.proofs.Common.{ap, sym, ◌∙◌}
+use Rattle.json_rpc.specs.Streams.{wrong}
+use Rattle.json_rpc.proofs.Backs.{refused-next, one-place, broken-refused}
+use Rattle.json_rpc.specs.declared.fault.FrameFault.TheVariants.{Header}
 use Rattle.json_rpc.proofs.Parts.{frame-at, frame-next, frame_of-frame}
 use Rattle.json_rpc.proofs.Wholes.{next-frame}
 use Rattle.json_rpc.proofs.Stops.{next-refused}
@@ -13,4 +17,10 @@ pub returns-clause-exactly : goal.returns-clause-exactly
 returns-clause-exactly c = λ at bytes body rest. (next-frame at bytes body rest, λ f. frame-at at bytes body rest f)
 
 pub returns-clause-refused : goal.returns-clause-refused
-returns-clause-refused c = next-refused
+returns-clause-refused c = λ at bytes k. (next-refused at bytes k, λ r. refused-next at bytes (r.0) (r.2) ∙ ap (λ v. wrong (Header v)) (sym (r.1)))
+
+pub returns-clause-one_place : goal.returns-clause-one_place
+returns-clause-one_place c = one-place
+
+pub returns-clause-broken : goal.returns-clause-broken
+returns-clause-broken c = broken-refused
