@@ -1,6 +1,6 @@
 -- A header part is refused wherever its lines say that it is.
-use Rattle.std.proofs.Common.{◌≡◌, ℕ, ◌+◌, ◌<◌, ◌≤◌, ◌⊎◌, inl, inr, ap, sym, ◌∙◌, drop, take, get_or, arith, List, [], ◌∷◌, refl, Bool, true, false, ◌++◌, length, nat_le, subst, append_assoc, append-nil, lit≤, All, Some, Option}
-use Rattle.std.proofs.lemmas.List.{length-append, length-take, take-append-le, take-append-drop, take_more, drop_more}
+use Rattle.std.proofs.Common.{◌≡◌, ℕ, ◌+◌, ◌<◌, ◌≤◌, inl, inr, ap, sym, ◌∙◌, drop, take, get_or, arith, List, [], ◌∷◌, refl, Bool, true, false, ◌++◌, length, nat_le, subst, append_assoc, append-nil, lit≤, All, Some}
+use Rattle.std.proofs.lemmas.List.{length-append, length-take, take-append-le, take-append-drop, take_more}
 use Rattle.std.proofs.Math.Seq.{take-append_seam}
 use Rattle.std.specs.List.{list_all, flat_map}
 use Rattle.json_rpc.specs.Heads.{start, step, after, line_after, scan_from, is_name}
