@@ -5,8 +5,8 @@ use Rattle.std.proofs.lemmas.Option.{get_or_from_slice_get}
 use Rattle.java_units.specs.declared.types.SourceMethod.{SourceMethod}
 use Rattle.java_units.specs.declared.types.Unit as unit
 use Rattle.java_units.specs.Dimensions.{greatest}
-use Rattle.class_summary.specs.declared.summary.ClassSummary.{ClassSummary}
-use Rattle.class_summary.specs.declared.summary.MethodSummary.{MethodSummary}
+use Rattle.known_classes.specs.declared.summary.ClassSummary.{ClassSummary}
+use Rattle.known_classes.specs.declared.summary.MethodSummary.{MethodSummary}
 use Rattle.java_units.specs.declared.types.SourceClass.{SourceClass}
 use Rattle.class_summary.specs.SourceSummaries.{method_of, methods_from, summary_at, summaries_from}
 

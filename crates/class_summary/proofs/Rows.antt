@@ -5,7 +5,7 @@ use Rattle.std.proofs.lemmas.List.{drop_all}
 use Rattle.std.proofs.lemmas.Bool.{false_from_ne_true}
 use Rattle.std.proofs.lemmas.Slice.Eq.{bytes_eq-Decides}
 use Rattle.class_shape.specs.declared.shapes.InnerRow.{InnerRow}
-use Rattle.class_summary.specs.declared.summary.Nesting.{Nesting}
+use Rattle.known_classes.specs.declared.summary.Nesting.{Nesting}
 use Rattle.class_summary.specs.Summaries.{nesting_in, said_by}
 
 first : (name : List ℕ) (r : InnerRow) (rs : List InnerRow) → name ≡ r.inner → nesting_in name (r ∷ rs) ≡ Some (said_by r)

@@ -5,7 +5,7 @@ use Rattle.std.proofs.lemmas.List.{drop_all, drop_more}
 use Rattle.java_units.specs.declared.types.SourceClass.{SourceClass}
 use Rattle.java_units.specs.declared.types.Import.{Import}
 use Rattle.java_units.specs.declared.types.Unit as unit
-use Rattle.class_summary.specs.declared.summary.ClassSummary.{ClassSummary}
+use Rattle.known_classes.specs.declared.summary.ClassSummary.{ClassSummary}
 use Rattle.class_summary.specs.declared.rules.Denoted.{Denoted}
 use Rattle.class_summary.specs.Sources.{name_at}
 use Rattle.class_summary.specs.Names.{is_member, member_from, member_named, enclosing, ends_with, imported, below_star, starred}

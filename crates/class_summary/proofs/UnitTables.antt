@@ -8,7 +8,7 @@ use Rattle.std.proofs.lemmas.Option.{slice_get_read}
 use Rattle.java_units.specs.declared.types.SourceClass.{SourceClass}
 use Rattle.class_summary.specs.Names.{first_from, is_member, member_from, same_number}
 use Rattle.class_summary.specs.UnitTables.{numbered, Table, PutsAt}
-use Rattle.class_summary.proofs.Merging.{two, equal, itself}
+use Rattle.known_classes.proofs.Merging.{two, equal, itself}
 
 swap : (a b : List ℕ) → bytes_eq a b ≡ bytes_eq b a
 swap a b = elim (two (bytes_eq a b)) [

@@ -1,11 +1,7 @@
 pub mod Flags
 pub mod Summaries
-pub mod Known
-pub mod Merging
 pub mod Sources
 pub mod Variables
-pub mod Outwards
 pub mod Names
 pub mod SourceSummaries
 pub mod UnitTables
-pub mod Laws

@@ -8,11 +8,12 @@ use Rattle.java_units.specs.declared.types.TypeText.{TypeText}
 use Rattle.java_units.specs.declared.types.Import.{Import}
 use Rattle.java_units.specs.declared.types.SourceClass.{SourceClass}
 use Rattle.java_units.specs.declared.types.Unit as unit
-use Rattle.class_summary.specs.Known.{class_named, class_called, canonical, lesser, outer_in, simple_in}
+use Rattle.known_classes.specs.Known.{class_named, class_by_canonical, canonical}
+use Rattle.known_classes.specs.Nested.{same_text, nested_class}
 use Rattle.class_summary.specs.Sources.{followed, joined, name_at, around, internal_name, canonical_name}
 use Rattle.class_summary.specs.Variables.{End, end_of, scopes_at}
-use Rattle.class_summary.specs.declared.summary.ClassSummary.{ClassSummary}
-use Rattle.class_summary.specs.declared.summary.Nesting.{Nesting}
+use Rattle.known_classes.specs.declared.summary.ClassSummary.{ClassSummary}
+use Rattle.known_classes.specs.declared.summary.Nesting.{Nesting}
 use Rattle.class_summary.specs.declared.rules.Denoted.{Denoted}
 use Rattle.class_summary.specs.declared.rules.Denoted.TheVariants.{Own, Other}
 
@@ -39,12 +40,12 @@ first_from zero i test = None
 first_from (suc n) i test = if test i then Some i else first_from n (suc i) test
 
 -- The first class of the text with this canonical name.
-abbrev pub own_called : unit.Unit → List ℕ → Option ℕ
-own_called u name = first_from (length u.classes) 0 (λ i. bytes_eq name (canonical_name u i))
+abbrev pub own_by_canonical : unit.Unit → List ℕ → Option ℕ
+own_by_canonical u name = first_from (length u.classes) 0 (λ i. bytes_eq name (canonical_name u i))
 
 -- The class with this canonical name, among those of the text and then the known ones.
 unfoldable pub class_with : unit.Unit → List ClassSummary → List ℕ → Option Denoted
-class_with u known name = option_or (own (own_called u name)) (other (class_called known known name))
+class_with u known name = option_or (own (own_by_canonical u name)) (other (class_by_canonical known known name))
 
 abbrev pub same_number : Option ℕ → Option ℕ → Bool
 same_number None None = true
@@ -70,10 +71,6 @@ enclosing cs name [] = None
 enclosing cs name (i ∷ is) =
     if bytes_eq name (name_at cs i) then Some i else option_or (member_named (Some i) name cs) (enclosing cs name is)
 
-abbrev pub same_text : Option (List ℕ) → List ℕ → Bool
-same_text None name = false
-same_text (Some text) name = bytes_eq name text
-
 -- Whether an import without star ends with this name.
 abbrev pub ends_with : List ℕ → Import → Bool
 ends_with name m = not m.star && same_text (slice_get m.parts (length m.parts - 1)) name
@@ -98,16 +95,6 @@ if_known (Some c) name = Some (Other name)
 -- The class of this internal name, where it is known.
 abbrev pub known_as : List ClassSummary → List ℕ → Option Denoted
 known_as known name = if_known (class_named known name) name
-
--- Whether a class stands directly in the class of this internal name, and has this simple name.
-abbrev pub is_nested : List ℕ → List ℕ → Option Nesting → Bool
-is_nested outer name n = same_text (outer_in n) outer && same_text (simple_in n) name
-
--- The known class that stands directly in that class and has this simple name; of several, the one of the least name.
-unfoldable pub nested_class : List ℕ → List ℕ → List ClassSummary → Option ClassSummary
-nested_class outer name [] = None
-nested_class outer name (c ∷ cs) =
-    if is_nested outer name c.nesting then Some (lesser c (nested_class outer name cs)) else nested_class outer name cs
 
 abbrev pub nested_below : unit.Unit → List ClassSummary → List ℕ → Option Denoted → Option Denoted
 nested_below u known name None = None
@@ -201,12 +188,3 @@ erased_end u known end = record { dims = end.dims; base = base_of u end.class kn
 -- of type variables, and where they end by the rules for classes.
 unfoldable pub denoted_type : unit.Unit → ℕ → Option ℕ → TypeText → List ClassSummary → Erased
 denoted_type u class method type known = erased_end u known (end_of (scopes_at u.classes class method) class type)
-
--- The class at a place, or none.
-abbrev pub class_at : List ClassSummary → Option ℕ → Option ClassSummary
-class_at known None = None
-class_at known (Some i) = slice_get known i
-
--- The answer is the place of the lesser of the classes at these places.
-abbrev pub IsLesser : List ClassSummary → ℕ → Option ℕ → ℕ → Type 0
-IsLesser known place best result = (c : ClassSummary) → slice_get known place ≡ Some c → slice_get known result ≡ Some (lesser c (class_at known best))

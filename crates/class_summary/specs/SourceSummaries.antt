@@ -15,10 +15,10 @@ use Rattle.java_units.specs.declared.types.Unit as unit
 use Rattle.java_units.specs.Members.{is_plain}
 use Rattle.class_summary.specs.Sources.{internal_name}
 use Rattle.class_summary.specs.Names.{denoted_type}
-use Rattle.class_summary.specs.declared.summary.FieldSummary.{FieldSummary}
-use Rattle.class_summary.specs.declared.summary.MethodSummary.{MethodSummary}
-use Rattle.class_summary.specs.declared.summary.Nesting.{Nesting}
-use Rattle.class_summary.specs.declared.summary.ClassSummary.{ClassSummary}
+use Rattle.known_classes.specs.declared.summary.FieldSummary.{FieldSummary}
+use Rattle.known_classes.specs.declared.summary.MethodSummary.{MethodSummary}
+use Rattle.known_classes.specs.declared.summary.Nesting.{Nesting}
+use Rattle.known_classes.specs.declared.summary.ClassSummary.{ClassSummary}
 
 -- The class that a base is, if it is one.
 abbrev pub class_in : Base → Option (List ℕ)

@@ -8,10 +8,10 @@ use Rattle.class_shape.specs.declared.shapes.ClassShape.{ClassShape}
 use Rattle.class_shape.specs.declared.shapes.MemberShape.{MemberShape}
 use Rattle.class_shape.specs.declared.shapes.InnerRow.{InnerRow}
 use Rattle.class_summary.specs.Flags.{has_flag, private, bridge, synthetic, module_flag}
-use Rattle.class_summary.specs.declared.summary.FieldSummary.{FieldSummary}
-use Rattle.class_summary.specs.declared.summary.MethodSummary.{MethodSummary}
-use Rattle.class_summary.specs.declared.summary.Nesting.{Nesting}
-use Rattle.class_summary.specs.declared.summary.ClassSummary.{ClassSummary}
+use Rattle.known_classes.specs.declared.summary.FieldSummary.{FieldSummary}
+use Rattle.known_classes.specs.declared.summary.MethodSummary.{MethodSummary}
+use Rattle.known_classes.specs.declared.summary.Nesting.{Nesting}
+use Rattle.known_classes.specs.declared.summary.ClassSummary.{ClassSummary}
 
 -- A field that is private or synthetic is dropped (JVMS 4.5).
 abbrev pub drops_field : ℕ → Bool

@@ -2,7 +2,7 @@
 use Rattle.std.specs.Prelude.{◌≡◌, ℕ, zero, suc, ◌==◌, ◌&&◌, if◌then◌else◌, List, [], ◌∷◌, slice_get, bytes_eq, Option, Some, None}
 use Rattle.java_units.specs.declared.types.SourceClass.{SourceClass}
 use Rattle.java_units.specs.declared.types.Unit as unit
-use Rattle.class_summary.specs.Names.{member_named, own_called}
+use Rattle.class_summary.specs.Names.{member_named, own_by_canonical}
 
 -- A text's package, imports and classes.
 abbrev pub SourceUnit : Type 0
@@ -19,7 +19,7 @@ Table = List ℕ → Option ℕ
 
 -- The table gives the first class of the text with a canonical name.
 abbrev pub GivesCalled : unit.Unit → Table → Type 0
-GivesCalled u table = (name : List ℕ) → table name ≡ own_called u name
+GivesCalled u table = (name : List ℕ) → table name ≡ own_by_canonical u name
 
 -- The table gives the top-level classes by their names.
 abbrev pub GivesTop : List SourceClass → Table → Type 0

@@ -4,13 +4,12 @@ ghost use Rattle.java_units.specs.UnitLaws.{IsNested};
 ghost use Rattle.java_units.specs.Dimensions.{dims_of_bounds};
 ghost use Rattle.class_summary.specs.Names.{internal_of, simple_class, canonical_of, member_class, dotted_class, in_package_else, class_of_name, primitive, primitive_of, base_of, denoted_type};
 
-use crate::classes::Classes;
-use crate::known::canonical;
 use crate::paths::{canonical_name, follow, joined};
 use crate::rules::{Denoted, class_with, internal_of, is, joined_with, simple_class, spelled};
 use crate::unit_names::UnitNames;
 use crate::variables::{end_of, scopes_at};
 use java_units::TypeText;
+use known_classes::{Classes, canonical};
 use lists::{Copies, Text};
 use std::alloc::{AllocError, Global};
 use type_names::{Base, Erased};

@@ -5,12 +5,11 @@ ghost use Rattle.class_summary.specs.Names.{denoted_type};
 ghost use Rattle.class_summary.specs.Variables.{IsMethodOf};
 ghost use Rattle.class_summary.specs.SourceSummaries.{IsSourceSummary, summaries_of};
 
-use crate::classes::Classes;
 use crate::naming::resolve_at;
 use crate::source::summary_at;
-use crate::summary::ClassSummary;
 use crate::unit_names::UnitNames;
 use java_units::{TypeText, Unit};
+use known_classes::{ClassSummary, Classes};
 use lists::Items;
 use std::alloc::{AllocError, Global};
 use std::marker::Model;

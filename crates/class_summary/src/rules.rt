@@ -1,30 +1,21 @@
 ghost use Rattle.std.specs.Prelude.{◌≡◌, ◌<◌, ◌∷◌, ◌++◌, [], length, Some, IfOk, IfSome, bytes_eq};
 ghost use Rattle.std.specs.Option.{option_copied};
-ghost use Rattle.class_summary.specs.Known.{IsPlaceOf};
+ghost use Rattle.known_classes.specs.Known.{IsPlaceOf};
 ghost use Rattle.class_summary.specs.Sources.{joined, name_at};
-ghost use Rattle.class_summary.specs.Names.{internal_of, class_with, same_number, is_member, enclosing, own_class, ends_with, imported, spelled, known_as, same_text, is_nested, IsLesser, nested_class, nested_below, below, below_star, starred, of_java_lang, named_class, simple_class};
+ghost use Rattle.class_summary.specs.Names.{internal_of, class_with, same_number, is_member, enclosing, own_class, ends_with, imported, spelled, known_as, nested_below, below, below_star, starred, of_java_lang, named_class, simple_class};
 
-use crate::classes::Classes;
 use crate::paths::{around, joined};
-use crate::summary::Nesting;
 use crate::unit_names::UnitNames;
 use java_units::{Import, SourceClass};
+use known_classes::{Classes, nested_class, same};
 use lists::{Copies, Items, Text, at, copy_all};
 use std::alloc::{AllocError, Global};
-use std::cmp::Ordering;
 
 /// A class that a name denotes: one of the text by its number, or another by its internal name.
 #[derive(Drop)]
 pub enum Denoted {
     Own(usize),
     Other(Text),
-}
-
-/// Whether two texts are the same.
-pub fn same(left: &Text, right: &Text) -> bool
-    ensures { result ≡ bytes_eq left.now right.now }
-{
-    left.as_str() == right.as_str()
 }
 
 /// Whether a text is this word.
@@ -192,57 +183,6 @@ pub fn joined_with(
     let mut all = copy_all(alloc, parts)?;
     all.push(name.copy(alloc)?)?;
     joined(alloc, sign, all.as_slice())
-}
-
-fn same_text(text: &Option<Text>, name: &Text) -> bool
-    ensures { result ≡ same_text text.now name.now }
-{
-    match text {
-        Some(text) => same(text, name),
-        None => false,
-    }
-}
-
-/// Whether a class stands directly in the class of this internal name, and has this simple name.
-fn is_nested(nesting: &Option<Nesting>, outer: &Text, name: &Text) -> bool
-    ensures { result ≡ is_nested outer.now name.now nesting.now }
-{
-    match nesting {
-        Some(nesting) => same_text(&nesting.outer, outer) && same_text(&nesting.simple, name),
-        None => false,
-    }
-}
-
-/// Of a class and another that may be missing, the one whose name is less.
-fn lesser<C: Classes>(known: &C, place: usize, best: Option<usize>) -> usize
-    requires here { place < length (C.listed known.now) }
-    requires there { IfSome best (λ b. b < length (C.listed known.now)) }
-    ensures within { result < length (C.listed known.now) }
-    ensures class { IsLesser (C.listed known.now) place best result }
-{
-    let Some(best) = best else {
-        return place;
-    };
-    if known.at(best).name.compare(&known.at(place).name) == Ordering::Less {
-        return best;
-    }
-    place
-}
-
-/// The known class that stands directly in that class and has this simple name.
-fn nested_class<C: Classes>(known: &C, outer: &Text, name: &Text) -> Option<usize>
-    ensures { IsPlaceOf (C.listed known.now) (nested_class outer.now name.now (C.listed known.now)) result }
-{
-    let mut best: Option<usize> = None;
-    let mut left = known.count();
-    while left > 0 {
-        left -= 1;
-        if !is_nested(&known.at(left).nesting, outer, name) {
-            continue;
-        }
-        best = Some(lesser(known, left, best));
-    }
-    best
 }
 
 /// The known class nested directly in a class.

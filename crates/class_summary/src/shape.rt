@@ -3,8 +3,8 @@ ghost use Rattle.std.specs.List.{filter_map};
 ghost use Rattle.class_summary.specs.Flags.{has_flag};
 ghost use Rattle.class_summary.specs.Summaries.{drops_field, drops_method, drops_members, field_kept, method_kept, fields_kept, methods_kept, supers_kept, said_by, nesting_in, summary_of};
 
-use crate::summary::{ClassSummary, FieldSummary, MethodSummary, Nesting, copy_text};
 use class_shape::{ClassShape, InnerRow, MemberShape};
+use known_classes::{ClassSummary, FieldSummary, MethodSummary, Nesting, copy_text};
 use lists::{Copies, Items, Text, copy_all};
 use std::alloc::{AllocError, Global};
 use type_names::{read_field, read_method};

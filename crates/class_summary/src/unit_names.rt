@@ -1,13 +1,13 @@
 ghost use Rattle.std.specs.Prelude.{◌≡◌, ◌&&◌, ◌==◌, if◌then◌else◌, ℕ, List, Option, Some, None, length, map, slice_get, bytes_eq, IfOk, OnOk};
 ghost use Rattle.std.specs.BTreeMap.{get_by_text};
 ghost use Rattle.class_summary.specs.Sources.{name_at, internal_name, canonical_name};
-ghost use Rattle.class_summary.specs.Names.{own_called, member_named, enclosing};
+ghost use Rattle.class_summary.specs.Names.{own_by_canonical, member_named, enclosing};
 ghost use Rattle.class_summary.specs.UnitTables.{numbered, Table, GivesCalled, GivesTop, GiveMembers, PutsAt};
 
-use crate::merged::put;
 use crate::paths::{canonical_name, internal_name};
 use crate::rules::is_member;
 use java_units::{Import, SourceClass, Unit};
+use known_classes::put;
 use lists::{Copies, Items, Text};
 use std::alloc::{AllocError, Global};
 use std::collections::BTreeMap;
@@ -200,7 +200,7 @@ impl<'a> UnitNames<'a> {
 
     /// The first class with this canonical name.
     pub fn called(&self, name: &Text) -> Option<usize>
-        ensures { result ≡ own_called self.now name.now }
+        ensures { result ≡ own_by_canonical self.now name.now }
     {
         self.called.get(name.as_str()).copied()
     }

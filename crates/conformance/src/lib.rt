@@ -9,6 +9,12 @@ mod file_tests;
 #[cfg(test)]
 mod name_tests;
 #[cfg(test)]
+mod scope_tests;
+#[cfg(test)]
 mod source_tests;
 #[cfg(test)]
 mod sources;
+#[cfg(test)]
+mod subtype_tests;
+#[cfg(test)]
+mod unit_name_tests;

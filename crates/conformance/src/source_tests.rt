@@ -87,17 +87,17 @@ fn a_class_of_a_text_is_summed_up(rt: HostRuntime) -> Result<(), Fail> {
 /// A bound that is an array of its own variable.
 const OWN_ARRAY: &str = "class A<T extends T[]> { T f; T[] g; }";
 
-/// Two variables whose bounds run in a circle.
+/// Two variables whose bounds run in a cycle.
 const TWO: &str = "class A<U extends V[], V extends U> { U[] f; V g; }";
 
-/// A variable whose bound leads into a circle.
+/// A variable whose bound leads into a cycle.
 const INTO: &str = "class A<U extends V[], V extends V> { U f; V[] g; }";
 
 /// Bounds that end, at Object and at a class.
 const ENDS: &str = "class A<S extends T[], T, R extends S, Q extends A[]> { R f; Q[] g; }";
 
 /// A text, the number of a field of its first class, and the descriptor of that field's type. A variable
-/// whose bounds run in a circle is Object, whatever dimensions those bounds have.
+/// whose bounds run in a cycle is Object, whatever dimensions those bounds have.
 const FIELDS: [(&str, usize, &str); 8] = [
     (OWN_ARRAY, 0, "Ljava/lang/Object;"),
     (OWN_ARRAY, 1, "[Ljava/lang/Object;"),

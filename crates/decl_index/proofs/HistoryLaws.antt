@@ -2,15 +2,15 @@
 use Rattle.std.proofs.Common.{◌≡◌, ℕ, Bool, true, false, cond, List, [], ◌∷◌, ◌++◌, map, length, Option, Some, None, Ordering, Less, Equal, Greater, refl, sym, ap, subst, ◌∙◌, arith, inl, inr}
 use Rattle.std.specs.Prelude.{bytes_eq, option_map, unwrap_or}
 use Rattle.std.specs.List.{flat_map}
-use Rattle.class_summary.specs.declared.summary.ClassSummary.{ClassSummary}
-use Rattle.class_summary.specs.Known.{class_named}
+use Rattle.known_classes.specs.declared.summary.ClassSummary.{ClassSummary}
+use Rattle.known_classes.specs.Known.{class_named}
 use Rattle.decl_index.specs.declared.change.Change.{Change}
 use Rattle.decl_index.specs.declared.change.Change.TheVariants.{Publish, Withdraw}
 use Rattle.decl_index.specs.declared.change.ChangeFault.{ChangeFault}
 use Rattle.decl_index.specs.declared.change.ChangeFault.TheVariants.{Cyclic, Full, TooHigh, JournalFull, NestCycle, OutOfMemory}
 use Rattle.decl_index.specs.History.{Name, order, Rises, State, AreClasses, AreCounts, Edit, remove, put, decided, edits_of, counts_of, count_at, use_of}
 use Rattle.decl_index.specs.Places.{told_or, Leaves}
-use Rattle.decl_index.specs.Refusals.{supers_of, outers_of, object_name, IsLeastCircle, IsFaultOf, IsTooHigh, RefusesFor}
+use Rattle.decl_index.specs.Refusals.{supers_of, outers_of, object_name, IsLeastNamedCycle, IsFaultOf, IsTooHigh, RefusesFor}
 use Rattle.decl_index.specs.Laws.{HasState, OneState, OneList, OneRefusal, UsesOfState}
 use Rattle.decl_index.proofs.Names.{exact, greater}
 use Rattle.decl_index.proofs.Sorted.{put_in, cut_out, put_rises, cut_rises}
@@ -72,23 +72,23 @@ one_state h s t a b =
     (a.number ∙ sym b.number)
 
 -- Refusals.
-least-by : (o : Ordering) (to : ClassSummary → List Name) (but : Option Name) (cs : List ClassSummary) (n m : Name) → order n m ≡ o → IsLeastCircle to but cs n → IsLeastCircle to but cs m → n ≡ m
-least-by Less to but cs n m e a b = absurd (b.least n e a.counts a.circle)
+least-by : (o : Ordering) (to : ClassSummary → List Name) (but : Option Name) (cs : List ClassSummary) (n m : Name) → order n m ≡ o → IsLeastNamedCycle to but cs n → IsLeastNamedCycle to but cs m → n ≡ m
+least-by Less to but cs n m e a b = absurd (b.least n e a.counts a.cycle)
 least-by Equal to but cs n m e a b = exact n m e
-least-by Greater to but cs n m e a b = absurd (a.least m (greater n m e) b.counts b.circle)
+least-by Greater to but cs n m e a b = absurd (a.least m (greater n m e) b.counts b.cycle)
 
-least-one : (to : ClassSummary → List Name) (but : Option Name) (cs : List ClassSummary) (n m : Name) → IsLeastCircle to but cs n → IsLeastCircle to but cs m → n ≡ m
+least-one : (to : ClassSummary → List Name) (but : Option Name) (cs : List ClassSummary) (n m : Name) → IsLeastNamedCycle to but cs n → IsLeastNamedCycle to but cs m → n ≡ m
 least-one to but cs n m a b = least-by (order n m) to but cs n m refl a b
 
 fault-one : (cs : List ClassSummary) (f g : ChangeFault) → IsFaultOf cs f → IsFaultOf cs g → f ≡ g
 fault-one cs (Cyclic n) (Cyclic m) a b = ap Cyclic (least-one supers_of (Some object_name) cs n m a b)
-fault-one cs (Cyclic n) (NestCycle m) a b = absurd (b.0.none n a.counts a.circle)
-fault-one cs (Cyclic n) (Full m) a b = absurd (b.0.none n a.counts a.circle)
-fault-one cs (NestCycle n) (Cyclic m) a b = absurd (a.0.none m b.counts b.circle)
+fault-one cs (Cyclic n) (NestCycle m) a b = absurd (b.0.none n a.counts a.cycle)
+fault-one cs (Cyclic n) (Full m) a b = absurd (b.0.none n a.counts a.cycle)
+fault-one cs (NestCycle n) (Cyclic m) a b = absurd (a.0.none m b.counts b.cycle)
 fault-one cs (NestCycle n) (NestCycle m) a b = ap NestCycle (least-one outers_of None cs n m a.1 b.1)
-fault-one cs (NestCycle n) (Full m) a b = absurd (b.1.none n a.1.counts a.1.circle)
-fault-one cs (Full n) (Cyclic m) a b = absurd (a.0.none m b.counts b.circle)
-fault-one cs (Full n) (NestCycle m) a b = absurd (a.1.none m b.1.counts b.1.circle)
+fault-one cs (NestCycle n) (Full m) a b = absurd (b.1.none n a.1.counts a.1.cycle)
+fault-one cs (Full n) (Cyclic m) a b = absurd (a.0.none m b.counts b.cycle)
+fault-one cs (Full n) (NestCycle m) a b = absurd (a.1.none m b.1.counts b.1.cycle)
 fault-one cs (Full n) (Full m) a b = ap Full (a.2 ∙ sym b.2)
 fault-one cs (TooHigh n) g a b = absurd a
 fault-one cs JournalFull g a b = absurd a

@@ -1,10 +1,10 @@
--- A new circle passes through a class that was put in.
+-- A new cycle passes through a class that was put in.
 use Rattle.std.proofs.Common.{◌≡◌, suc, Bool, true, false, cond, List, [], ◌∷◌, ◌++◌, map, Option, Some, None, refl, sym, subst, ◌∙◌, ◌⊎◌, inl, inr}
 use Rattle.std.specs.Prelude.{bytes_eq}
-use Rattle.class_summary.specs.declared.summary.ClassSummary.{ClassSummary}
-use Rattle.class_summary.specs.Known.{class_named}
+use Rattle.known_classes.specs.declared.summary.ClassSummary.{ClassSummary}
+use Rattle.known_classes.specs.Known.{class_named}
 use Rattle.decl_index.specs.History.{Name, put, remove, decided}
-use Rattle.decl_index.specs.Refusals.{supers_of, outers_of, object_name, Steps, IsWay, ReachesItself, HasNoCircle}
+use Rattle.decl_index.specs.Refusals.{supers_of, outers_of, object_name, Steps, IsWay, ReachesItself, HasNoCycle}
 use Rattle.decl_index.specs.Places.{told_or, Leaves}
 use Rattle.decl_index.specs.Changed.{Each, AvoidsItself, IsFree}
 use Rattle.decl_index.proofs.Names.{same-true}
@@ -72,7 +72,7 @@ step-back to old new k a b w s = elim (k a s.class s.known) [
   | inr h ↦ absurd (h w)
 ]
 
--- A way of which each name lies on a circle was there.
+-- A way of which each name lies on a cycle was there.
 way-back : (to : ClassSummary → List Name) (old new : List ClassSummary) → AreKept to old new → (n a : Name) (ms : List Name) → ReachesItself to new a → (IsWay to new a ms n → (ks : List Name) × IsWay to new n ks a) → IsWay to new a ms n → IsWay to old a ms n
 unfolding IsWay
 way-back to old new k n a [] r f w = step-back to old new k a n r w
@@ -81,11 +81,11 @@ way-back to old new k n a (m ∷ ms) r f w =
     let first : (ks : List Name) × IsWay to new n ks m = (round.0 ++ a ∷ [], way-join to new n round.0 a [] m round.1 w.0) in
     (step-back to old new k a m r w.0, way-back to old new k n m ms (ms ++ n ∷ first.0, way-join to new m ms n first.0 m w.1 first.1) (λ v. first) w.1)
 
-pub circle-back : (to : ClassSummary → List Name) (old new : List ClassSummary) → AreKept to old new → (n : Name) → ReachesItself to new n → ReachesItself to old n
-circle-back to old new k n r = (r.0, way-back to old new k n n r.0 r (λ v. r) r.1)
+pub cycle-back : (to : ClassSummary → List Name) (old new : List ClassSummary) → AreKept to old new → (n : Name) → ReachesItself to new n → ReachesItself to old n
+cycle-back to old new k n r = (r.0, way-back to old new k n n r.0 r (λ v. r) r.1)
 
-free-by : (to : ClassSummary → List Name) (but : Option Name) (old new : List ClassSummary) → AreKept to old new → HasNoCircle to but old → HasNoCircle to but new
-free-by to but old new k free = record { none = λ n h w. free.none n h (circle-back to old new k n w) }
+free-by : (to : ClassSummary → List Name) (but : Option Name) (old new : List ClassSummary) → AreKept to old new → HasNoCycle to but old → HasNoCycle to but new
+free-by to but old new k free = record { none = λ n h w. free.none n h (cycle-back to old new k n w) }
 
 pub stays_free : (removes : List Name) (puts old new : List ClassSummary) → Leaves (map remove removes ++ map put puts) old new → Each (λ c. AvoidsItself new c.name) puts → IsFree old → IsFree new
 stays_free removes puts old new l h free = record {

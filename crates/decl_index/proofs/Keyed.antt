@@ -2,8 +2,8 @@
 use Rattle.std.proofs.Common.{◌≡◌, ℕ, Bool, true, false, cond, List, [], ◌∷◌, map, Option, Some, None, Less, refl, sym, ap, ◌∙◌}
 use Rattle.std.specs.Prelude.{bytes_eq, option_map}
 use Rattle.std.specs.List.{AllByRecursion}
-use Rattle.class_summary.specs.declared.summary.ClassSummary.{ClassSummary}
-use Rattle.class_summary.specs.Known.{class_named}
+use Rattle.known_classes.specs.declared.summary.ClassSummary.{ClassSummary}
+use Rattle.known_classes.specs.Known.{class_named}
 use Rattle.decl_index.specs.History.{Name, order, Rises, CountsRise, count_at, counted, decided, put, or_else}
 use Rattle.decl_index.specs.Places.{told_or}
 use Rattle.decl_index.proofs.Names.{same-true}

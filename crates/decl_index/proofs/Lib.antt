@@ -2,10 +2,9 @@ pub mod Names
 pub mod Sorted
 pub mod Places
 pub mod State
-pub mod Circles
+pub mod Cycles
 pub mod RowLemmas
 pub mod Texts
-pub mod TextClasses
 pub mod CountLemmas
 pub mod Results
 pub mod Searches

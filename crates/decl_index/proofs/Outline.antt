@@ -2,14 +2,14 @@
 use Rattle.std.proofs.Common.{◌≡◌, ℕ, zero, suc, Bool, true, false, cond, List, [], ◌∷◌, ◌++◌, map, length, Option, Some, None, refl, sym, ap, subst, ◌∙◌, ◌⊎◌, inl, inr}
 use Rattle.std.specs.Prelude.{bytes_eq, option_map}
 use Rattle.std.proofs.lemmas.List.{length-map}
-use Rattle.class_summary.specs.declared.summary.ClassSummary.{ClassSummary}
-use Rattle.class_summary.specs.Known.{class_named, canonical, canonical_by, circles, comes_to, outer_of, outer_in, nesting_at, simple_in, nested_name, dotted}
+use Rattle.known_classes.specs.declared.summary.ClassSummary.{ClassSummary}
+use Rattle.known_classes.specs.Known.{class_named, canonical, canonical_by, cycles, comes_to, outer_of, outer_in, nesting_at, simple_in, nested_name, dotted}
 use Rattle.decl_index.specs.History.{Name, Rises, put, remove}
 use Rattle.decl_index.specs.Places.{canonical_names, Leaves}
 use Rattle.decl_index.specs.Changed.{Each, KeepsNesting}
 use Rattle.decl_index.proofs.Sorted.{Above}
 use Rattle.decl_index.proofs.State.{one_list}
-use Rattle.decl_index.proofs.Circles.{place_named}
+use Rattle.decl_index.proofs.Cycles.{place_named}
 use Rattle.decl_index.proofs.Kept.{told_puts}
 
 -- The class with its name and its nesting alone.
@@ -51,8 +51,8 @@ comes_same zero cs n o = refl
 comes_same (suc k) cs n None = refl
 comes_same (suc k) cs n (Some a) = ap (cond (bytes_eq n a) true) (ap (comes_to k (map strip cs) n) (outer_same cs a) ∙ comes_same k cs n (outer_of cs a))
 
-circles_same : (cs : List ClassSummary) (n : Name) → circles (map strip cs) n ≡ circles cs n
-circles_same cs n = ap (λ k. comes_to k (map strip cs) n (outer_of (map strip cs) n)) (length-map cs strip) ∙ ap (comes_to (length cs) (map strip cs) n) (outer_same cs n) ∙ comes_same (length cs) cs n (outer_of cs n)
+cycles_same : (cs : List ClassSummary) (n : Name) → cycles (map strip cs) n ≡ cycles cs n
+cycles_same cs n = ap (λ k. comes_to k (map strip cs) n (outer_of (map strip cs) n)) (length-map cs strip) ∙ ap (comes_to (length cs) (map strip cs) n) (outer_same cs n) ∙ comes_same (length cs) cs n (outer_of cs n)
 
 nested_same : (o s : Option Name) (f g : Name → Name) (own : Name) → ((x : Name) → f x ≡ g x) → nested_name o s f own ≡ nested_name o s g own
 nested_same None s f g own h = refl
@@ -63,8 +63,8 @@ canonical_by_same : (k : ℕ) (cs : List ClassSummary) (n : Name) → canonical_
 unfolding canonical_by
 canonical_by_same zero cs n = refl
 canonical_by_same (suc k) cs n =
-    ap (λ b. cond b (dotted n) (nested_name (outer_of (map strip cs) n) (simple_in (nesting_at (class_named (map strip cs) n))) (λ o. canonical_by k (map strip cs) o) (dotted n))) (circles_same cs n)
-    ∙ ap (cond (circles cs n) (dotted n))
+    ap (λ b. cond b (dotted n) (nested_name (outer_of (map strip cs) n) (simple_in (nesting_at (class_named (map strip cs) n))) (λ o. canonical_by k (map strip cs) o) (dotted n))) (cycles_same cs n)
+    ∙ ap (cond (cycles cs n) (dotted n))
     (ap (λ e. nested_name (outer_in e) (simple_in e) (λ o. canonical_by k (map strip cs) o) (dotted n)) (nesting_same cs n)
     ∙ nested_same (outer_of cs n) (simple_in (nesting_at (class_named cs n))) (λ o. canonical_by k (map strip cs) o) (λ o. canonical_by k cs o) (dotted n) (canonical_by_same k cs))
 

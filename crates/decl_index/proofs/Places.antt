@@ -2,8 +2,8 @@
 use Rattle.std.proofs.Common.{◌≡◌, ◌≢◌, ℕ, zero, suc, ◌+◌, ◌<◌, ◌≤◌, Bool, true, false, cond, rules, List, [], ◌∷◌, ◌++◌, length, take, drop, map, get_or, Option, Some, None, Ordering, Less, Equal, Greater, refl, sym, ap, subst, ◌∙◌, append_assoc, append-nil, arith}
 use Rattle.std.specs.List.{AllByRecursion, insert, remove as without, slice_get, flat_map}
 use lib.ListN.{set}
-use Rattle.class_summary.specs.declared.summary.ClassSummary.{ClassSummary}
-use Rattle.class_summary.specs.Known.{class_named, IsPlaceOf}
+use Rattle.known_classes.specs.declared.summary.ClassSummary.{ClassSummary}
+use Rattle.known_classes.specs.Known.{class_named, IsPlaceOf}
 use Rattle.decl_index.specs.History.{Name, order, Rises, put, remove, decided, said, or_else, Edit, told, edits_of, class_in}
 use Rattle.decl_index.specs.Places.{heads, Leaves, IsPlace, told_or}
 use Rattle.decl_index.specs.declared.change.Change.{Change}

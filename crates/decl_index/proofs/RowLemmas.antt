@@ -3,15 +3,15 @@ use Rattle.std.proofs.Common.{◌≡◌, ℕ, zero, suc, ◌+◌, ◌<◌, ◌�
 use Rattle.std.specs.List.{slice_get}
 use Rattle.std.proofs.lemmas.List.{take_more, take_all}
 use Rattle.std.proofs.lemmas.Option.{slice_get_within}
-use Rattle.class_summary.specs.declared.summary.ClassSummary.{ClassSummary}
-use Rattle.class_summary.specs.Known.{class_named, IsPlaceOf}
+use Rattle.known_classes.specs.declared.summary.ClassSummary.{ClassSummary}
+use Rattle.known_classes.specs.Known.{class_named, IsPlaceOf}
 use Rattle.graphs.specs.Graph.{IsIn, edges}
 use Rattle.graphs.proofs.Marks.{in-left, in-either, in-one, none_in}
 use Rattle.graphs.proofs.Lists.{last_in}
 use Rattle.decl_index.specs.History.{Name, Rises}
 use Rattle.decl_index.specs.Refusals.{IsOneOf}
 use Rattle.decl_index.specs.Rows.{IsRow, IsGraph}
-use Rattle.decl_index.proofs.Circles.{named_at, place_named, once_at, got_within}
+use Rattle.decl_index.proofs.Cycles.{named_at, place_named, once_at, got_within}
 
 pub oneof-left : (n : Name) (xs ys : List Name) → IsOneOf n xs → IsOneOf n (xs ++ ys)
 unfolding IsOneOf

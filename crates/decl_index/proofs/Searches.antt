@@ -3,13 +3,13 @@ use Rattle.std.proofs.Common.{◌≡◌, ℕ, zero, suc, ◌+◌, ◌<◌, ◌�
 use Rattle.std.specs.List.{slice_get}
 use Rattle.std.proofs.lemmas.List.{take_all, take-append-le}
 use Rattle.std.proofs.lemmas.Option.{slice_get_within, get_or_from_slice_get}
-use Rattle.class_summary.specs.declared.summary.ClassSummary.{ClassSummary}
-use Rattle.class_summary.specs.Known.{class_named}
+use Rattle.known_classes.specs.declared.summary.ClassSummary.{ClassSummary}
+use Rattle.known_classes.specs.Known.{class_named}
 use Rattle.decl_index.specs.History.{Name}
 use Rattle.decl_index.specs.Refusals.{IsOneOf, supers_of, outers_of, IsWay, ReachesItself}
 use Rattle.decl_index.specs.Changed.{Each, Meets, HasLinks, Follows, IsClosed, IsReached, AvoidsItself, IsFree}
 use Rattle.decl_index.proofs.Names.{same, same-true, same-of}
-use Rattle.decl_index.proofs.Circles.{first_known}
+use Rattle.decl_index.proofs.Cycles.{first_known}
 use Rattle.decl_index.proofs.RowLemmas.{oneof-left, oneof-last, oneof-either, oneof-none, below_or, next_names}
 
 -- Whether a name is one of the names.
@@ -154,7 +154,7 @@ each-all P xs i l all j x e = all j x (omega (arith, l, slice_get_within xs j x 
 pub not-one : {P : Type 0} (b : Bool) → (P → b ≡ true) → b ≡ false → P → ⊥
 not-one b h e p = let t : b ≡ true = h p in absurd cc
 
--- Where there is no class there is no circle.
+-- Where there is no class there is no cycle.
 pub free-none : IsFree []
 unfolding class_named
 free-none = record {

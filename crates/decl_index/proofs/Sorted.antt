@@ -1,8 +1,8 @@
 -- A list of classes in strictly rising order, with one put in or taken out.
 use Rattle.std.proofs.Common.{◌≡◌, Bool, true, false, cond, List, [], ◌∷◌, Option, Some, None, Ordering, Less, Equal, Greater, refl, sym, ap, subst, ◌∙◌}
 use Rattle.std.specs.List.{AllByRecursion}
-use Rattle.class_summary.specs.declared.summary.ClassSummary.{ClassSummary}
-use Rattle.class_summary.specs.Known.{class_named}
+use Rattle.known_classes.specs.declared.summary.ClassSummary.{ClassSummary}
+use Rattle.known_classes.specs.Known.{class_named}
 use Rattle.decl_index.specs.History.{Name, order, Rises}
 use Rattle.decl_index.proofs.Names.{same, before_after, greater, exact, same-true, apart, apart_back}
 

@@ -3,8 +3,8 @@ use Rattle.std.proofs.Common.{◌≡◌, ℕ, ◌+◌, Bool, true, false, cond, 
 use Rattle.std.specs.Prelude.{bytes_eq}
 use Rattle.std.specs.List.{flat_map}
 use Rattle.std.proofs.lemmas.List.{length_push}
-use Rattle.class_summary.specs.declared.summary.ClassSummary.{ClassSummary}
-use Rattle.class_summary.specs.Known.{class_named}
+use Rattle.known_classes.specs.declared.summary.ClassSummary.{ClassSummary}
+use Rattle.known_classes.specs.Known.{class_named}
 use Rattle.decl_index.specs.declared.change.Change.{Change}
 use Rattle.decl_index.specs.declared.change.Change.TheVariants.{Publish, Withdraw}
 use Rattle.decl_index.specs.declared.change.ChangeFault.{ChangeFault}
@@ -109,8 +109,8 @@ publish_refused h puts removes counts old f is p = record {
 }
 
 sound_free : (cs : List ClassSummary) (f : ChangeFault) → IsSound cs → IsFaultOf cs f → ⊥
-sound_free cs (Cyclic n) s w = s.supers.none n w.counts w.circle
-sound_free cs (NestCycle n) s w = s.outers.none n w.1.counts w.1.circle
+sound_free cs (Cyclic n) s w = s.supers.none n w.counts w.cycle
+sound_free cs (NestCycle n) s w = s.outers.none n w.1.counts w.1.cycle
 sound_free cs (Full n) s w = omega (arith, s.parts, w.2, w.3)
 sound_free cs (TooHigh n) s w = w
 sound_free cs JournalFull s w = w

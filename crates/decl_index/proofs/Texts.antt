@@ -10,15 +10,15 @@ use Rattle.std.specs.Ordering.{nat_cmp, is_lt, is_eq, eq_by_cmp}
 use Rattle.std.specs.List.{slice_get}
 use Rattle.std.proofs.lemmas.List.{drop_all, length-map, reverse-append, reverse-reverse}
 use Rattle.std.proofs.lemmas.Option.{slice_get_within}
-use Rattle.class_summary.specs.declared.summary.ClassSummary.{ClassSummary}
-use Rattle.class_summary.specs.Known.{class_named, class_called, lesser, canonical, canonical_by, circles, comes_to, outer_of, outer_in, nesting_at, simple_in, nested_name, dotted, IsPlaceOf}
+use Rattle.known_classes.specs.declared.summary.ClassSummary.{ClassSummary}
+use Rattle.known_classes.specs.Known.{class_named, class_by_canonical, lesser, canonical, canonical_by, cycles, comes_to, outer_of, outer_in, nesting_at, simple_in, nested_name, dotted, IsPlaceOf}
 use Rattle.decl_index.specs.History.{Name, order, Rises}
-use Rattle.decl_index.specs.Refusals.{IsOneOf, Steps, IsWay, HasNoCircle, outers_of, at_most_one}
+use Rattle.decl_index.specs.Refusals.{IsOneOf, Steps, IsWay, HasNoCycle, outers_of, at_most_one}
 use Rattle.decl_index.specs.Places.{place_among, canonical_names, called_place}
 use Rattle.decl_index.proofs.Names.{same-true, less_back}
 use Rattle.decl_index.proofs.Sorted.{Above}
 
--- No class is in a circle of outer classes, so none comes to itself.
+-- No class is in a cycle of outer classes, so none comes to itself.
 outer_step : (cs : List ClassSummary) (n m : Name) (o : Option ClassSummary) → class_named cs n ≡ o → outer_in (nesting_at o) ≡ Some m → Steps outers_of cs n m
 unfolding IsOneOf
 outer_step cs n m None e h = absurd cc
@@ -39,26 +39,26 @@ true_or_false : (b : Bool) → (b ≡ true) ⊎ (b ≡ false)
 true_or_false true = inl refl
 true_or_false false = inr refl
 
-circles_not : (cs : List ClassSummary) (n : Name) → HasNoCircle outers_of None cs → circles cs n ≡ false
-circles_not cs n free = elim (true_or_false (circles cs n)) [
+cycles_not : (cs : List ClassSummary) (n : Name) → HasNoCycle outers_of None cs → cycles cs n ≡ false
+cycles_not cs n free = elim (true_or_false (cycles cs n)) [
   | inl e ↦ absurd (free.none n (λ s. absurd cc) (comes_way (length cs) cs n n (outer_of cs n) refl e))
   | inr e ↦ e
 ]
 
 -- One class further out.
-pub canonical_end : (k : ℕ) (cs : List ClassSummary) (n : Name) → HasNoCircle outers_of None cs → ((outer : Name → Name) (own : Name) → nested_name (outer_of cs n) (simple_in (nesting_at (class_named cs n))) outer own ≡ own) → canonical_by k cs n ≡ dotted n
+pub canonical_end : (k : ℕ) (cs : List ClassSummary) (n : Name) → HasNoCycle outers_of None cs → ((outer : Name → Name) (own : Name) → nested_name (outer_of cs n) (simple_in (nesting_at (class_named cs n))) outer own ≡ own) → canonical_by k cs n ≡ dotted n
 unfolding canonical_by
 canonical_end zero cs n free h = refl
-canonical_end (suc k) cs n free h = ap (λ b. cond b (dotted n) (nested_name (outer_of cs n) (simple_in (nesting_at (class_named cs n))) (λ o. canonical_by k cs o) (dotted n))) (circles_not cs n free) ∙ h (λ o. canonical_by k cs o) (dotted n)
+canonical_end (suc k) cs n free h = ap (λ b. cond b (dotted n) (nested_name (outer_of cs n) (simple_in (nesting_at (class_named cs n))) (λ o. canonical_by k cs o) (dotted n))) (cycles_not cs n free) ∙ h (λ o. canonical_by k cs o) (dotted n)
 
 nested_both : (o s : Option Name) (f : Name → Name) (own outer simple : Name) → o ≡ Some outer → s ≡ Some simple → nested_name o s f own ≡ f outer ++ 46 ∷ simple
 nested_both None s f own outer simple e h = absurd cc
 nested_both (Some a) None f own outer simple e h = absurd cc
 nested_both (Some a) (Some b) f own outer simple e h = let x : a ≡ outer = cc in let y : b ≡ simple = cc in ap (λ z. f z ++ 46 ∷ b) x ∙ ap (λ z. f outer ++ 46 ∷ z) y
 
-pub canonical_on : (k : ℕ) (cs : List ClassSummary) (n outer simple : Name) → HasNoCircle outers_of None cs → outer_of cs n ≡ Some outer → simple_in (nesting_at (class_named cs n)) ≡ Some simple → canonical_by (suc k) cs n ≡ canonical_by k cs outer ++ 46 ∷ simple
+pub canonical_on : (k : ℕ) (cs : List ClassSummary) (n outer simple : Name) → HasNoCycle outers_of None cs → outer_of cs n ≡ Some outer → simple_in (nesting_at (class_named cs n)) ≡ Some simple → canonical_by (suc k) cs n ≡ canonical_by k cs outer ++ 46 ∷ simple
 unfolding canonical_by
-canonical_on k cs n outer simple free e h = ap (λ b. cond b (dotted n) (nested_name (outer_of cs n) (simple_in (nesting_at (class_named cs n))) (λ o. canonical_by k cs o) (dotted n))) (circles_not cs n free) ∙ nested_both (outer_of cs n) (simple_in (nesting_at (class_named cs n))) (λ o. canonical_by k cs o) (dotted n) outer simple e h
+canonical_on k cs n outer simple free e h = ap (λ b. cond b (dotted n) (nested_name (outer_of cs n) (simple_in (nesting_at (class_named cs n))) (λ o. canonical_by k cs o) (dotted n))) (cycles_not cs n free) ∙ nested_both (outer_of cs n) (simple_in (nesting_at (class_named cs n))) (λ o. canonical_by k cs o) (dotted n) outer simple e h
 
 -- The first class of a canonical name has the least name.
 not_lt : (a b : Name) (o : Ordering) → order a b ≡ Less → order b a ≡ o → is_lt o ≡ false
@@ -83,25 +83,25 @@ above_by : (b : Bool) (m : Name) (c : ClassSummary) (r : Option ClassSummary) (d
 above_by true m c r d a h e = let k : lesser c r ≡ d = cc in lesser_above m c r d a h k
 above_by false m c r d a h e = h d e
 
-called_above : (m : Name) (all cs : List ClassSummary) (n : Name) → Above m cs → (d : ClassSummary) → class_called all cs n ≡ Some d → order m d.name ≡ Less
-unfolding class_called
+called_above : (m : Name) (all cs : List ClassSummary) (n : Name) → Above m cs → (d : ClassSummary) → class_by_canonical all cs n ≡ Some d → order m d.name ≡ Less
+unfolding class_by_canonical
 called_above m all [] n a d e = absurd cc
-called_above m all (c ∷ cs) n a d e = above_by (bytes_eq n (canonical all c.name)) m c (class_called all cs n) d a.0 (called_above m all cs n a.1) e
+called_above m all (c ∷ cs) n a d e = above_by (bytes_eq n (canonical all c.name)) m c (class_by_canonical all cs n) d a.0 (called_above m all cs n a.1) e
 
 place_on : (c : ClassSummary) (cs : List ClassSummary) (r : Option ClassSummary) (p : Option ℕ) → IsPlaceOf cs r p → IsPlaceOf (c ∷ cs) r (option_map suc p)
 place_on c cs r None h = h
 place_on c cs r (Some i) h = (omega (arith, h.0), h.1)
 
-called_by : (b : Bool) (all : List ClassSummary) (c : ClassSummary) (cs : List ClassSummary) (n : Name) (p : Option ℕ) → Above c.name cs → IsPlaceOf cs (class_called all cs n) p → IsPlaceOf (c ∷ cs) (cond b (Some (lesser c (class_called all cs n))) (class_called all cs n)) (cond b (Some 0) (option_map suc p))
-called_by true all c cs n p a h = (omega arith, ap Some (lesser_by c (class_called all cs n) (called_above c.name all cs n a)))
-called_by false all c cs n p a h = place_on c cs (class_called all cs n) p h
+called_by : (b : Bool) (all : List ClassSummary) (c : ClassSummary) (cs : List ClassSummary) (n : Name) (p : Option ℕ) → Above c.name cs → IsPlaceOf cs (class_by_canonical all cs n) p → IsPlaceOf (c ∷ cs) (cond b (Some (lesser c (class_by_canonical all cs n))) (class_by_canonical all cs n)) (cond b (Some 0) (option_map suc p))
+called_by true all c cs n p a h = (omega arith, ap Some (lesser_by c (class_by_canonical all cs n) (called_above c.name all cs n a)))
+called_by false all c cs n p a h = place_on c cs (class_by_canonical all cs n) p h
 
-pub called_is : (all cs : List ClassSummary) (n : Name) → Rises cs → IsPlaceOf cs (class_called all cs n) (place_among (map (λ c. canonical all c.name) cs) n)
-unfolding class_called place_among Rises
+pub called_is : (all cs : List ClassSummary) (n : Name) → Rises cs → IsPlaceOf cs (class_by_canonical all cs n) (place_among (map (λ c. canonical all c.name) cs) n)
+unfolding class_by_canonical place_among Rises
 called_is all [] n r = refl
 called_is all (c ∷ cs) n r =
     let t : bytes_eq n (canonical all c.name) ≡ bytes_eq (canonical all c.name) n = nat_list_eq_equiv.symm n (canonical all c.name) in
-    subst (λ b. IsPlaceOf (c ∷ cs) (cond (bytes_eq n (canonical all c.name)) (Some (lesser c (class_called all cs n))) (class_called all cs n)) (cond b (Some 0) (option_map suc (place_among (map (λ d. canonical all d.name) cs) n)))) t
+    subst (λ b. IsPlaceOf (c ∷ cs) (cond (bytes_eq n (canonical all c.name)) (Some (lesser c (class_by_canonical all cs n))) (class_by_canonical all cs n)) (cond b (Some 0) (option_map suc (place_among (map (λ d. canonical all d.name) cs) n)))) t
     (called_by (bytes_eq n (canonical all c.name)) all c cs n (place_among (map (λ d. canonical all d.name) cs) n) r.0 (called_is all cs n r.1))
 
 -- A map with one text more.
@@ -139,7 +139,7 @@ pub turned-is : (name text whole all : List ℕ) → whole ≡ text ++ reverse (
 turned-is name text whole all w a = a ∙ ap reverse w ∙ reverse-append text (reverse (dotted name)) ∙ ap (λ t. t ++ reverse text) (reverse-reverse (dotted name))
 
 -- One class further out, with the text so far.
-pub out-on : (cs : List ClassSummary) (i j : ℕ) (around outer simple whole old mid new : List ℕ) → j ≡ i + 1 → HasNoCircle outers_of None cs → outer_of cs around ≡ Some outer → simple_in (nesting_at (class_named cs around)) ≡ Some simple → mid ≡ old ++ reverse simple → new ≡ mid ++ 46 ∷ []
+pub out-on : (cs : List ClassSummary) (i j : ℕ) (around outer simple whole old mid new : List ℕ) → j ≡ i + 1 → HasNoCycle outers_of None cs → outer_of cs around ≡ Some outer → simple_in (nesting_at (class_named cs around)) ≡ Some simple → mid ≡ old ++ reverse simple → new ≡ mid ++ 46 ∷ []
     → whole ≡ canonical_by j cs around ++ reverse old → whole ≡ canonical_by i cs outer ++ reverse new
 out-on cs i j around outer simple whole old mid new s free o n m e h =
     let back : reverse new ≡ 46 ∷ (simple ++ reverse old) =
@@ -149,7 +149,7 @@ out-on cs i j around outer simple whole old mid new s free o n m e h =
     ∙ append_assoc (canonical_by i cs outer) (46 ∷ simple) (reverse old)
     ∙ ap (λ t. canonical_by i cs outer ++ t) (sym back)
 
-pub out-end : (cs : List ClassSummary) (k : ℕ) (around whole text all : List ℕ) → HasNoCircle outers_of None cs → ((outer : Name → Name) (own : Name) → nested_name (outer_of cs around) (simple_in (nesting_at (class_named cs around))) outer own ≡ own) → all ≡ dotted around ++ reverse text → whole ≡ canonical_by k cs around ++ reverse text → all ≡ whole
+pub out-end : (cs : List ClassSummary) (k : ℕ) (around whole text all : List ℕ) → HasNoCycle outers_of None cs → ((outer : Name → Name) (own : Name) → nested_name (outer_of cs around) (simple_in (nesting_at (class_named cs around))) outer own ≡ own) → all ≡ dotted around ++ reverse text → whole ≡ canonical_by k cs around ++ reverse text → all ≡ whole
 out-end cs k around whole text all free none a h = a ∙ sym (h ∙ ap (λ t. t ++ reverse text) (canonical_end k cs around free none))
 
 pub out-spent : (cs : List ClassSummary) (k : ℕ) (around whole text all : List ℕ) → k ≡ 0 → all ≡ dotted around ++ reverse text → whole ≡ canonical_by k cs around ++ reverse text → all ≡ whole
@@ -201,8 +201,8 @@ called-back m n cs i j name c s at e u old text =
 pub called-all : {Y : Type 0} (m : BTreeMap (Vec ℕ Y) ℕ) (names : List Name) (i : ℕ) → i ≡ 0 → ((text : Name) → called_place m text ≡ place_from i (drop i names) text) → (text : Name) → called_place m text ≡ place_among names text
 called-all m names i z h text = h text ∙ ap (λ k. place_from k (drop k names) text) z ∙ from_zero names text
 
-pub called-found : (cs : List ClassSummary) (n : Name) (found : Option ℕ) → Rises cs → found ≡ place_among (canonical_names cs) n → IsPlaceOf cs (class_called cs cs n) found
-called-found cs n found r e = subst (IsPlaceOf cs (class_called cs cs n)) (sym e) (called_is cs cs n r)
+pub called-found : (cs : List ClassSummary) (n : Name) (found : Option ℕ) → Rises cs → found ≡ place_among (canonical_names cs) n → IsPlaceOf cs (class_by_canonical cs cs n) found
+called-found cs n found r e = subst (IsPlaceOf cs (class_by_canonical cs cs n)) (sym e) (called_is cs cs n r)
 
 -- No class.
 pub empty-index : {A Y : Type 0} (f : A → ClassSummary) (xs : List A) (m : BTreeMap (Vec ℕ Y) ℕ) → xs ≡ [] → m.entries ≡ [] → Rises (map f xs) × ((text : Name) → called_place m text ≡ place_among (canonical_names (map f xs)) text)

@@ -1,9 +1,9 @@
 -- What a search from the changed classes alone finds, and what such classes keep.
 use Rattle.std.specs.Prelude.{◌≡◌, ℕ, List, ◌++◌, slice_get, Some, None}
-use Rattle.class_summary.specs.declared.summary.ClassSummary.{ClassSummary}
-use Rattle.class_summary.specs.Known.{class_named}
+use Rattle.known_classes.specs.declared.summary.ClassSummary.{ClassSummary}
+use Rattle.known_classes.specs.Known.{class_named}
 use Rattle.decl_index.specs.History.{Name}
-use Rattle.decl_index.specs.Refusals.{IsOneOf, supers_of, outers_of, object_name, ReachesItself, HasNoCircle}
+use Rattle.decl_index.specs.Refusals.{IsOneOf, supers_of, outers_of, object_name, ReachesItself, HasNoCycle}
 
 -- P holds of each element.
 abbrev pub Each : {A : Type 0} → (A → Type 0) → List A → Type 0
@@ -42,8 +42,8 @@ pub record AvoidsItself (cs : List ClassSummary) (n : Name) : Type 0 where
 
 -- No class but java/lang/Object reaches itself by supers, and none by outer classes.
 pub record IsFree (cs : List ClassSummary) : Type 0 where
-  pub supers : HasNoCircle supers_of (Some object_name) cs
-  pub outers : HasNoCircle outers_of None cs
+  pub supers : HasNoCycle supers_of (Some object_name) cs
+  pub outers : HasNoCycle outers_of None cs
 
 -- A class of the same name and nesting is known.
 pub record KeepsNesting (cs : List ClassSummary) (c : ClassSummary) : Type 0 where

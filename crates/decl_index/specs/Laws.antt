@@ -1,6 +1,6 @@
 -- What is known of histories, their states and the changes that they refuse.
 use Rattle.std.specs.Prelude.{◌≡◌, List}
-use Rattle.class_summary.specs.declared.summary.ClassSummary.{ClassSummary}
+use Rattle.known_classes.specs.declared.summary.ClassSummary.{ClassSummary}
 use Rattle.decl_index.specs.declared.change.Change.{Change}
 use Rattle.decl_index.specs.declared.change.ChangeFault.{ChangeFault}
 use Rattle.decl_index.specs.History.{Name, State, IsState, AreClasses, use_of, use_in}

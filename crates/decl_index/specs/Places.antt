@@ -6,8 +6,8 @@ use Rattle.std.specs.Prelude.{Vec, String, string_bytes}
 use Rattle.std.specs.BTreeMap.{BTreeMap, get_by}
 use Rattle.std.specs.Cmp.Lexicographic.{slice_cmp}
 use Rattle.std.specs.Ordering.{nat_cmp}
-use Rattle.class_summary.specs.declared.summary.ClassSummary.{ClassSummary}
-use Rattle.class_summary.specs.Known.{class_named, canonical}
+use Rattle.known_classes.specs.declared.summary.ClassSummary.{ClassSummary}
+use Rattle.known_classes.specs.Known.{class_named, canonical}
 use Rattle.decl_index.specs.History.{Name, order, Rises, Edit, decided}
 
 -- So many classes have lesser names than n.

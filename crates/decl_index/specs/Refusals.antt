@@ -1,9 +1,9 @@
 -- When a change is refused.
 use Rattle.std.specs.Prelude.{◌≡◌, ◌≢◌, ◌<◌, ◌≤◌, ◌+◌, ◌⊎◌, ℕ, List, [], ◌∷◌, ◌++◌, length, sum_by, codes, Option, Some, None}
 use Rattle.std.specs.declared.cmp.Ordering.TheVariants.{Less}
-use Rattle.class_summary.specs.declared.summary.ClassSummary.{ClassSummary}
-use Rattle.class_summary.specs.declared.summary.MethodSummary.{MethodSummary}
-use Rattle.class_summary.specs.Known.{class_named, outer_in}
+use Rattle.known_classes.specs.declared.summary.ClassSummary.{ClassSummary}
+use Rattle.known_classes.specs.declared.summary.MethodSummary.{MethodSummary}
+use Rattle.known_classes.specs.Known.{class_named, outer_in}
 use Rattle.decl_index.specs.declared.change.Change.{Change}
 use Rattle.decl_index.specs.declared.change.Change.TheVariants.{Publish, Withdraw}
 use Rattle.decl_index.specs.declared.change.ChangeFault.{ChangeFault}
@@ -44,13 +44,13 @@ abbrev pub ReachesItself : (ClassSummary → List Name) → List ClassSummary �
 ReachesItself to cs n = (ms : List Name) × IsWay to cs n ms n
 
 -- The least name but one that reaches itself.
-pub record IsLeastCircle (to : ClassSummary → List Name) (but : Option Name) (cs : List ClassSummary) (n : Name) : Type 0 where
+pub record IsLeastNamedCycle (to : ClassSummary → List Name) (but : Option Name) (cs : List ClassSummary) (n : Name) : Type 0 where
   pub counts : Some n ≢ but
-  pub circle : ReachesItself to cs n
+  pub cycle : ReachesItself to cs n
   pub least : (m : Name) → order m n ≡ Less → Some m ≢ but → ReachesItself to cs m → ⊥
 
 -- No name but one reaches itself.
-pub record HasNoCircle (to : ClassSummary → List Name) (but : Option Name) (cs : List ClassSummary) : Type 0 where
+pub record HasNoCycle (to : ClassSummary → List Name) (but : Option Name) (cs : List ClassSummary) : Type 0 where
   pub none : (n : Name) → Some n ≢ but → ReachesItself to cs n → ⊥
 
 -- java/lang/Object
@@ -73,20 +73,20 @@ parts_in cs = sum_by parts_of cs
 abbrev pub most_parts : ℕ
 most_parts = 16777215
 
--- The classes may not be published for this fault: a circle of supers comes first, then one of outer classes, then too
--- many parts. Each circle is named by its least name; java/lang/Object may reach itself by supers.
+-- The classes may not be published for this fault: a cycle of supers comes first, then one of outer classes, then too
+-- many parts. Each cycle is named by its least name; java/lang/Object may reach itself by supers.
 abbrev pub IsFaultOf : List ClassSummary → ChangeFault → Type 0
-IsFaultOf cs (Cyclic n) = IsLeastCircle supers_of (Some object_name) cs n
-IsFaultOf cs (NestCycle n) = HasNoCircle supers_of (Some object_name) cs × IsLeastCircle outers_of None cs n
-IsFaultOf cs (Full n) = HasNoCircle supers_of (Some object_name) cs × HasNoCircle outers_of None cs × (n ≡ parts_in cs) × (most_parts < n)
+IsFaultOf cs (Cyclic n) = IsLeastNamedCycle supers_of (Some object_name) cs n
+IsFaultOf cs (NestCycle n) = HasNoCycle supers_of (Some object_name) cs × IsLeastNamedCycle outers_of None cs n
+IsFaultOf cs (Full n) = HasNoCycle supers_of (Some object_name) cs × HasNoCycle outers_of None cs × (n ≡ parts_in cs) × (most_parts < n)
 IsFaultOf cs (TooHigh n) = ⊥
 IsFaultOf cs JournalFull = ⊥
 IsFaultOf cs OutOfMemory = ⊥
 
 -- The classes may be published.
 pub record IsSound (cs : List ClassSummary) : Type 0 where
-  pub supers : HasNoCircle supers_of (Some object_name) cs
-  pub outers : HasNoCircle outers_of None cs
+  pub supers : HasNoCycle supers_of (Some object_name) cs
+  pub outers : HasNoCycle outers_of None cs
   pub parts : parts_in cs ≤ most_parts
 
 -- The classes that the history leaves have this fault.

@@ -1,6 +1,6 @@
 -- Names given by classes, as rows of places.
 use Rattle.std.specs.Prelude.{◌≡◌, ℕ, List, length, slice_get, Some}
-use Rattle.class_summary.specs.declared.summary.ClassSummary.{ClassSummary}
+use Rattle.known_classes.specs.declared.summary.ClassSummary.{ClassSummary}
 use Rattle.graphs.specs.Graph.{IsIn, edges}
 use Rattle.decl_index.specs.History.{Name}
 use Rattle.decl_index.specs.Refusals.{IsOneOf}

@@ -1,6 +1,6 @@
 -- What one change does to the state of an index.
 use Rattle.std.specs.Prelude.{◌≡◌, ◌≤◌, ◌+◌, ℕ, List, ◌++◌, map}
-use Rattle.class_summary.specs.declared.summary.ClassSummary.{ClassSummary}
+use Rattle.known_classes.specs.declared.summary.ClassSummary.{ClassSummary}
 use Rattle.decl_index.specs.declared.change.ChangeFault.{ChangeFault}
 use Rattle.decl_index.specs.History.{Name, State, Rises, remove, put, or_else, counted, count_at, CountsRise}
 use Rattle.decl_index.specs.Refusals.{IsFaultOf, IsSound}

@@ -1,13 +1,13 @@
 ghost use Rattle.std.specs.Prelude.{◌≡◌, ◌++◌, List, ℕ, None, Some, IfOk, IfSome, IfNone, OnOk, map, if◌then◌else◌, bytes_eq, reverse};
 ghost use Rattle.std.specs.Arc.{arc_value};
-ghost use Rattle.class_summary.specs.Known.{class_named, outer_of, nesting_at, simple_in, nested_name, dotted, canonical};
+ghost use Rattle.known_classes.specs.Known.{class_named, outer_of, nesting_at, simple_in, nested_name, dotted, canonical};
 ghost use Rattle.decl_index.specs.History.{Name, Rises, or_else, remove, put};
-ghost use Rattle.decl_index.specs.Refusals.{HasNoCircle, outers_of};
+ghost use Rattle.decl_index.specs.Refusals.{HasNoCycle, outers_of};
 ghost use Rattle.decl_index.specs.Places.{Leaves, called_place, place_among, canonical_names};
 
 use crate::changed::all_keep_nesting;
 use crate::table::{Shared, find_near};
-use class_summary::ClassSummary;
+use known_classes::ClassSummary;
 use lists::Text;
 use std::alloc::{AllocError, Global};
 use std::collections::BTreeMap;
@@ -72,7 +72,7 @@ fn canonical_name<'a>(
     name: &'a str,
 ) -> Result<Vec<u8>, AllocError>
     requires rises { Rises (map arc_value classes.now) }
-    requires free { HasNoCircle outers_of None (map arc_value classes.now) }
+    requires free { HasNoCycle outers_of None (map arc_value classes.now) }
     ensures { IfOk result (λ text. text.items ≡ canonical (map arc_value classes.now) name.now) }
 {
     let mut backwards = Vec::new(alloc);
@@ -94,7 +94,7 @@ fn canonical_name<'a>(
 /// last that is added.
 pub fn called(alloc: Global, classes: &[Shared]) -> Result<Called, AllocError>
     requires rises { Rises (map arc_value classes.now) }
-    requires free { HasNoCircle outers_of None (map arc_value classes.now) }
+    requires free { HasNoCycle outers_of None (map arc_value classes.now) }
     ensures { IfOk result (λ called. (text : Name) → called_place called text ≡ place_among (canonical_names (map arc_value classes.now)) text) }
 {
     let mut called = BTreeMap::new(alloc);
@@ -118,7 +118,7 @@ pub fn called_after(
     puts: &[ClassSummary],
 ) -> Result<Arc<Called, Global>, AllocError>
     requires rises { Rises (map arc_value old.now) }
-    requires free { HasNoCircle outers_of None (map arc_value classes.now) }
+    requires free { HasNoCycle outers_of None (map arc_value classes.now) }
     requires leaves { Leaves (map remove removes.now ++ map put puts.now) (map arc_value old.now) (map arc_value classes.now) }
     requires called { (text : Name) → called_place (arc_value called_before.now) text ≡ place_among (canonical_names (map arc_value old.now)) text }
     ensures { IfOk result (λ called. (text : Name) → called_place (arc_value called) text ≡ place_among (canonical_names (map arc_value classes.now)) text) }

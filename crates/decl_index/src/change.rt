@@ -2,7 +2,7 @@ ghost use Rattle.std.specs.Prelude.{◌≡◌, IfOk};
 ghost use Rattle.decl_index.specs.declared.change.ChangeFault.TheVariants.{OutOfMemory};
 ghost use Rattle.decl_index.specs.Refusals.{fault_number};
 
-use class_summary::ClassSummary;
+use known_classes::ClassSummary;
 use lists::{Copies, Items, Text, copy_all};
 use std::alloc::{AllocError, Global};
 

@@ -6,7 +6,7 @@ ghost use Rattle.decl_index.specs.Changed.{Each, Meets, Follows, IsReached, Avoi
 
 use crate::checks::outer_names;
 use crate::table::{Shared, find};
-use class_summary::{ClassSummary, Nesting};
+use known_classes::{ClassSummary, Nesting};
 use lists::{Copies, Items, Text};
 use std::alloc::{AllocError, Global};
 

@@ -4,14 +4,14 @@ ghost use Rattle.decl_index.specs.declared.change.ChangeFault.TheVariants.{OutOf
 ghost use Rattle.decl_index.specs.History.{Rises, remove, put};
 ghost use Rattle.decl_index.specs.Places.{Leaves};
 ghost use Rattle.decl_index.specs.Changed.{IsFree};
-ghost use Rattle.decl_index.specs.Refusals.{supers_of, outers_of, object_name, method_parts, parts_of, parts_in, HasNoCircle, IsLeastCircle, IsFaultOf, IsSound};
+ghost use Rattle.decl_index.specs.Refusals.{supers_of, outers_of, object_name, method_parts, parts_of, parts_in, HasNoCycle, IsLeastNamedCycle, IsFaultOf, IsSound};
 ghost use Rattle.decl_index.specs.Rows.{IsRow, IsGraph};
 
 use crate::change::ChangeFault;
 use crate::changed::one_may_come_back;
 use crate::table::{Shared, find};
-use class_summary::{ClassSummary, MethodSummary};
 use graphs::least_cycle;
+use known_classes::{ClassSummary, MethodSummary};
 use lists::{Copies, Items, Text};
 use std::alloc::{AllocError, Global};
 
@@ -71,9 +71,9 @@ fn outer_rows(alloc: Global, classes: &[Shared]) -> Result<Vec<Items<usize>>, Al
 }
 
 /// The least name that reaches itself by supers.
-fn super_circle(alloc: Global, classes: &[Shared]) -> Result<Option<Text>, AllocError>
+fn super_cycle(alloc: Global, classes: &[Shared]) -> Result<Option<Text>, AllocError>
     requires { Rises (map arc_value classes.now) }
-    ensures { IfOk result (λ found. MatchOption found (HasNoCircle supers_of (Some object_name) (map arc_value classes.now)) (λ name. IsLeastCircle supers_of (Some object_name) (map arc_value classes.now) name)) }
+    ensures { IfOk result (λ found. MatchOption found (HasNoCycle supers_of (Some object_name) (map arc_value classes.now)) (λ name. IsLeastNamedCycle supers_of (Some object_name) (map arc_value classes.now) name)) }
 {
     let rows = super_rows(alloc, classes)?;
     let object = find(classes, OBJECT).unwrap_or(classes.len());
@@ -84,9 +84,9 @@ fn super_circle(alloc: Global, classes: &[Shared]) -> Result<Option<Text>, Alloc
 }
 
 /// The least name that reaches itself by outer classes.
-fn outer_circle(alloc: Global, classes: &[Shared]) -> Result<Option<Text>, AllocError>
+fn outer_cycle(alloc: Global, classes: &[Shared]) -> Result<Option<Text>, AllocError>
     requires { Rises (map arc_value classes.now) }
-    ensures { IfOk result (λ found. MatchOption found (HasNoCircle outers_of None (map arc_value classes.now)) (λ name. IsLeastCircle outers_of None (map arc_value classes.now) name)) }
+    ensures { IfOk result (λ found. MatchOption found (HasNoCycle outers_of None (map arc_value classes.now)) (λ name. IsLeastNamedCycle outers_of None (map arc_value classes.now) name)) }
 {
     let rows = outer_rows(alloc, classes)?;
     match least_cycle(alloc, rows.as_slice(), classes.len())? {
@@ -129,21 +129,21 @@ fn parts_in(classes: &[Shared]) -> Option<u64>
 }
 
 /// Whether no class but `java/lang/Object` reaches itself: all classes are looked at.
-fn check_circles(alloc: Global, classes: &[Shared]) -> Result<(), ChangeFault>
+fn check_cycles(alloc: Global, classes: &[Shared]) -> Result<(), ChangeFault>
     requires { Rises (map arc_value classes.now) }
     ensures free { OnOk result (IsFree (map arc_value classes.now)) }
     ensures refused { IfErr result (λ fault. (fault ≡ OutOfMemory) ⊎ IsFaultOf (map arc_value classes.now) fault) }
 {
-    if let Some(name) = super_circle(alloc, classes)? {
+    if let Some(name) = super_cycle(alloc, classes)? {
         return Err(ChangeFault::Cyclic(name));
     }
-    if let Some(name) = outer_circle(alloc, classes)? {
+    if let Some(name) = outer_cycle(alloc, classes)? {
         return Err(ChangeFault::NestCycle(name));
     }
     Ok(())
 }
 
-/// The same where the classes were free of circles before these puts: a circle then passes through one of
+/// The same where the classes were free of cycles before these puts: a cycle then passes through one of
 /// them, and all classes are looked at only where one may reach itself.
 fn check_changed(
     alloc: Global,
@@ -158,12 +158,12 @@ fn check_changed(
     ensures refused { IfErr result (λ fault. (fault ≡ OutOfMemory) ⊎ IsFaultOf (map arc_value classes.now) fault) }
 {
     if one_may_come_back(alloc, classes, puts)? {
-        return check_circles(alloc, classes);
+        return check_cycles(alloc, classes);
     }
     Ok(())
 }
 
-/// Whether the classes may be published, which these removes and puts made of classes free of circles. More
+/// Whether the classes may be published, which these removes and puts made of classes free of cycles. More
 /// parts than 64 bits count don't fit in memory.
 pub fn check(
     alloc: Global,

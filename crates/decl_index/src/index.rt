@@ -12,7 +12,7 @@ use crate::checks::check;
 use crate::counts::{Counts, with_counts};
 use crate::merging::{put_all, take_all};
 use crate::table::{Shared, find, share};
-use class_summary::{ClassSummary, Classes};
+use known_classes::{ClassSummary, Classes};
 use lists::Text;
 use std::alloc::{AllocError, Global};
 use std::collections::BTreeMap;

@@ -1,6 +1,6 @@
 // The index of classes after a history of changes. The main definition is `IsState`: of all puts and removes
 // of one name the last decides, each history has one state, and `Refuses` says which changes are refused. An
-// index shares the classes that a change doesn't touch. It stands on `class_summary` and `graphs`.
+// index shares the classes that a change doesn't touch. It stands on `known_classes` and `graphs`.
 #![tactic(auto)]
 
 mod called;
@@ -19,9 +19,5 @@ pub use laws::history_laws;
 
 #[cfg(test)]
 mod merged_tests;
-#[cfg(test)]
-mod names_tests;
-#[cfg(test)]
-mod scopes_tests;
 #[cfg(test)]
 mod tests;

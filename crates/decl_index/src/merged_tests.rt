@@ -1,5 +1,5 @@
 use crate::{Change, ChangeFault, Index};
-use class_summary::{ClassSummary, Classes, Merged, Nesting};
+use known_classes::{ClassSummary, Classes, Merged, Nesting};
 use lists::{Items, Text};
 use std::alloc::{AllocError, Global};
 use std::test::Fail;

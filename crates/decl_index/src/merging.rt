@@ -6,7 +6,7 @@ ghost use Rattle.decl_index.specs.Places.{Leaves};
 ghost use Rattle.decl_index.specs.Merging.{is_among, others, front_order, IsMerge};
 
 use crate::table::{Shared, compare, put_each, take_each};
-use class_summary::ClassSummary;
+use known_classes::ClassSummary;
 use lists::{Copies, Text};
 use std::alloc::{AllocError, Global};
 use std::cmp::Ordering;

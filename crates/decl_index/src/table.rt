@@ -1,10 +1,10 @@
 ghost use Rattle.std.specs.Prelude.{◌≡◌, ◌∷◌, [], IfOk, OnOk, map, drop};
 ghost use Rattle.std.specs.Arc.{arc_value};
-ghost use Rattle.class_summary.specs.Known.{class_named, IsPlaceOf};
+ghost use Rattle.known_classes.specs.Known.{class_named, IsPlaceOf};
 ghost use Rattle.decl_index.specs.History.{order, Rises, remove, put};
 ghost use Rattle.decl_index.specs.Places.{heads, IsPlace, Leaves};
 
-use class_summary::ClassSummary;
+use known_classes::ClassSummary;
 use lists::{Copies, Text};
 use std::alloc::{AllocError, Global};
 use std::cmp::Ordering;

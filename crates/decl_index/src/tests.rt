@@ -1,5 +1,5 @@
 use crate::{Change, ChangeFault, Index, history_laws};
-use class_summary::{ClassSummary, Classes, Nesting};
+use known_classes::{ClassSummary, Classes, Nesting};
 use lists::{Copies, Items, Text};
 use std::alloc::{AllocError, Global};
 use std::test::Fail;
@@ -127,7 +127,7 @@ const ROWS: [([(&str, &str, &str, &str); 2], &str); 6] = [
 ];
 
 #[test]
-fn circles_are_refused(rt: HostRuntime) -> Result<(), Fail> {
+fn cycles_are_refused(rt: HostRuntime) -> Result<(), Fail> {
     let empty = Index::empty(rt.alloc())?;
     for row in &ROWS {
         let change = publication(rt.alloc(), &row.0)?;
@@ -320,7 +320,7 @@ const LATER: [([(&str, &str, &str, &str); 2], &str); 6] = [
 ];
 
 #[test]
-fn later_circles_are_refused(rt: HostRuntime) -> Result<(), Fail> {
+fn later_cycles_are_refused(rt: HostRuntime) -> Result<(), Fail> {
     let first = publication(rt.alloc(), &FIRST)?;
     let old = applied(rt.alloc(), &Index::empty(rt.alloc())?, &first)?;
     for row in &LATER {

@@ -1,4 +1,4 @@
--- Numbers that never rise along an edge rule out circles.
+-- Numbers that never rise along an edge rule out cycles.
 use Rattle.std.proofs.Common.{◌≡◌, ℕ, zero, suc, ◌+◌, ◌<◌, ◌≤◌, Bool, true, false, cond, nat_lt, List, [], ◌∷◌, length, get_or, drop, refl, sym, subst, ◌∙◌, arith, inl, inr, ◌⊎◌}
 use Rattle.std.proofs.lemmas.List.{drop_more, drop_all}
 use Rattle.std.proofs.lemmas.Bool.{ltb-true, cases_eq}
@@ -48,10 +48,10 @@ unfolding IsPath
 low g r never a [] b h = never a b h
 low g r never a (c ∷ cs) b h = omega (arith, never a c h.0, low g r never c cs b h.1)
 
-pub no_circle : (g : List (List ℕ)) (r : List ℕ) → NeverRises g r → (a : ℕ) → ((b : ℕ) → IsIn b (edges g a) → number_of r b < number_of r a) → (cs : List ℕ) → IsPath g a cs a → ⊥
+pub no_cycle : (g : List (List ℕ)) (r : List ℕ) → NeverRises g r → (a : ℕ) → ((b : ℕ) → IsIn b (edges g a) → number_of r b < number_of r a) → (cs : List ℕ) → IsPath g a cs a → ⊥
 unfolding IsPath
-no_circle g r never a falls [] h = omega (arith, falls a h)
-no_circle g r never a falls (c ∷ cs) h = omega (arith, falls c h.0, low g r never c cs a h.1)
+no_cycle g r never a falls [] h = omega (arith, falls a h)
+no_cycle g r never a falls (c ∷ cs) h = omega (arith, falls c h.0, low g r never c cs a h.1)
 
 -- where a path ends an edge ends
 pub first_edge : (g : List (List ℕ)) (a : ℕ) (cs : List ℕ) (b : ℕ) → IsPath g a cs b → (c : ℕ) × IsIn c (edges g a)
@@ -102,7 +102,7 @@ acyclic_all g skip n before l a other h =
     before a (omega (arith, l, from_node g a e.0 e.1 (within a (length g)))) other h
 
 pub falls_free : (g : List (List ℕ)) (r : List ℕ) (a : ℕ) → NeverRises g r → all_below r (number_of r a) (edges g a) ≡ true → Reaches g a a → ⊥
-falls_free g r a never e h = no_circle g r never a (are_below r (number_of r a) (edges g a) e) h.0 h.1
+falls_free g r a never e h = no_cycle g r never a (are_below r (number_of r a) (edges g a) e) h.0 h.1
 
 pub neither : {P : Type 0} → false ≡ true → P
 neither e = absurd cc

@@ -55,7 +55,7 @@ AreFree n marks = (length marks ≡ n) × ((b : ℕ) → is_marked marks b ≡ f
 abbrev pub IsForwardRow : List (List ℕ) → ℕ → List ℕ → Type 0
 IsForwardRow graph a row = (b : ℕ) → (IsIn b row → IsIn b (edges graph a) × (Reaches graph b a → ⊥)) × (IsIn b (edges graph a) → (Reaches graph b a → ⊥) → IsIn b row)
 
--- The graph without the edges that lie on circles.
+-- The graph without the edges that lie on cycles.
 pub record IsForward (graph rows : List (List ℕ)) : Type 0 where
   pub long : length rows ≡ length graph
   pub each : (a : ℕ) → IsForwardRow graph a (edges rows a)

@@ -1,4 +1,4 @@
--- What is known of nodes that lie on circles with a node of their own, their root.
+-- What is known of nodes that lie on cycles with a node of their own, their root.
 use Rattle.std.specs.Prelude.{◌≡◌, ℕ, true, List, Bool, length, get_or}
 use Rattle.graphs.specs.Graph.{IsIn, edges, Reaches, is_marked}
 use Rattle.graphs.specs.declared.joined.Joined.{Joined}

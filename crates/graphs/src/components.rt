@@ -1,4 +1,4 @@
-use crate::circles::number_of;
+use crate::cycles::number_of;
 use crate::reach::row;
 use lists::Items;
 use std::alloc::{AllocError, Global};

@@ -6,7 +6,7 @@ use crate::reach::{ancestors, free_marks, row};
 use lists::Items;
 use std::alloc::{AllocError, Global};
 
-/// Which nodes lie on a circle with the root of their component.
+/// Which nodes lie on a cycle with the root of their component.
 #[derive(Drop)]
 pub(crate) struct Joined {
     /// For each node its root.
@@ -163,7 +163,7 @@ fn rooted(alloc: Global, graph: &[Items<usize>], roots: &[usize]) -> Result<Vec<
     Ok(marks)
 }
 
-/// Which nodes lie on a circle with their roots. Each node has one root; where the roots are those of the
+/// Which nodes lie on a cycle with their roots. Each node has one root; where the roots are those of the
 /// components, it takes time linear in the graph.
 pub(crate) fn join(
     alloc: Global,

@@ -1,10 +1,10 @@
-use crate::{ancestors, free_marks, is_in_range, least_cycle, reached, without_circles};
+use crate::{ancestors, free_marks, is_in_range, least_cycle, reached, without_cycles};
 use lists::Items;
 use std::alloc::{AllocError, Global};
 
 /// The edges of graphs of six nodes, the node that is passed over, and the least other node that reaches
 /// itself.
-const CIRCLES: [(&[(usize, usize)], usize, Option<usize>); 9] = [
+const CYCLES: [(&[(usize, usize)], usize, Option<usize>); 9] = [
     (&[], 9, None),
     (&[(0, 1), (1, 2), (0, 2), (3, 2)], 9, None),
     (&[(3, 3)], 9, Some(3)),
@@ -45,8 +45,8 @@ fn graph(alloc: Global, edges: &[(usize, usize)]) -> Result<Vec<Items<usize>>, A
 }
 
 #[test]
-fn the_least_circle_is_found(rt: HostRuntime) -> Result<(), AllocError> {
-    for (edges, skip, least) in CIRCLES {
+fn the_least_named_cycle_is_found(rt: HostRuntime) -> Result<(), AllocError> {
+    for (edges, skip, least) in CYCLES {
         let rows = graph(rt.alloc(), edges)?;
         assert!(rt; is_in_range(&rows));
         assert_eq!(rt; least_cycle(rt.alloc(), &rows, skip)?, least);
@@ -74,7 +74,7 @@ fn what_is_reached_is_marked_and_listed(rt: HostRuntime) -> Result<(), AllocErro
     Ok(())
 }
 
-/// The edges of graphs of six nodes, and how many edges of each node don't lie on a circle.
+/// The edges of graphs of six nodes, and how many edges of each node don't lie on a cycle.
 const KEPT: [(&[(usize, usize)], [usize; 6]); 4] = [
     (
         &[(0, 1), (1, 2), (2, 1), (2, 3), (4, 4), (4, 0)],
@@ -92,11 +92,11 @@ const KEPT: [(&[(usize, usize)], [usize; 6]); 4] = [
 ];
 
 #[test]
-fn edges_on_circles_are_left_out(rt: HostRuntime) -> Result<(), AllocError> {
+fn edges_on_cycles_are_left_out(rt: HostRuntime) -> Result<(), AllocError> {
     for (edges, kept) in KEPT {
         let rows = graph(rt.alloc(), edges)?;
         assert!(rt; is_in_range(&rows));
-        let rows = without_circles(rt.alloc(), &rows)?;
+        let rows = without_cycles(rt.alloc(), &rows)?;
         let lengths = rows.as_slice().iter().map(|row| row.len());
         assert!(rt; lengths.eq(kept));
     }

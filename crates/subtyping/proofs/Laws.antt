@@ -3,7 +3,7 @@ use Rattle.std.proofs.Common.{◌≡◌, ◌≢◌, ℕ, zero, suc, List, [], �
 use Rattle.type_names.specs.declared.kinds.Base.{Base}
 use Rattle.type_names.specs.declared.kinds.Base.TheVariants.{Class}
 use Rattle.type_names.specs.declared.kinds.Erased.{Erased}
-use Rattle.class_summary.specs.Known.{KnownClasses}
+use Rattle.known_classes.specs.Known.{KnownClasses}
 use Rattle.subtyping.specs.Paths.{IsOneOf, IsPathBy, Leads}
 use Rattle.subtyping.specs.Steps.{object, cloneable, serializable, IsSuper, IsSuperStep, IsClassStep, IsBaseStep, IsReference, IsOfArrays, IsStepAt, IsStep, IsStrictSubtype}
 use Rattle.subtyping.specs.Asked.{IsClassBelow, IsBaseBelow, IsArrayBelow, IsBelowAt, IsBelow}

@@ -5,8 +5,8 @@ use lib.ListN.{set}
 use Rattle.std.proofs.lemmas.List.{get_or_past, length-map, length-set, get_or-set_same, get_or-set_other}
 use Rattle.std.proofs.lemmas.Bool.{cases_eq}
 use Rattle.graphs.specs.Graph.{IsIn, edges, IsPath, Reaches, InRange, IsForward}
-use Rattle.class_summary.specs.declared.summary.ClassSummary.{ClassSummary}
-use Rattle.class_summary.specs.Known.{KnownClasses, class_named}
+use Rattle.known_classes.specs.declared.summary.ClassSummary.{ClassSummary}
+use Rattle.known_classes.specs.Known.{KnownClasses, class_named}
 use Rattle.subtyping.specs.Paths.{IsOneOf, IsPathBy, Leads}
 use Rattle.subtyping.specs.Steps.{object, supers_in, supers_of, IsSuper, IsSuperStep}
 use Rattle.subtyping.specs.Places.{place_of, Ancestry, Stands, Rises, AllRise, IsAncestry, IsPlaced, AreListed, row_of, graph_of, IsWithout, AreRows}
@@ -156,7 +156,7 @@ supers-places known names all a b i at h =
     let p = (super-placed known names a b all h).1 in
     (p.0, p.1, subst (IsIn p.0) (sym (edges-at known names i a at)) (kept-to (place_of names) (supers_of known a) b p.0 h p.1))
 
--- without circles, and without Object's edges
+-- without cycles, and without Object's edges
 module _ (known : KnownClasses) (names rows : List (List ℕ)) (all : AreListed known names) (w : IsWithout names (graph_of known names) rows) where
   others : (i : ℕ) (a : List ℕ) → At names i a → a ≢ object → edges rows i ≡ edges w.kept i
   others i a at apart = w.others i (λ o. apart (one-name names i a object at o))

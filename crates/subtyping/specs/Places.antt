@@ -2,8 +2,8 @@
 use Rattle.std.specs.Prelude.{◌≡◌, ℕ, suc, ◌≤◌, ◌<◌, if◌then◌else◌, List, [], ◌∷◌, length, map, slice_index, slice_get, bytes_eq, option_map, Option, Some, None}
 use Rattle.std.specs.List.{filter_map}
 use Rattle.graphs.specs.Graph.{IsIn, edges, IsForward, AreAncestors}
-use Rattle.class_summary.specs.Known.{KnownClasses}
-use Rattle.class_summary.specs.declared.summary.ClassSummary.{ClassSummary}
+use Rattle.known_classes.specs.Known.{KnownClasses}
+use Rattle.known_classes.specs.declared.summary.ClassSummary.{ClassSummary}
 use Rattle.subtyping.specs.Paths.{IsOneOf, Leads}
 use Rattle.subtyping.specs.Steps.{object, supers_of, IsSuperStep}
 
@@ -64,7 +64,7 @@ graph_of known names = map (row_of known names) names
 abbrev pub AreListed : KnownClasses → List (List ℕ) → Type 0
 AreListed known names = (i : ℕ) (c : ClassSummary) → slice_get known i ≡ Some c → IsListed names c
 
--- Of the graph, the edges that don't lie on circles and don't come from Object.
+-- Of the graph, the edges that don't lie on cycles and don't come from Object.
 pub record IsWithout (names graph rows : List (List ℕ)) : Type 0 where
   pub kept : List (List ℕ)
   pub forward : IsForward graph kept

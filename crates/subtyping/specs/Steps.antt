@@ -4,8 +4,8 @@ use lib.Chars.{codes}
 use Rattle.type_names.specs.declared.kinds.Base.{Base}
 use Rattle.type_names.specs.declared.kinds.Base.TheVariants.{Byte, Char, Double, Float, Int, Long, Short, Boolean, Class}
 use Rattle.type_names.specs.declared.kinds.Erased.{Erased}
-use Rattle.class_summary.specs.declared.summary.ClassSummary.{ClassSummary}
-use Rattle.class_summary.specs.Known.{KnownClasses, class_named}
+use Rattle.known_classes.specs.declared.summary.ClassSummary.{ClassSummary}
+use Rattle.known_classes.specs.Known.{KnownClasses, class_named}
 use Rattle.subtyping.specs.Paths.{IsOneOf, Leads}
 
 -- The class above all others, and those above all arrays (JLS 4.10.3).

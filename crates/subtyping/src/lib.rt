@@ -1,6 +1,6 @@
 // Which erased types are strict subtypes of which, among known classes. The main definition is
 // `IsStrictSubtype`, a path of direct steps; `Subtypes` answers it from the ancestors of each class, which it
-// also lists. It stands on `class_summary`, `type_names` and `graphs`.
+// also lists. It stands on `known_classes`, `type_names` and `graphs`.
 #![tactic(auto)]
 
 mod names;
@@ -9,6 +9,3 @@ mod supers;
 mod widening;
 
 pub use subtypes::Subtypes;
-
-#[cfg(test)]
-mod tests;

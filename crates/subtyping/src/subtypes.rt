@@ -1,7 +1,7 @@
 ghost use Rattle.std.specs.Prelude.{◌≡◌, ◌↔◌, true, false, IsTrue, IfOk, slice_get};
 ghost use Rattle.std.specs.Option.{option_copied};
 ghost use Rattle.type_names.specs.declared.kinds.Base.TheVariants.{Class};
-ghost use Rattle.class_summary.specs.Known.{KnownClasses};
+ghost use Rattle.known_classes.specs.Known.{KnownClasses};
 ghost use Rattle.subtyping.specs.Steps.{IsStrictSubtype, IsReference, IsOfArrays};
 ghost use Rattle.graphs.specs.Graph.{edges};
 ghost use Rattle.subtyping.specs.Places.{place_of, Stands, Rises, IsAncestry};
@@ -10,7 +10,7 @@ ghost use Rattle.subtyping.specs.Asked.{class_name, IsClassBelow, IsBaseBelow, I
 use crate::names::Names;
 use crate::supers::{graph_of, names_of, rows_above, steps_of};
 use crate::widening::widens;
-use class_summary::Classes;
+use known_classes::Classes;
 use lists::{Items, Text};
 use std::alloc::{AllocError, Global};
 use std::cmp::Ordering;

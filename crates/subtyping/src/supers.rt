@@ -7,8 +7,8 @@ ghost use Rattle.subtyping.specs.Steps.{object};
 
 use crate::names::Names;
 use crate::subtypes::OBJECT;
-use class_summary::{ClassSummary, Classes};
-use graphs::{ancestors, free_marks, without_circles};
+use graphs::{ancestors, free_marks, without_cycles};
+use known_classes::{ClassSummary, Classes};
 use lists::{Items, Text};
 use std::alloc::{AllocError, Global};
 
@@ -87,7 +87,7 @@ pub(crate) fn graph_of<C: Classes>(
     Ok(rows)
 }
 
-/// The graph without the edges on circles and those from Object.
+/// The graph without the edges on cycles and those from Object.
 pub(crate) fn steps_of(
     alloc: Global,
     names: &Names,
@@ -97,7 +97,7 @@ pub(crate) fn steps_of(
     requires long { length graph.now ≡ length names.now }
     ensures { IfOk result (λ rows. IsWithout names.now graph.now rows) }
 {
-    let mut rows = without_circles(alloc, graph)?;
+    let mut rows = without_cycles(alloc, graph)?;
     let Some(place) = names.place(OBJECT) else {
         return Ok(rows);
     };

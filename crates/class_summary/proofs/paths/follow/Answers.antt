@@ -1,5 +1,5 @@
 use Rattle.std.proofs.Common.{rules}
-use Rattle.class_summary.proofs.Lists.{followed_start, followed_on, followed_end}
+use Rattle.known_classes.proofs.KeptItems.{followed_start, followed_on, followed_end}
 use Rattle.class_summary.proofs.paths.follow.Goals as goal
 
 pub loop-i-init : goal.loop-i-init

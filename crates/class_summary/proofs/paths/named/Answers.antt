@@ -1,6 +1,6 @@
 use Rattle.std.proofs.Common.{rules}
 use Rattle.class_summary.specs.Sources.{name_at}
-use Rattle.class_summary.proofs.Lists.{mapped_on, mapped_end}
+use Rattle.known_classes.proofs.KeptItems.{mapped_on, mapped_end}
 use Rattle.class_summary.proofs.paths.named.Goals as goal
 
 pub loop-i-preserved : goal.loop-i-preserved

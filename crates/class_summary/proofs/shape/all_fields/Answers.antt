@@ -1,6 +1,6 @@
 use Rattle.std.proofs.Common.{rules, sym, ◌∙◌}
 use Rattle.class_summary.specs.Summaries.{field_kept}
-use Rattle.class_summary.proofs.Lists.{kept_on, dropped_on, kept_end}
+use Rattle.known_classes.proofs.KeptItems.{kept_on, dropped_on, kept_end}
 use Rattle.class_summary.proofs.shape.all_fields.Goals as goal
 
 pub loop-i-preserved : goal.loop-i-preserved

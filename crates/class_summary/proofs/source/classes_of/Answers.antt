@@ -3,7 +3,7 @@ use Rattle.java_units.specs.declared.types.TypeText.{TypeText}
 use Rattle.java_units.specs.Dimensions.{dims_of_bounds}
 use Rattle.class_summary.specs.SourceSummaries.{super_of}
 use Rattle.class_summary.proofs.Greatest.{item_fits}
-use Rattle.class_summary.proofs.Lists.{kept_on, dropped_on, kept_end}
+use Rattle.known_classes.proofs.KeptItems.{kept_on, dropped_on, kept_end}
 use Rattle.class_summary.proofs.source.classes_of.Goals as goal
 
 pub super_of-requires : goal.super_of-requires

@@ -3,7 +3,7 @@ use Rattle.java_units.specs.declared.types.SourceField.{SourceField}
 use Rattle.java_units.specs.Dimensions.{dims_of_bounds}
 use Rattle.class_summary.specs.SourceSummaries.{field_of}
 use Rattle.class_summary.proofs.Greatest.{item_fits}
-use Rattle.class_summary.proofs.Lists.{mapped_on, mapped_end}
+use Rattle.known_classes.proofs.KeptItems.{mapped_on, mapped_end}
 use Rattle.class_summary.proofs.source.fields_of.Goals as goal
 
 pub field_of-requires : goal.field_of-requires

@@ -3,7 +3,7 @@ use Rattle.java_units.specs.declared.types.Param.{Param}
 use Rattle.java_units.specs.Dimensions.{dims_of_bounds}
 use Rattle.class_summary.specs.SourceSummaries.{param_of}
 use Rattle.class_summary.proofs.Greatest.{item_fits}
-use Rattle.class_summary.proofs.Lists.{mapped_on, mapped_end}
+use Rattle.known_classes.proofs.KeptItems.{mapped_on, mapped_end}
 use Rattle.class_summary.proofs.source.params_of.Goals as goal
 
 pub param_of-requires : goal.param_of-requires

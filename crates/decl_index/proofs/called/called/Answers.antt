@@ -1,7 +1,7 @@
 use Rattle.std.proofs.Common.{rules, ◌≡◌, ◌-◌, map, length, arith}
 use Rattle.std.specs.Arc.{arc_value}
 use Rattle.std.proofs.lemmas.List.{length-map}
-use Rattle.class_summary.specs.Known.{canonical}
+use Rattle.known_classes.specs.Known.{canonical}
 use Rattle.decl_index.specs.Places.{canonical_names}
 use Rattle.decl_index.proofs.RowLemmas.{got_read}
 use Rattle.decl_index.proofs.Texts.{called-none, called-back, called-all}

@@ -1,7 +1,7 @@
 use Rattle.std.proofs.Common.{rules, ◌≡◌, ◌++◌, ◌∷◌, ◌-◌, [], map, subst, arith, Some}
 use Rattle.std.specs.Prelude.{IfOk, reverse}
 use Rattle.std.specs.Arc.{arc_value}
-use Rattle.class_summary.specs.Known.{class_named, outer_of, nesting_at, simple_in, nested_name, dotted, canonical}
+use Rattle.known_classes.specs.Known.{class_named, outer_of, nesting_at, simple_in, nested_name, dotted, canonical}
 use Rattle.decl_index.specs.History.{Name}
 use Rattle.decl_index.proofs.Results.{ok_then}
 use Rattle.decl_index.proofs.Texts.{out-on, out-end, out-spent}

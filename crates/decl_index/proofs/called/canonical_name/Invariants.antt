@@ -3,7 +3,7 @@ use Rattle.std.specs.Prelude.{reverse}
 use Rattle.std.specs.Arc.{arc_value}
 use denote.Shadow.{shadow}
 use denote.Text.{Utf8}
-use Rattle.class_summary.specs.Known.{canonical, canonical_by}
+use Rattle.known_classes.specs.Known.{canonical, canonical_by}
 use Rattle.decl_index.proofs.called.canonical_name.Given as goal
 
 abbrev pub invariant-loop-left : goal.invariant-loop-left

@@ -1,6 +1,6 @@
 use Rattle.std.proofs.Common.{◌≡◌, ◌≤◌, ◌++◌, drop, length}
 use Rattle.std.specs.Prelude.{reverse}
-use Rattle.class_summary.specs.Known.{dotted}
+use Rattle.known_classes.specs.Known.{dotted}
 use Rattle.decl_index.proofs.called.push_dotted.Given as goal
 
 abbrev pub invariant-loop-left : goal.invariant-loop-left

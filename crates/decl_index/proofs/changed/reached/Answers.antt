@@ -1,7 +1,7 @@
 use Rattle.std.proofs.Common.{rules, ◌≡◌, ◌<◌, map, length, get_or, Some, None, subst, ◌∙◌}
 use Rattle.std.specs.Arc.{arc_value}
 use Rattle.std.proofs.lemmas.List.{length-map}
-use Rattle.class_summary.specs.Known.{class_named, IsPlaceOf}
+use Rattle.known_classes.specs.Known.{class_named, IsPlaceOf}
 use Rattle.decl_index.specs.Changed.{Follows}
 use Rattle.decl_index.proofs.RowLemmas.{got_read}
 use Rattle.decl_index.proofs.Searches.{follow-first, follow-next, follow-skip}

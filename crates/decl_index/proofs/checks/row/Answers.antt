@@ -1,6 +1,6 @@
 use Rattle.std.proofs.Common.{rules, ◌≡◌, map, None, Some, [], subst, sym}
 use Rattle.std.specs.Arc.{arc_value}
-use Rattle.class_summary.specs.Known.{class_named, IsPlaceOf}
+use Rattle.known_classes.specs.Known.{class_named, IsPlaceOf}
 use Rattle.decl_index.specs.Rows.{IsRow}
 use Rattle.decl_index.proofs.RowLemmas.{row_none, row_found, row_passed, row_all}
 use Rattle.decl_index.proofs.checks.row.Goals as goal

@@ -1,7 +1,7 @@
 use Rattle.std.proofs.Common.{rules, ◌≡◌, map, drop, true}
 use Rattle.std.specs.Arc.{arc_value}
 use Rattle.decl_index.specs.Places.{heads}
-use Rattle.decl_index.proofs.Circles.{heads_found}
+use Rattle.decl_index.proofs.Cycles.{heads_found}
 use Rattle.decl_index.proofs.table.find_near.Goals as goal
 
 pub returns-then-stands_at : goal.returns-then-stands_at

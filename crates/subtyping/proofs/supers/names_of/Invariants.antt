@@ -1,5 +1,5 @@
 use Rattle.std.proofs.Common.{◌≡◌, ℕ, ◌<◌, slice_get, Some}
-use Rattle.class_summary.specs.declared.summary.ClassSummary.{ClassSummary}
+use Rattle.known_classes.specs.declared.summary.ClassSummary.{ClassSummary}
 use Rattle.subtyping.specs.Places.{IsListed}
 use Rattle.subtyping.proofs.supers.names_of.Given as goal
 

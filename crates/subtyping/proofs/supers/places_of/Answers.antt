@@ -1,5 +1,5 @@
 use Rattle.std.proofs.Common.{◌∙◌, sym, ap}
-use Rattle.class_summary.proofs.Lists.{kept_on, dropped_on}
+use Rattle.known_classes.proofs.KeptItems.{kept_on, dropped_on}
 use Rattle.subtyping.specs.Places.{place_of}
 use Rattle.subtyping.proofs.supers.places_of.Goals as goal
 

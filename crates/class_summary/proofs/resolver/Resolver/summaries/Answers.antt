@@ -2,7 +2,7 @@ use Rattle.std.proofs.Common.{◌≡◌, ◌∙◌, ◌+◌, ◌++◌, ◌^◌, 
 use Rattle.java_units.specs.UnitLaws.{IsNested}
 use Rattle.java_units.specs.Dimensions.{dims_of_bounds, greatest, type_dims}
 use Rattle.java_units.specs.declared.types.SourceClass.{SourceClass}
-use Rattle.class_summary.specs.declared.summary.ClassSummary.{ClassSummary}
+use Rattle.known_classes.specs.declared.summary.ClassSummary.{ClassSummary}
 use Rattle.class_summary.specs.SourceSummaries.{Source, summary_at, summaries_from, summaries_of}
 use Rattle.class_summary.proofs.Greatest.{class_fits, summaries_on, summaries_end}
 use Rattle.class_summary.proofs.resolver.Resolver.summaries.Goals as goal

@@ -1,7 +1,7 @@
 use Rattle.std.proofs.Common.{rules, ◌≡◌, map, subst}
 use Rattle.std.specs.Arc.{arc_value}
-use Rattle.class_summary.specs.Known.{HasEachOnce}
-use Rattle.decl_index.proofs.Circles.{each_once}
+use Rattle.known_classes.specs.Known.{HasEachOnce}
+use Rattle.decl_index.proofs.Cycles.{each_once}
 use Rattle.decl_index.proofs.index.IndexClasses.count.Goals as goal
 
 pub returns-clause-once : goal.returns-clause-once

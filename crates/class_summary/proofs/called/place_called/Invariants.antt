@@ -1,8 +1,0 @@
-use Rattle.class_summary.proofs.CalledPlaces.{IsBestCalled}
-use Rattle.class_summary.proofs.called.place_called.Given as goal
-
-abbrev pub invariant-loop-left : goal.invariant-loop-left
-invariant-loop-left g l = IsBestCalled l.known l.dotted l.left l.best
-
-abbrev pub decreases-loop-left : goal.decreases-loop-left
-decreases-loop-left g l = l.left

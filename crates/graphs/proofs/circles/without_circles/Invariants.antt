@@ -1,5 +1,0 @@
-use Rattle.graphs.proofs.Rows.{AreForwardRows}
-use Rattle.graphs.proofs.circles.without_circles.Given as goal
-
-abbrev pub invariant-loop-node : goal.invariant-loop-node
-invariant-loop-node l = AreForwardRows l.graph l.rows l.node

@@ -1,0 +1,16 @@
+pub mod CanonicalLaws
+pub mod CanonicalEnds
+pub mod CanonicalPlaces
+pub mod CanonicalTexts
+pub mod Dots
+pub mod KeptItems
+pub mod Merging
+pub mod MergedPlaces
+pub mod NestedPlaces
+pub mod Steps
+pub mod NumberTables
+pub mod Ways
+pub mod Orders
+pub mod Leasts
+pub mod Sets
+pub mod Merges

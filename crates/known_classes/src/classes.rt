@@ -1,0 +1,29 @@
+ghost use Rattle.std.specs.Prelude.{◌≡◌, ◌<◌, length, slice_get, Some};
+ghost use Rattle.known_classes.specs.Known.{KnownClasses, class_named, class_by_canonical, HasEachOnce, IsPlaceOf};
+
+use crate::summary::ClassSummary;
+
+/// Classes that are known, each under its own name and at a place of its own. None of the calls takes
+/// memory.
+pub trait Classes {
+    ghost listed: { Self → KnownClasses };
+
+    /// How many classes are known.
+    fn count(&self) -> usize
+        ensures size { result ≡ length (listed self.now) }
+        ensures once { HasEachOnce (listed self.now) };
+
+    /// The class at a place below the count.
+    fn at(&self, place: usize) -> &ClassSummary
+        requires { place < length (listed self.now) }
+        ensures { slice_get (listed self.now) place ≡ Some result.now };
+
+    /// The place of the class with this internal name, None exactly where there is none.
+    fn find(&self, name: &str) -> Option<usize>
+        ensures { IsPlaceOf (listed self.now) (class_named (listed self.now) name.now) result };
+
+    /// The place of the class with this canonical name, as `java.util.Map.Entry` (JLS 6.7); of several the
+    /// one of the least internal name, and None exactly where there is none.
+    fn by_canonical(&self, dotted: &str) -> Option<usize>
+        ensures { IsPlaceOf (listed self.now) (class_by_canonical (listed self.now) (listed self.now) dotted.now) result };
+}

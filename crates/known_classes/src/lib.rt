@@ -1,0 +1,22 @@
+// What is known of classes: the summary of a class, lists of classes under their names with others added to
+// them, and canonical names. The main definition is `canonical`, the canonical name of a class among known
+// ones (JLS 6.7); the trait `Classes` says what classes are known, by internal name, by canonical name, and by
+// the class around them. It stands on `lists` and `type_names`, and knows neither class files nor Java text.
+#![tactic(auto)]
+
+mod canonical_places;
+mod canonical_text;
+mod classes;
+mod laws;
+mod merged;
+mod nested;
+mod summary;
+mod tables;
+
+pub use canonical_text::canonical;
+pub use classes::Classes;
+pub use laws::{canonical_names, merges_of_names};
+pub use merged::Merged;
+pub use nested::{nested_class, same};
+pub use summary::{ClassSummary, FieldSummary, MethodSummary, Nesting, copy_text};
+pub use tables::put;
