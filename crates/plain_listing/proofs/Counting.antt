@@ -162,11 +162,11 @@ when_below true h = h refl
 when_below false h = refl
 
 -- the same weight, by the type of the whole
-by_type : (g : Parts) (d : Decl) (b : ℕ) (fit flat : Bool) (args w : ℕ) → once_if ((is_below g d.result b && (fit && flat)) && (cost d b + args == w)) ≡ once_if ((some_below g (result_if (Some d) fit) b && flat) && (d.weight + args + step (result_if (Some d) fit) b == w))
+by_type : (g : Parts) (d : Decl) (b : ℕ) (fit flat : Bool) (args w : ℕ) → once_if ((is_below g d.result b && (fit && flat)) && (cost g d b + args == w)) ≡ once_if ((some_below g (result_if (Some d) fit) b && flat) && (d.weight + args + step (result_if (Some d) fit) b == w))
 by_type g d b true flat args w =
-    let e : cost d b + args ≡ d.weight + args + step (Some d.result) b = omega arith in
+    let e : cost g d b + args ≡ d.weight + args + step (Some d.result) b = omega arith in
     rw e refl
-by_type g d b false flat args w = ap (λ t. once_if (t && (cost d b + args == w))) (and_no (is_below g d.result b))
+by_type g d b false flat args w = ap (λ t. once_if (t && (cost g d b + args == w))) (and_no (is_below g d.result b))
 
 -- a declaration that weighs something and whose places are served
 pub record IsServed (g : Parts) (ctx : List (List ℕ)) (left : ℕ) (here : Table) (under : Inner) (limit : ℕ) (d : Decl) : Type 0 where
@@ -179,13 +179,13 @@ count-headed : (g : Parts) (ctx : List (List ℕ)) (left : ℕ) (here : Table) (
 count-headed g ctx left here under w b n room None served xs = refl
 count-headed g ctx left here under w b n room (Some d) served xs =
     let decl = served d refl in
-    let below = is_below g d.result b && nat_le (cost d b) w in
-    let list = fills here under d.args (w - cost d b) in
+    let below = is_below g d.result b && nat_le (cost g d b) w in
+    let list = fills here under d.args (w - cost g d b) in
     let inner : count (expr_eq (head n xs)) (map (head n) list) ≡ count (args_eq xs) list =
     count-map (expr_eq (head n xs)) (head n) list ∙ count-and (n == n) (args_eq xs) list ∙ rw (eq-eqb n n refl) (one-mul (count (args_eq xs) list)) in
     count-cond (expr_eq (head n xs)) below (map (head n) list)
-    ∙ rw inner (when_below below (λ within. count-fills g ctx left here under w room d.args decl.places (w - cost d b) (omega (arith, decl.heavy, leb-true (cost d b) w (and_parts (is_below g d.result b) (nat_le (cost d b) w) within).1)) xs))
-    ∙ rest_fits (is_below g d.result b) (fits g ctx xs d.args && args_shallow left xs) (cost d b) (args_weight g ctx xs d.args) w
+    ∙ rw inner (when_below below (λ within. count-fills g ctx left here under w room d.args decl.places (w - cost g d b) (omega (arith, decl.heavy, leb-true (cost g d b) w (and_parts (is_below g d.result b) (nat_le (cost g d b) w) within).1)) xs))
+    ∙ rest_fits (is_below g d.result b) (fits g ctx xs d.args && args_shallow left xs) (cost g d b) (args_weight g ctx xs d.args) w
     ∙ by_type g d b (fits g ctx xs d.args) (args_shallow left xs) (args_weight g ctx xs d.args) w
 
 no_var : (g : Parts) (here : Table) (under : Inner) (w b n m : ℕ) (o : Option Decl) → count (expr_eq (var m)) (headed g here under w b n o) ≡ 0

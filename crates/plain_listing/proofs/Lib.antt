@@ -1,7 +1,7 @@
 mod Counting
 pub mod Numbers
-pub mod Adding
 pub mod Making
+pub mod Joined
 pub mod Ranges
 pub mod Finding
 pub mod Growing

@@ -3,6 +3,7 @@ use Rattle.std.proofs.Common.{◌≡◌, ℕ, zero, suc, ◌+◌, ◌<◌, ◌�
 use Rattle.std.specs.List.{list_all}
 use Rattle.std.proofs.lemmas.Bool.{and_parts, ltb-true}
 use Rattle.std.proofs.lemmas.Option.{slice_get_within}
+use Rattle.terms.specs.Typing.{most_rows}
 use Rattle.terms.specs.Faults.{or_then, unless, is_arg_known, decl_fault, decls_fault, pairs_fault, order_fault, limit_fault, depth_fault, goal_fault, first_env_fault, IsValid}
 use Rattle.terms.specs.declared.fault.EnvFault.{EnvFault}
 use Rattle.terms.specs.declared.fault.EnvFault.TheVariants.{TypeRange, Weight, Limit, Depth}
@@ -29,7 +30,7 @@ pub record IsInRange (types : ℕ) (d : Decl) : Type 0 where
 -- the numbers of an environment
 pub record Ranges (g : Parts) : Type 0 where
   pub limit : g.limit ≤ 10000
-  pub depth : g.depth ≤ 1
+  pub depth : g.depth ≤ most_rows
   pub goal : g.goal < length g.types
   pub decls : (n : ℕ) (d : Decl) → slice_get g.decls n ≡ Some d → IsInRange (length g.types) d
 

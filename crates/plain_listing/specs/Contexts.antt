@@ -1,35 +1,41 @@
--- The contexts in which terms are made: one for each list of parameters of which a lambda may be made.
-use Rattle.std.specs.Prelude.{ℕ, if◌then◌else◌, ◌==◌, nat_lt, List, [], ◌∷◌, ◌++◌, length, Option, None, Some}
+-- The contexts in which terms are made: rows of parameters of lambdas, outermost first, from the empty context on.
+use Rattle.std.specs.Prelude.{◌≡◌, ◌⊎◌, ℕ, ◌<◌, ◌≤◌, List, [], ◌∷◌, ◌++◌, length, slice_get, Some}
 use Rattle.terms.specs.declared.parts.Arg.{Arg}
 use Rattle.terms.specs.declared.parts.Arg.TheVariants.{Plain, Fun}
 use Rattle.terms.specs.declared.parts.Decl.{Decl}
 use Rattle.terms.specs.declared.parts.Parts.{Parts}
-use Rattle.plain_listing.specs.Tables.{number_of}
 
--- a list of parameters that has no number yet is added
-abbrev pub with_new : Option ℕ → List (List ℕ) → List ℕ → List (List ℕ)
-with_new None contexts ps = contexts ++ ps ∷ []
-with_new (Some n) contexts ps = contexts
+-- a context is among them
+abbrev pub IsAmong : List (List (List ℕ)) → List (List ℕ) → Type 0
+IsAmong contexts ctx = (n : ℕ) × (slice_get contexts n ≡ Some ctx)
 
--- so is it unless its binders alone pass the limit
-abbrev pub with_params : ℕ → List (List ℕ) → List ℕ → List (List ℕ)
-with_params limit contexts ps = if nat_lt limit (length ps) then contexts else with_new (number_of contexts ps) contexts ps
+-- what stood in the one list stands at the same place in the other
+abbrev pub Keeps : List (List (List ℕ)) → List (List (List ℕ)) → Type 0
+Keeps old new = (n : ℕ) (ctx : List (List ℕ)) → slice_get old n ≡ Some ctx → slice_get new n ≡ Some ctx
 
--- the parameters of an argument are added
-abbrev pub with_arg : ℕ → List (List ℕ) → Arg → List (List ℕ)
-with_arg limit contexts (Plain b) = contexts
-with_arg limit contexts (Fun ps r) = with_params limit contexts ps
+-- the context of a lambda's body is among them, unless its binders alone pass the limit
+abbrev pub IsMet : ℕ → List (List (List ℕ)) → List (List ℕ) → Arg → Type 0
+IsMet limit contexts ctx (Plain b) = Unit {0}
+IsMet limit contexts ctx (Fun ps r) = IsAmong contexts (ctx ++ ps ∷ []) ⊎ (limit < length ps)
 
--- those of all arguments
-unfoldable pub with_args : ℕ → List (List ℕ) → List Arg → List (List ℕ)
-with_args limit contexts [] = contexts
-with_args limit contexts (a ∷ more) = with_args limit (with_arg limit contexts a) more
+-- so at the first so many arguments
+abbrev pub AreMet : ℕ → List (List (List ℕ)) → List (List ℕ) → List Arg → ℕ → Type 0
+AreMet limit contexts ctx args count = (i : ℕ) (a : Arg) → i < count → slice_get args i ≡ Some a → IsMet limit contexts ctx a
 
--- those of all declarations
-unfoldable pub with_decls : ℕ → List (List ℕ) → List Decl → List (List ℕ)
-with_decls limit contexts [] = contexts
-with_decls limit contexts (d ∷ more) = with_decls limit (with_args limit contexts d.args) more
+-- so at those of the first so many declarations
+abbrev pub AreAllMet : ℕ → List (List (List ℕ)) → List (List ℕ) → List Decl → ℕ → Type 0
+AreAllMet limit contexts ctx decls count = (n : ℕ) (d : Decl) → n < count → slice_get decls n ≡ Some d → AreMet limit contexts ctx d.args (length d.args)
 
--- the lists of parameters, where a lambda may stand
-abbrev pub contexts_of : Parts → List (List ℕ)
-contexts_of g = if g.depth == 0 then [] else with_decls g.limit [] g.decls
+-- rows are at most so many
+abbrev pub AreShallow : ℕ → List (List (List ℕ)) → Type 0
+AreShallow depth contexts = (n : ℕ) (ctx : List (List ℕ)) → slice_get contexts n ≡ Some ctx → length ctx ≤ depth
+
+-- of the first so many contexts, those in which lambdas may stand have the contexts of the bodies among them
+abbrev pub AreClosed : Parts → List (List (List ℕ)) → ℕ → Type 0
+AreClosed g contexts count = (n : ℕ) (ctx : List (List ℕ)) → n < count → slice_get contexts n ≡ Some ctx → length ctx < g.depth → AreAllMet g.limit contexts ctx g.decls (length g.decls)
+
+-- the contexts of an environment: the empty one, and with each those of the lambdas in it, as deep as they may nest
+pub record AreContexts (g : Parts) (contexts : List (List (List ℕ))) : Type 0 where
+  pub first : slice_get contexts 0 ≡ Some []
+  pub shallow : AreShallow g.depth contexts
+  pub closed : AreClosed g contexts (length contexts)

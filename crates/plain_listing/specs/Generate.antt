@@ -3,7 +3,7 @@ use Rattle.std.specs.Prelude.{ℕ, ◌+◌, ◌-◌, ◌==◌, ◌&&◌, nat_le,
 use Rattle.std.specs.List.{range_with_len, flat_map}
 use Rattle.terms.specs.Expr.{Expr, var, head, Args, no_args, plain, lam}
 use Rattle.terms.specs.Typing.{is_below}
-use Rattle.terms.specs.Weights.{step}
+use Rattle.terms.specs.Weights.{variable_weight, step_in}
 use Rattle.terms.specs.declared.parts.Arg.{Arg}
 use Rattle.terms.specs.declared.parts.Arg.TheVariants.{Plain, Fun}
 use Rattle.terms.specs.declared.parts.Decl.{Decl}
@@ -41,18 +41,18 @@ fills here under [] w = cond (w == 0) (no_args ∷ []) []
 fills here under (a ∷ more) w = flat_map (λ k. firsts a (candidates here under a k) (fills here under more (w - k))) (range_with_len 0 (w + 1))
 
 -- what a declaration costs at a place for b, its arguments left out
-abbrev pub cost : Decl → ℕ → ℕ
-cost d b = d.weight + step (Some d.result) b
+abbrev pub cost : Parts → Decl → ℕ → ℕ
+cost g d b = d.weight + step_in g (Some d.result) b
 
 -- the terms with this declaration at the head
 abbrev pub headed : Parts → Table → Inner → ℕ → ℕ → ℕ → Option Decl → List Expr
 headed g here under w b n None = []
-headed g here under w b n (Some d) = cond (is_below g d.result b && nat_le (cost d b) w) (map (head n) (fills here under d.args (w - cost d b))) []
+headed g here under w b n (Some d) = cond (is_below g d.result b && nat_le (cost g d b) w) (map (head n) (fills here under d.args (w - cost g d b))) []
 
 -- variable n, where its type stands for b and it weighs just w there
 abbrev pub variable : Parts → ℕ → ℕ → ℕ → Option ℕ → List Expr
 variable g w b n None = []
-variable g w b n (Some a) = cond (is_below g a b && (1 + step (Some a) b == w)) (var n ∷ []) []
+variable g w b n (Some a) = cond (is_below g a b && (variable_weight g + step_in g (Some a) b == w)) (var n ∷ []) []
 
 -- the variables that stand for b and weigh w there
 abbrev pub variables : Parts → List ℕ → ℕ → ℕ → List Expr

@@ -1,5 +1,6 @@
 -- The tables of the code, and what it means that they are right.
-use Rattle.std.specs.Prelude.{◌≡◌, ℕ, ◌+◌, ◌<◌, ◌==◌, ◌&&◌, if◌then◌else◌, Bool, bytes_eq, List, [], ◌∷◌, length, map, slice_get, Option, None, Some}
+use Rattle.std.specs.Prelude.{◌≡◌, ℕ, ◌+◌, ◌<◌, nat_lt, ◌==◌, ◌&&◌, if◌then◌else◌, Bool, true, false, bytes_eq, List, [], ◌∷◌, ◌++◌, length, map, slice_get, Option, None, Some}
+use Rattle.terms.specs.Typing.{joined}
 use Rattle.terms.specs.Expr.{Expr}
 use Rattle.terms.specs.View.{expr}
 use Rattle.terms.specs.Count.{expr_eq, once_if, count}
@@ -27,23 +28,34 @@ in_context (Some row) c b = for_type (slice_get row c) b
 abbrev pub at : List (List (List (List Term))) → ℕ → Table
 at rows c k b = in_context (slice_get rows k) c b
 
--- the first number, counted from n, at which the list of parameters stands
-unfoldable pub number_from : ℕ → List (List ℕ) → List ℕ → Option ℕ
-number_from n [] ps = None
-number_from n (row ∷ more) ps = if bytes_eq row ps then Some n else number_from (n + 1) more ps
+-- whether two contexts have the same rows
+unfoldable pub same_rows : List (List ℕ) → List (List ℕ) → Bool
+same_rows [] [] = true
+same_rows (x ∷ xs) (y ∷ ys) = bytes_eq x y && same_rows xs ys
+same_rows [] (y ∷ ys) = false
+same_rows (x ∷ xs) [] = false
 
--- the number of a list of parameters among the contexts
-abbrev pub number_of : List (List ℕ) → List ℕ → Option ℕ
-number_of contexts ps = number_from 0 contexts ps
+-- the first number, counted from n, at which the context stands
+unfoldable pub number_from : ℕ → List (List (List ℕ)) → List (List ℕ) → Option ℕ
+number_from n [] ctx = None
+number_from n (c ∷ more) ctx = if same_rows c ctx then Some n else number_from (n + 1) more ctx
 
--- the table of a numbered list of parameters: context 0 has no lambda
+-- the number of a context
+abbrev pub number_of : List (List (List ℕ)) → List (List ℕ) → Option ℕ
+number_of contexts ctx = number_from 0 contexts ctx
+
+-- the number of the context of a lambda's body, where the lambda may stand in a context
+abbrev pub number_under : List (List (List ℕ)) → ℕ → List (List ℕ) → List ℕ → Option ℕ
+number_under contexts depth ctx ps = if nat_lt (length ctx) depth then number_of contexts (ctx ++ ps ∷ []) else None
+
+-- the table of a numbered context
 abbrev pub by_number : Option ℕ → List (List (List (List Term))) → Table
 by_number None rows k b = []
-by_number (Some n) rows k b = at rows (n + 1) k b
+by_number (Some n) rows k b = at rows n k b
 
--- the tables under one lambda
-abbrev pub under : List (List ℕ) → List (List (List (List Term))) → Inner
-under contexts rows ps = by_number (number_of contexts ps) rows
+-- the tables under one lambda more
+abbrev pub under : List (List (List ℕ)) → List (List (List (List Term))) → ℕ → List (List ℕ) → Inner
+under contexts rows depth ctx ps = by_number (number_under contexts depth ctx ps) rows
 
 -- the term may stand at the place and weighs k there
 abbrev pub stands : Parts → Place → ℕ → Expr → Bool
@@ -53,13 +65,15 @@ stands g p k e = fits_place g p e && (weigh g p e == k)
 abbrev pub IsRight : Parts → List (List ℕ) → ℕ → Table → ℕ → Type 0
 IsRight g ctx left here limit = (k b : ℕ) → k < limit → b < length g.types → (e : Expr) → count (expr_eq e) (here k b) ≡ once_if (stands g (record { ctx = ctx; left = left; wanted = b }) k e)
 
--- so in each context: without a lambda, and under one with each of the lists of parameters
-pub record AreRight (g : Parts) (contexts : List (List ℕ)) (rows : List (List (List (List Term)))) (limit : ℕ) : Type 0 where
-  pub outer : IsRight g [] g.depth (at rows 0) limit
-  pub inner : (n : ℕ) (ps : List ℕ) → slice_get contexts n ≡ Some ps → IsRight g (ps ∷ []) 0 (at rows (n + 1)) limit
+-- so in each context, with as many lambdas left as its rows leave
+abbrev pub AreRight : Parts → List (List (List ℕ)) → List (List (List (List Term))) → ℕ → Type 0
+AreRight g contexts rows limit = (n left : ℕ) (ctx : List (List ℕ)) → slice_get contexts n ≡ Some ctx → length ctx + left ≡ g.depth → IsRight g ctx left (at rows n) limit
 
--- one weight's lists: in context 0, and in those of the first n lists of parameters
-pub record IsRow (g : Parts) (contexts : List (List ℕ)) (rows : List (List (List (List Term)))) (row : List (List (List Term))) (n : ℕ) : Type 0 where
-  pub long : length row ≡ n + 1
-  pub outer : (b : ℕ) → b < length g.types → for_type (slice_get row 0) b ≡ made g [] (at rows 0) (under contexts rows) (length rows) b
-  pub inner : (m : ℕ) (ps : List ℕ) → m < n → slice_get contexts m ≡ Some ps → (b : ℕ) → b < length g.types → for_type (slice_get row (m + 1)) b ≡ made g ps (at rows (m + 1)) (under [] rows) (length rows) b
+-- one weight's terms for each type, in the context of this number
+abbrev pub IsColumn : Parts → List (List (List ℕ)) → List (List (List (List Term))) → List (List Term) → ℕ → List (List ℕ) → Type 0
+IsColumn g contexts rows column n ctx = (b : ℕ) → b < length g.types → listed (slice_get column b) ≡ made g (joined ctx) (at rows n) (under contexts rows g.depth ctx) (length rows) b
+
+-- one weight's lists, in the first n contexts
+pub record IsRow (g : Parts) (contexts : List (List (List ℕ))) (rows : List (List (List (List Term)))) (row : List (List (List Term))) (n : ℕ) : Type 0 where
+  pub long : length row ≡ n
+  pub each : (m : ℕ) (ctx : List (List ℕ)) → m < n → slice_get contexts m ≡ Some ctx → (b : ℕ) → b < length g.types → for_type (slice_get row m) b ≡ made g (joined ctx) (at rows m) (under contexts rows g.depth ctx) (length rows) b

@@ -1,99 +1,149 @@
-ghost use Rattle.std.specs.Prelude.{◌≡◌, IfOk, OnOk};
-ghost use Rattle.plain_listing.specs.Contexts.{with_params, with_arg, with_args, with_decls, contexts_of};
+ghost use Rattle.std.specs.Prelude.{◌≡◌, ◌++◌, ◌∷◌, [], ◌<◌, ℕ, length, IfOk, OnOk};
+ghost use Rattle.terms.specs.declared.parts.Arg.TheVariants.{Fun};
+ghost use Rattle.plain_listing.specs.Contexts.{Keeps, IsMet, AreMet, AreAllMet, AreShallow, AreContexts};
 
 use crate::site::number_of;
 use lists::Items;
 use std::alloc::{AllocError, Global};
 use terms::{Arg, Decl, Parts};
 
-/// Adds a list of parameters, unless it is there or its binders alone pass the limit.
+/// Copies of the rows.
+fn copy_rows(alloc: Global, rows: &[Items<u32>]) -> Result<Items<Items<u32>>, AllocError>
+    ensures equal { IfOk result (λ copies. copies ≡ rows.now) }
+{
+    let mut copies = Items::new(alloc);
+    for row in rows {
+        copies.push(Items::from_slice(alloc, row.as_slice())?)?;
+    }
+    Ok(copies)
+}
+
+/// The context with one row more.
+fn extended(
+    alloc: Global,
+    outer: &[Items<u32>],
+    params: &[u32],
+) -> Result<Items<Items<u32>>, AllocError>
+    ensures value { IfOk result (λ context. context ≡ outer.now ++ params.now ∷ []) }
+{
+    let mut context = copy_rows(alloc, outer)?;
+    context.push(Items::from_slice(alloc, params)?)?;
+    Ok(context)
+}
+
+/// Adds the context with these parameters as one row more, unless it is there or they alone pass the limit.
 fn add_params(
     alloc: Global,
-    contexts: &mut Items<Items<u32>>,
+    contexts: &mut Items<Items<Items<u32>>>,
+    outer: &[Items<u32>],
     params: &[u32],
     limit: u32,
 ) -> Result<(), AllocError>
-    ensures { OnOk result (contexts.new ≡ with_params limit contexts.old params.now) }
+    ensures keeps { OnOk result (Keeps contexts.old contexts.new) }
+    ensures shallow { OnOk result ((depth : ℕ) → length outer.now < depth → AreShallow depth contexts.old → AreShallow depth contexts.new) }
+    ensures met { OnOk result ((of : ℕ) → IsMet limit contexts.new outer.now (Fun params.now of)) }
 {
     if params.len() > limit as usize {
         return Ok(());
     }
-    match number_of(contexts.as_slice(), params) {
+    match number_of(contexts.as_slice(), outer, params) {
         Some(_) => Ok(()),
         None => {
-            contexts.push(Items::from_slice(alloc, params)?)?;
+            contexts.push(extended(alloc, outer, params)?)?;
             Ok(())
         }
     }
 }
 
-/// Adds the list of parameters that an argument wants.
+/// Adds the context of a lambda at the argument.
 fn add_arg(
     alloc: Global,
-    contexts: &mut Items<Items<u32>>,
+    contexts: &mut Items<Items<Items<u32>>>,
+    outer: &[Items<u32>],
     wanted: &Arg,
     limit: u32,
 ) -> Result<(), AllocError>
-    ensures { OnOk result (contexts.new ≡ with_arg limit contexts.old wanted.now) }
+    ensures keeps { OnOk result (Keeps contexts.old contexts.new) }
+    ensures shallow { OnOk result ((depth : ℕ) → length outer.now < depth → AreShallow depth contexts.old → AreShallow depth contexts.new) }
+    ensures met { OnOk result (IsMet limit contexts.new outer.now wanted.now) }
 {
     match wanted {
         Arg::Plain(_) => Ok(()),
-        Arg::Fun(params, _) => add_params(alloc, contexts, params.as_slice(), limit),
+        Arg::Fun(params, _) => {
+            add_params(alloc, contexts, outer, params.as_slice(), limit)?;
+            Ok(())
+        }
     }
 }
 
-/// Adds the lists of parameters that arguments want.
-#[tactic(auto, using(crate::proofs::Adding::adding))]
+/// Adds the contexts of lambdas at the arguments.
 fn add_args(
     alloc: Global,
-    contexts: &mut Items<Items<u32>>,
+    contexts: &mut Items<Items<Items<u32>>>,
+    outer: &[Items<u32>],
     wanted: &[Arg],
     limit: u32,
 ) -> Result<(), AllocError>
-    ensures { OnOk result (contexts.new ≡ with_args limit contexts.old wanted.now) }
+    ensures keeps { OnOk result (Keeps contexts.old contexts.new) }
+    ensures shallow { OnOk result ((depth : ℕ) → length outer.now < depth → AreShallow depth contexts.old → AreShallow depth contexts.new) }
+    ensures met { OnOk result (AreMet limit contexts.new outer.now wanted.now (length wanted.now)) }
 {
     for i in 0..wanted.len() {
-        add_arg(alloc, contexts, &wanted[i], limit)?;
+        add_arg(alloc, contexts, outer, &wanted[i], limit)?;
     }
     Ok(())
 }
 
-/// Adds the lists of parameters that a declaration wants.
-fn add_decl(
-    alloc: Global,
-    contexts: &mut Items<Items<u32>>,
-    decl: &Decl,
-    limit: u32,
-) -> Result<(), AllocError>
-    ensures { OnOk result (contexts.new ≡ with_args limit contexts.old decl.now.args) }
-{
-    add_args(alloc, contexts, decl.args.as_slice(), limit)
-}
-
-/// Adds the lists of parameters that declarations want.
-#[tactic(auto, using(crate::proofs::Adding::adding))]
+/// Adds the contexts of lambdas at the declarations' arguments.
 fn add_decls(
     alloc: Global,
-    contexts: &mut Items<Items<u32>>,
+    contexts: &mut Items<Items<Items<u32>>>,
+    outer: &[Items<u32>],
     decls: &[Decl],
     limit: u32,
 ) -> Result<(), AllocError>
-    ensures { OnOk result (contexts.new ≡ with_decls limit contexts.old decls.now) }
+    ensures keeps { OnOk result (Keeps contexts.old contexts.new) }
+    ensures shallow { OnOk result ((depth : ℕ) → length outer.now < depth → AreShallow depth contexts.old → AreShallow depth contexts.new) }
+    ensures met { OnOk result (AreAllMet limit contexts.new outer.now decls.now (length decls.now)) }
 {
-    for i in 0..decls.len() {
-        add_decl(alloc, contexts, &decls[i], limit)?;
+    for n in 0..decls.len() {
+        let decl = &decls[n];
+        add_args(alloc, contexts, outer, decl.args.as_slice(), limit)?;
     }
     Ok(())
 }
 
-/// The lists of parameters of which a lambda may be made, each once.
-pub fn contexts_of(alloc: Global, parts: &Parts) -> Result<Items<Items<u32>>, AllocError>
-    ensures { IfOk result (λ contexts. contexts ≡ contexts_of parts.now) }
+/// Adds the contexts of lambdas in a context, where they may stand there.
+fn add_inner(
+    alloc: Global,
+    contexts: &mut Items<Items<Items<u32>>>,
+    outer: &[Items<u32>],
+    parts: &Parts,
+) -> Result<(), AllocError>
+    ensures keeps { OnOk result (Keeps contexts.old contexts.new) }
+    ensures shallow { OnOk result (AreShallow parts.now.depth contexts.old → AreShallow parts.now.depth contexts.new) }
+    ensures met { OnOk result (length outer.now < parts.now.depth → AreAllMet parts.now.limit contexts.new outer.now parts.now.decls (length parts.now.decls)) }
+{
+    if outer.len() >= parts.depth as usize {
+        return Ok(());
+    }
+    add_decls(alloc, contexts, outer, parts.decls.as_slice(), parts.limit)?;
+    Ok(())
+}
+
+/// The contexts of an environment, numbered as they are met from the empty one on. Want of memory is also
+/// answered where they would be 2^32 or more.
+pub fn contexts_of(alloc: Global, parts: &Parts) -> Result<Items<Items<Items<u32>>>, AllocError>
+    ensures { IfOk result (λ contexts. AreContexts parts.now contexts) }
 {
     let mut contexts = Items::new(alloc);
-    if parts.depth == 0 {
-        return Ok(contexts);
+    contexts.push(Items::new(alloc))?;
+    for n in 0..4294967296usize {
+        if n >= contexts.len() {
+            return Ok(contexts);
+        }
+        let outer = copy_rows(alloc, contexts.as_slice()[n].as_slice())?;
+        add_inner(alloc, &mut contexts, outer.as_slice(), parts)?;
     }
-    add_decls(alloc, &mut contexts, parts.decls.as_slice(), parts.limit)?;
-    Ok(contexts)
+    Err(AllocError)
 }

@@ -1,6 +1,5 @@
 ghost use Rattle.std.specs.Prelude.{◌≡◌, ◌++◌, ◌<◌, ◌^◌, Some, length, map, slice_get, IfOk, OnOk};
 ghost use Rattle.terms.specs.View.{expr};
-ghost use Rattle.terms.specs.Weights.{step};
 ghost use Rattle.plain_listing.specs.Generate.{cost, headed, heads, variable, variables, made};
 ghost use Rattle.plain_listing.specs.Reads.{here, deeper};
 
@@ -8,14 +7,7 @@ use crate::fills::fills;
 use crate::site::Site;
 use lists::{Items, at};
 use std::alloc::{AllocError, Global};
-use terms::{Decl, Term};
-
-/// What the coercion from the one type to the other weighs.
-fn step(from: u32, to: u32) -> usize
-    ensures { result ≡ step (Some from) to }
-{
-    if from == to { 0 } else { 10 }
-}
+use terms::{Decl, Env, Term};
 
 /// Adds the variable, where its type stands for the wanted one and it weighs just `weight` there.
 fn push_typed(
@@ -31,7 +23,8 @@ fn push_typed(
     if !site.env.is_below(of, wanted) {
         return Ok(());
     }
-    if 1 + step(of, wanted) != weight {
+    let weighs = site.env.variable_weight() as usize + site.env.step(of, wanted) as usize;
+    if weighs != weight {
         return Ok(());
     }
     all.push(Term::Var(n))?;
@@ -72,10 +65,10 @@ fn push_variables(
 }
 
 /// What the declaration costs at the place, with the coercion.
-fn cost(decl: &Decl, wanted: u32) -> usize
-    ensures { result ≡ cost decl.now wanted }
+fn cost(env: &Env, decl: &Decl, wanted: u32) -> usize
+    ensures { result ≡ cost env.now decl.now wanted }
 {
-    decl.weight as usize + step(decl.result, wanted)
+    decl.weight as usize + env.step(decl.result, wanted) as usize
 }
 
 /// Adds the terms that the declaration heads.
@@ -91,7 +84,7 @@ fn push_declared(
     requires { weight < 2 ^ 32 }
     ensures { OnOk result (map expr all.new ≡ map expr all.old ++ headed site.now.env.now (here site.now) (deeper site.now) weight wanted n (Some decl.now)) }
 {
-    let cost = cost(decl, wanted);
+    let cost = cost(site.env, decl, wanted);
     if !site.env.is_below(decl.result, wanted) || cost > weight {
         return Ok(());
     }

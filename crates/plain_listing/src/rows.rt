@@ -1,6 +1,7 @@
-ghost use Rattle.std.specs.Prelude.{◌≡◌, ◌≤◌, ◌<◌, ◌^◌, [], ℕ, All, length, slice_get, IfOk};
+ghost use Rattle.std.specs.Prelude.{◌≡◌, ◌<◌, ◌^◌, ◌++◌, ℕ, length, slice_get, IfOk, OnOk};
+ghost use Rattle.terms.specs.Typing.{joined};
 ghost use Rattle.plain_listing.specs.Generate.{made};
-ghost use Rattle.plain_listing.specs.Tables.{listed, at, under, IsRow};
+ghost use Rattle.plain_listing.specs.Tables.{listed, IsColumn, IsRow};
 ghost use Rattle.plain_listing.specs.Reads.{here, deeper};
 
 use crate::heads::made;
@@ -24,46 +25,51 @@ fn column(alloc: Global, site: &Site<'_>, weight: usize) -> Result<Items<Items<T
     Ok(all)
 }
 
-/// The terms of the next weight outside all lambdas, for each type.
-fn outer_column(
-    alloc: Global,
-    env: &Env,
-    contexts: &[Items<u32>],
-    rows: &[Items<Items<Items<Term>>>],
-) -> Result<Items<Items<Term>>, AllocError>
-    requires { length rows.now < 2 ^ 32 }
-    ensures each { IfOk result (λ column. (b : ℕ) → b < length env.now.types →
-        listed (slice_get column b) ≡ made env.now [] (at rows.now 0) (under contexts.now rows.now) (length rows.now) b) }
+/// Adds these types.
+fn push_types(all: &mut Items<u32>, types: &[u32]) -> Result<(), AllocError>
+    ensures { OnOk result (all.new ≡ all.old ++ types.now) }
 {
-    let site = Site {
-        env,
-        rows,
-        number: 0,
-        variables: &[],
-        contexts,
-    };
-    column(alloc, &site, rows.len())
+    for of in types {
+        all.push(*of)?;
+    }
+    Ok(())
 }
 
-/// The terms of the next weight under one lambda, for each type. No other lambda may stand in them.
-fn inner_column(
+/// The types of the variables of a context.
+fn variables_of(alloc: Global, context: &[Items<u32>]) -> Result<Items<u32>, AllocError>
+    ensures { IfOk result (λ types. types ≡ joined context.now) }
+{
+    let mut all = Items::new(alloc);
+    for i in 0..context.len() {
+        push_types(&mut all, context[i].as_slice())?;
+    }
+    Ok(all)
+}
+
+/// The terms of the next weight in the context of this number, for each type. Want of memory is also answered
+/// where the context has 2^32 variables.
+fn column_in(
     alloc: Global,
     env: &Env,
-    params: &Items<u32>,
+    contexts: &[Items<Items<u32>>],
     rows: &[Items<Items<Items<Term>>>],
     number: usize,
+    context: &[Items<u32>],
 ) -> Result<Items<Items<Term>>, AllocError>
-    requires params { length params.now < 2 ^ 32 }
-    requires rows { length rows.now < 2 ^ 32 }
-    ensures each { IfOk result (λ column. (b : ℕ) → b < length env.now.types →
-        listed (slice_get column b) ≡ made env.now params.now (at rows.now number) (under [] rows.now) (length rows.now) b) }
+    requires { length rows.now < 2 ^ 32 }
+    ensures { IfOk result (λ column. IsColumn env.now contexts.now rows.now column number context.now) }
 {
+    let variables = variables_of(alloc, context)?;
+    if variables.len() >= 4_294_967_296 {
+        return Err(AllocError);
+    }
     let site = Site {
         env,
         rows,
         number,
-        variables: params.as_slice(),
-        contexts: &[],
+        context,
+        variables: variables.as_slice(),
+        contexts,
     };
     column(alloc, &site, rows.len())
 }
@@ -72,17 +78,16 @@ fn inner_column(
 pub fn row(
     alloc: Global,
     env: &Env,
-    contexts: &[Items<u32>],
+    contexts: &[Items<Items<u32>>],
     rows: &[Items<Items<Items<Term>>>],
 ) -> Result<Items<Items<Items<Term>>>, AllocError>
     requires rows { length rows.now < 2 ^ 32 }
-    requires short { All (λ ps. length ps ≤ 10000) contexts.now }
     ensures { IfOk result (λ row. IsRow env.now contexts.now rows.now row (length contexts.now)) }
 {
     let mut all = Items::new(alloc);
-    all.push(outer_column(alloc, env, contexts, rows)?)?;
     for n in 0..contexts.len() {
-        all.push(inner_column(alloc, env, &contexts[n], rows, n + 1)?)?;
+        let context = contexts[n].as_slice();
+        all.push(column_in(alloc, env, contexts, rows, n, context)?)?;
     }
     Ok(all)
 }

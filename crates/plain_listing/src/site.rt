@@ -1,7 +1,7 @@
-ghost use Rattle.std.specs.Prelude.{◌≡◌, ◌<◌, bytes_eq, length, map, slice_get, IfSome};
+ghost use Rattle.std.specs.Prelude.{◌≡◌, ◌<◌, ◌++◌, ◌∷◌, [], bytes_eq, length, map, slice_get, IfSome};
 ghost use Rattle.terms.specs.View.{expr};
 ghost use Rattle.plain_listing.specs.Generate.{bound, candidates};
-ghost use Rattle.plain_listing.specs.Tables.{listed, for_type, at, number_of};
+ghost use Rattle.plain_listing.specs.Tables.{listed, for_type, at, same_rows, number_of};
 ghost use Rattle.plain_listing.specs.Reads.{here, deeper};
 
 use lists::Items;
@@ -12,15 +12,16 @@ use terms::{Arg, Env, Term};
 #[derive(Clone, Copy)]
 pub struct Site<'a> {
     pub env: &'a Env,
-    /// For each weight, for each context, for each type the terms. Context 0 has no lambda, the others
-    /// have one.
+    /// For each weight, for each context, for each type the terms. Context 0 has no lambda.
     pub rows: &'a [Items<Items<Items<Term>>>],
     /// The number of the context.
     pub number: usize,
-    /// The types of the variables.
+    /// The context: for each lambda around the terms its parameters.
+    pub context: &'a [Items<u32>],
+    /// The types of the variables: those of the context, one row after the other.
     pub variables: &'a [u32],
-    /// The lists of parameters of the lambdas that may stand in the terms: the contexts from 1 on.
-    pub contexts: &'a [Items<u32>],
+    /// All contexts.
+    pub contexts: &'a [Items<Items<u32>>],
 }
 
 /// The terms for a type, in the lists by type.
@@ -65,13 +66,33 @@ fn is_same(row: &Items<u32>, params: &[u32]) -> bool
     row.as_slice() == params
 }
 
-/// The number of a list of parameters among the contexts.
-pub fn number_of(contexts: &[Items<u32>], params: &[u32]) -> Option<usize>
-    ensures value { result ≡ number_of contexts.now params.now }
+/// Whether a context is the outer one with these parameters as one row more.
+fn extends(context: &[Items<u32>], outer: &[Items<u32>], params: &[u32]) -> bool
+    ensures { result ≡ same_rows context.now (outer.now ++ params.now ∷ []) }
+{
+    let count = outer.len();
+    if context.len() != count + 1 {
+        return false;
+    }
+    for i in 0..count {
+        if !is_same(&context[i], outer[i].as_slice()) {
+            return false;
+        }
+    }
+    is_same(&context[count], params)
+}
+
+/// The number of the outer context with these parameters as one row more.
+pub fn number_of(
+    contexts: &[Items<Items<u32>>],
+    outer: &[Items<u32>],
+    params: &[u32],
+) -> Option<usize>
+    ensures value { result ≡ number_of contexts.now (outer.now ++ params.now ∷ []) }
     ensures within { IfSome result (λ n. n < length contexts.now) }
 {
     for n in 0..contexts.len() {
-        if is_same(&contexts[n], params) {
+        if extends(contexts[n].as_slice(), outer, params) {
             return Some(n);
         }
     }
@@ -86,8 +107,11 @@ impl Site<'_> {
         if weight < params.len() {
             return &[];
         }
-        match number_of(self.contexts, params) {
-            Some(n) => terms_at(self.rows, n + 1, weight - params.len(), body),
+        if self.context.len() >= self.env.parts().depth as usize {
+            return &[];
+        }
+        match number_of(self.contexts, self.context, params) {
+            Some(n) => terms_at(self.rows, n, weight - params.len(), body),
             None => &[],
         }
     }

@@ -16,24 +16,24 @@ use terms::{Env, Term};
 #[derive(Drop)]
 pub struct Tables {
     env: Env,
-    /// The lists of parameters of which a lambda may be made.
-    contexts: Items<Items<u32>>,
+    /// The contexts in which terms are made; the first has no lambda.
+    contexts: Items<Items<Items<u32>>>,
     /// For each weight, for each context, for each type the terms.
     rows: Vec<Items<Items<Items<Term>>>>,
 }
 
 impl Model for Tables {
-    ghost use Rattle.std.specs.Prelude.{◌≡◌, length};
+    ghost use Rattle.std.specs.Prelude.{length};
     ghost use Rattle.terms.specs.Faults.{IsValid};
     ghost use Rattle.terms.specs.Listing.{Progress};
-    ghost use Rattle.plain_listing.specs.Contexts.{contexts_of};
+    ghost use Rattle.plain_listing.specs.Contexts.{AreContexts};
     ghost use Rattle.plain_listing.specs.Tables.{AreRight};
 
     ghost Value = { Progress };
 
     ghost view = { λ t. record { parts = t.env; from = length t.rows.items } };
 
-    ghost invariant = { λ t. IsValid t.env × (t.contexts ≡ contexts_of t.env) × AreRight t.env t.contexts t.rows.items (length t.rows.items) };
+    ghost invariant = { λ t. IsValid t.env × AreContexts t.env t.contexts × AreRight t.env t.contexts t.rows.items (length t.rows.items) };
 }
 
 /// Copies of the terms.

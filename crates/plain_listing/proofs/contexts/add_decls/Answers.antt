@@ -1,7 +1,15 @@
-use Rattle.std.proofs.Common.{◌+◌, ◌∙◌, List, ℕ, drop, sym, ap, arith}
-use Rattle.plain_listing.specs.Contexts.{with_decls}
-use Rattle.plain_listing.proofs.Adding.{decls-step}
+use Rattle.std.proofs.Common.{◌≡◌, List, refl, subst, length, arith}
+use Rattle.std.proofs.lemmas.Option.{slice_get_read}
+use Rattle.terms.specs.declared.parts.Arg.{Arg}
+use Rattle.plain_listing.specs.Contexts.{AreMet}
+use Rattle.plain_listing.proofs.Finding.{keeps-both, all_met-next}
 use Rattle.plain_listing.proofs.contexts.add_decls.Goals as goal
 
-pub loop-i-preserved : goal.loop-i-preserved
-loop-i-preserved c = c.loop-i.invariant ∙ decls-step _ _ _ c.loop-i.i c.index-decls-i.result (omega arith) c.index-decls-i.is ∙ ap (λ (x : List (List ℕ)). with_decls c.args.limit x (drop (c.loop-i.i + 1) c.args.decls.now)) (sym c.in_ok-add_decl.ensures)
+pub loop-n-preserved : goal.loop-n-preserved
+loop-n-preserved c =
+    let M : List Arg → Type 0 = λ args. AreMet c.args.limit c.add_args.new.contexts c.args.outer.now args (length args) in
+    record {
+      keeps = keeps-both _ _ _ c.loop-n.invariant.keeps c.in_ok-add_args.ensures.keeps;
+      shallow = λ depth low before. c.in_ok-add_args.ensures.shallow depth low (c.loop-n.invariant.shallow depth low before);
+      met = all_met-next _ _ _ _ _ c.loop-n.n c.index-decls-n.result (slice_get_read _ _ c.loop-n.n c.index-decls-n.result refl (omega arith) c.index-decls-n.is) c.in_ok-add_args.ensures.keeps c.loop-n.invariant.met (subst M c.as_slice.ensures c.in_ok-add_args.ensures.met);
+    }

@@ -1,6 +1,10 @@
-use Rattle.std.proofs.Common.{◌≡◌, drop}
-use Rattle.plain_listing.specs.Contexts.{with_decls}
+use Rattle.std.proofs.Common.{ℕ, ◌<◌, length}
+use Rattle.plain_listing.specs.Contexts.{Keeps, AreAllMet, AreShallow}
 use Rattle.plain_listing.proofs.contexts.add_decls.Given as goal
 
-abbrev pub invariant-loop-i : goal.invariant-loop-i
-invariant-loop-i l = with_decls l.limit l.initial.contexts l.decls ≡ with_decls l.limit l.contexts (drop l.i l.decls)
+abbrev pub invariant-loop-n : goal.invariant-loop-n
+invariant-loop-n l = record {
+  keeps : Keeps l.initial.contexts l.contexts;
+  shallow : (depth : ℕ) → length l.outer < depth → AreShallow depth l.initial.contexts → AreShallow depth l.contexts;
+  met : AreAllMet l.limit l.contexts l.outer l.decls l.n;
+}
