@@ -67,7 +67,7 @@ new_needs first old new numbers pushed n more before one j low high = ap (has j)
   | inr past ↦ (let P : ℕ → Type 0 = λ k. has j (numbers ++ k ∷ []) ≡ true in subst P (one j past high) (has-last numbers j))
 ]
 
-get_push : {X : Type 0} (xs : List X) (x y : X) (n : ℕ) → slice_get (xs ++ x ∷ []) n ≡ Some y → (slice_get xs n ≡ Some y) ⊎ ((n ≡ length xs) × (x ≡ y))
+pub get_push : {X : Type 0} (xs : List X) (x y : X) (n : ℕ) → slice_get (xs ++ x ∷ []) n ≡ Some y → (slice_get xs n ≡ Some y) ⊎ ((n ≡ length xs) × (x ≡ y))
 get_push [] x y zero h = (let e : x ≡ y = cc in inr (refl, e))
 get_push [] x y (suc n) h = cc
 get_push (z ∷ xs) x y zero h = inl h

@@ -62,19 +62,35 @@ pub record IsNumbered (all : List Source) (needs : List Need) (kinds : List Succ
 abbrev pub Adds : List Source → List Need → List Succinct → List ℕ → List Need → List Succinct → List ℕ → Type 0
 Adds more needs kinds numbers needs' kinds' numbers' = (all : List Source) → IsNumbered all needs kinds numbers → IsNumbered (all ++ more) needs' kinds' numbers'
 
--- what contracts see of a compressed environment: needs, kinds, the kind's number of each source, and the
--- sources of each kind
+-- the numbers are those of what the arguments want, in the order of the arguments
+abbrev pub AreNeedsOf : List Need → List Arg → List ℕ → Type 0
+AreNeedsOf needs args numbers = map (λ i. slice_get needs i) numbers ≡ map (λ a. Some (need_of a)) args
+
+-- the needs of each source, by their numbers
+pub record AreWants (all : List Source) (needs : List Need) (wanted : List (List ℕ)) : Type 0 where
+  pub as_many : length wanted ≡ length all
+  pub each : (n : ℕ) (source : Source) (numbers : List ℕ) → slice_get all n ≡ Some source → slice_get wanted n ≡ Some numbers → AreNeedsOf needs source.args numbers
+
+-- the needs of some sources more
+abbrev pub AddsWants : List Source → List Need → List (List ℕ) → List Need → List (List ℕ) → Type 0
+AddsWants more needs wanted needs' wanted' = (all : List Source) → AreWants all needs wanted → AreWants (all ++ more) needs' wanted'
+
+-- what contracts see of a compressed environment: needs, kinds, the kind's number of each source, the sources
+-- of each kind, and the needs of each source
 pub record Compression : Type 0 where
   pub needs : List Need
   pub kinds : List Succinct
   pub kind_numbers : List ℕ
   pub selected : List (List ℕ)
+  pub wanted : List (List ℕ)
 
 -- the compressed form of an environment: needs and kinds each once, and each source stands in the list of
--- its kind alone, since that list holds just the places of the kind's number, rising
+-- its kind alone, since that list holds just the places of the kind's number, rising; and the needs of each
+-- source are told in the order of its arguments
 pub record IsCompression (g : Parts) (c : Compression) : Type 0 where
   pub distinct_needs : AreDistinct c.needs
   pub distinct_kinds : AreDistinct c.kinds
   pub of_sources : IsNumbered (sources g) c.needs c.kinds c.kind_numbers
   pub listed : length c.selected ≡ length c.kinds
   pub list_of_each : (k : ℕ) → k < length c.kinds → slice_get c.selected k ≡ Some (places_of k c.kind_numbers)
+  pub wanted_of_each : AreWants (sources g) c.needs c.wanted

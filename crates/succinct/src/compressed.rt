@@ -6,6 +6,7 @@ ghost use Rattle.succinct.specs.Compression.{Compression, IsCompression};
 use crate::by_kind::sources_by_kind;
 use crate::kind::Succinct;
 use crate::need::Need;
+use crate::rows::Rows;
 use crate::tables::{Tables, tables_of};
 use indexmap::IndexSet;
 use lists::Items;
@@ -20,6 +21,7 @@ pub struct Compressed {
     kinds: IndexSet<Succinct>,
     kind_numbers: Items<u32>,
     selected: Vec<Vec<u32>>,
+    wanted: Rows,
 }
 
 impl Model for Compressed {
@@ -28,7 +30,7 @@ impl Model for Compressed {
 
     ghost Value = { Compression };
 
-    ghost view = { λ c. record { needs = c.needs.keys; kinds = c.kinds.keys; kind_numbers = c.kind_numbers; selected = map (λ l. l.items) c.selected.items } };
+    ghost view = { λ c. record { needs = c.needs.keys; kinds = c.kinds.keys; kind_numbers = c.kind_numbers; selected = map (λ l. l.items) c.selected.items; wanted = c.wanted } };
 }
 
 impl Compressed {
@@ -43,6 +45,7 @@ impl Compressed {
             needs,
             kinds,
             kind_numbers,
+            wanted,
         } = tables_of(alloc, env.parts())?;
         if needs.len() > 4294967295 {
             return Err(AllocError);
@@ -57,6 +60,7 @@ impl Compressed {
             kinds,
             kind_numbers,
             selected,
+            wanted,
         })
     }
 
@@ -83,5 +87,13 @@ impl Compressed {
             Some(list) => list.as_slice(),
             None => &[],
         }
+    }
+
+    /// The needs of a declaration or a pair by their numbers, in the order of its arguments; the pairs are
+    /// numbered after the declarations. There are none where there is no such source.
+    pub fn wanted(&self, source: u32) -> &[u32]
+        ensures value { result.now ≡ slice_index_or self.now.wanted source [] }
+    {
+        self.wanted.row(source)
     }
 }

@@ -10,6 +10,7 @@ mod compressing;
 mod kind;
 mod need;
 mod numbering;
+mod rows;
 mod sets;
 mod tables;
 
@@ -18,6 +19,7 @@ pub use compressed::Compressed;
 pub use kind::Succinct;
 pub use need::Need;
 pub use numbering::number_of;
+pub use rows::Rows;
 
 #[cfg(test)]
 mod tests;
