@@ -20,6 +20,7 @@ pub use kind::Succinct;
 pub use need::Need;
 pub use numbering::number_of;
 pub use rows::Rows;
+pub use sets::{make_set, set_of};
 
 #[cfg(test)]
 mod tests;

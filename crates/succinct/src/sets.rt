@@ -11,7 +11,14 @@ pub fn set_of(numbers: Vec<u32>) -> Items<u32>
     ensures value { result ≡ set_of numbers.items }
 {
     let mut sorted = numbers;
-    sorted.sort_unstable();
-    sorted.dedup();
+    make_set(&mut sorted);
     Items::from_vec(sorted)
+}
+
+/// Makes the numbers a strictly rising list, each once, in their own memory.
+pub fn make_set(numbers: &mut Vec<u32>)
+    ensures set { numbers.new.items ≡ set_of numbers.old.items }
+{
+    numbers.sort_unstable();
+    numbers.dedup();
 }

@@ -1,4 +1,4 @@
-use crate::Compressed;
+use crate::{Compressed, Rows};
 use lists::{Items, Text};
 use std::alloc::{AllocError, Global};
 use terms::{Arg, Decl, Env, EnvFault, Form, Parts};
@@ -99,5 +99,31 @@ fn equal_wants_are_one_need(rt: HostRuntime) -> Result<(), EnvFault> {
     assert_eq!(rt; found.kinds().len(), 2);
     assert!(rt; is_kind(&found, 0, 0, 0) && is_kind(&found, 1, 1, 0));
     assert_eq!(rt; selected(&found, 1), &[1u32, 2][..]);
+    Ok(())
+}
+
+// long, int and long again are wanted; long is need 0 and int is need 1. The pair wants its lower type.
+#[test]
+fn needs_are_told_in_the_order_of_the_arguments(rt: HostRuntime) -> Result<(), EnvFault> {
+    let parts = parts(rt.alloc(), &[&[1, 0, 1], &[]], &[(0, 1)], 0, 75)?;
+    let found = compressed(rt.alloc(), parts)?;
+    assert_eq!(rt; found.wanted(0), &[0u32, 1, 0][..]);
+    assert_eq!(rt; found.wanted(1), &[][..]);
+    assert_eq!(rt; found.wanted(2), &[1u32][..]);
+    assert_eq!(rt; found.wanted(3), &[][..]);
+    Ok(())
+}
+
+#[test]
+fn rows_lie_one_after_the_other(rt: HostRuntime) -> Result<(), std::alloc::AllocError> {
+    let mut rows = Rows::new(rt.alloc());
+    rows.push(&[7, 5])?;
+    rows.push(&[])?;
+    rows.push(&[7])?;
+    assert_eq!(rt; rows.len(), 3);
+    assert_eq!(rt; rows.row(0), &[7u32, 5][..]);
+    assert_eq!(rt; rows.row(1), &[][..]);
+    assert_eq!(rt; rows.row(2), &[7u32][..]);
+    assert_eq!(rt; rows.row(3), &[][..]);
     Ok(())
 }
