@@ -1,0 +1,11 @@
+pub mod Binders
+pub mod Options
+pub mod Costs
+pub mod Tables
+pub mod Places
+pub mod Wanted
+pub mod Lists
+pub mod Offered
+pub mod Orders
+pub mod Sound
+pub mod Runs
