@@ -9,3 +9,4 @@ pub mod Offered
 pub mod Orders
 pub mod Sound
 pub mod Runs
+pub mod Standing

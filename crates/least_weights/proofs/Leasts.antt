@@ -11,10 +11,9 @@ use Rattle.terms.specs.declared.parts.Parts.{Parts}
 use Rattle.succinct.specs.Compression.{Compression, IsCompression}
 use Rattle.patterns.specs.Patterned.{Patterned, ArePatterns}
 use Rattle.patterns.specs.States.{left_at}
-use Rattle.least_weights.specs.Edges.{AreAllEdges}
+use Rattle.edges.specs.Edges.{Edge, AreEdges}
 use Rattle.least_weights.specs.LeastWeight.{IsLeastWeight, AreLeastWeights, within, place_at}
 use Rattle.least_weights.specs.Numbers.{number_at, IsSolution}
-use Rattle.least_weights.specs.declared.edge.Edge.{Edge}
 use Rattle.least_weights.proofs.Lows.{low, fits-from, weigh-is}
 use Rattle.least_weights.proofs.Reached.{Reached, reached}
 use Rattle.least_weights.proofs.Sought.{IsAt}
@@ -41,7 +40,7 @@ least-from g limit n p below met = go (nat_le n limit) refl
         above e f (inr less) = (let low = below e f less in absurd (false≢true (sym is ∙ le-leb n limit (omega (arith, low, less)))))
 
 -- the numbers as weights
-pub are-least : (g : Parts) (c : Compression) (d : Patterned) (edges : List Edge) (numbers : List ℕ) (limit count : ℕ) {goal : ℕ} → IsValid g → IsCompression g c → ArePatterns c goal g.depth d → g.depth ≤ 1 → limit ≡ g.limit → count ≡ length d.states → AreAllEdges g c d edges → length numbers ≡ count → IsSolution limit edges numbers → AreLeastWeights g d (map (within limit) numbers)
+pub are-least : (g : Parts) (c : Compression) (d : Patterned) (edges : List Edge) (numbers : List ℕ) (limit count : ℕ) {goal : ℕ} → IsValid g → IsCompression g c → ArePatterns c goal g.depth d → g.depth ≤ 1 → limit ≡ g.limit → count ≡ length d.states → AreEdges g c d edges → length numbers ≡ count → IsSolution limit edges numbers → AreLeastWeights g d (map (within limit) numbers)
 are-least g c d edges numbers limit count valid comp made flat same many all long solved = record {
   as_many = length-map numbers (within limit) ∙ long ∙ many;
   each = λ i s is ctx types rows. (

@@ -6,6 +6,4 @@ pub mod Reached
 pub mod Leasts
 pub mod Steps
 pub mod Members
-pub mod Adding
-pub mod Needs
 pub mod Equations

@@ -21,11 +21,12 @@ use Rattle.patterns.specs.Patterned.{Patterned, ArePatterns}
 use Rattle.patterns.specs.States.{types_at, left_at}
 use Rattle.patterns.proofs.Contexts.{has_context}
 use Rattle.patterns.proofs.Derives.{term-derives, args-derive}
-use Rattle.least_weights.specs.Edges.{IsTail, AreTails, HasEdge, HasBound, AreAllEdges, decl_cost}
+use Rattle.edges.specs.Edges.{Edge, IsTail, AreTails, AreEdges, decl_cost}
+use Rattle.edges.proofs.Options.{some_eq, none_some}
+use Rattle.edges.proofs.Standing.{Standing, StandingBound, standing-bound}
 use Rattle.least_weights.specs.Numbers.{number_at, IsSolution}
-use Rattle.least_weights.specs.declared.edge.Edge.{Edge}
 use Rattle.least_weights.proofs.Found.{has-decl, has-pair}
-use Rattle.least_weights.proofs.Sought.{IsAt, IsUnder, plain-at, fun-at, some_eq, none_some}
+use Rattle.least_weights.proofs.Sought.{IsAt, IsUnder, plain-at, fun-at}
 
 -- the first tail and the rest
 pub record SplitTails (c : Compression) (d : Patterned) (i : ℕ) (a : Arg) (args : List Arg) (tails : List ℕ) : Type 0 where
@@ -126,13 +127,13 @@ args-least g ctx (lam e xs) (Fun ps r ∷ args) h =
 suc_eq : (m n : ℕ) → suc m ≡ suc n → m ≡ n
 suc_eq m n h = omega (arith, h)
 
-module _ (g : Parts) (c : Compression) (d : Patterned) (edges : List Edge) (valid : IsValid g) (comp : IsCompression g c) {goal : ℕ} (made : ArePatterns c goal g.depth d) (flat_depth : g.depth ≤ 1) (all : AreAllEdges g c d edges) (numbers : List ℕ) (solved : IsSolution g.limit edges numbers) where
+module _ (g : Parts) (c : Compression) (d : Patterned) (edges : List Edge) (valid : IsValid g) (comp : IsCompression g c) {goal : ℕ} (made : ArePatterns c goal g.depth d) (flat_depth : g.depth ≤ 1) (all : AreEdges g c d edges) (numbers : List ℕ) (solved : IsSolution g.limit edges numbers) where
   -- what an edge in the list gives
-  edge-low : (i weight : ℕ) (args : List Arg) (e : HasEdge c d i weight args edges) (sum : ℕ) → total (number_at g.limit numbers) e.edge.tails ≤ sum → weight + sum ≤ g.limit → number_at g.limit numbers i ≤ weight + sum
+  edge-low : (i weight : ℕ) (args : List Arg) (e : Standing c d i weight args edges) (sum : ℕ) → total (number_at g.limit numbers) e.edge.tails ≤ sum → weight + sum ≤ g.limit → number_at g.limit numbers i ≤ weight + sum
   edge-low i weight args e sum tails within =
       let w = e.weight in
       let closed = solved.closed e.number e.edge e.is (omega (arith, w, tails, within)) in
-      let at : number_at g.limit numbers e.edge.head ≡ number_at g.limit numbers i = ap (number_at g.limit numbers) e.head in
+      let at : number_at g.limit numbers e.edge.state ≡ number_at g.limit numbers i = ap (number_at g.limit numbers) e.at_state in
       omega (arith, w, tails, within, closed, at)
 
   -- the number of a state is at most what a term of just its goal's type weighs
@@ -162,7 +163,7 @@ module _ (g : Parts) (c : Compression) (d : Patterned) (edges : List Edge) (vali
         let pair_to : is_pair g.pairs f.type at.state.goal ≡ true = ap (λ t. is_pair g.pairs f.type t) (sym at.goal) ∙ pair in
         let itself = fits-from g ctx left f.type e (record { type = f.type; typed = f.typed; below = below-itself g f.type; flat = f.flat }) in
         let derives = derives-at i ctx left b at f.type (term-derives g ctx left f.type e itself) in
-        let edge : HasEdge c d i 10 (Plain f.type ∷ []) edges = has-pair g c d edges valid comp made flat_depth all i f.type at.state at.is pair_to derives (omega (arith, within, ten)) in
+        let edge : Standing c d i 10 (Plain f.type ∷ []) edges = has-pair g c d edges valid comp made flat_depth all i f.type at.state at.is pair_to derives (omega (arith, within, ten)) in
         let s : SplitTails c d i (Plain f.type) [] edge.edge.tails = split-tails c d i (Plain f.type) [] edge.edge.tails edge.tails in
         let inner = plain-at c d g.depth made.wanted made.depth_is i s.first ctx left b f.type at s.tail in
         let low = exact s.first ctx left f.type inner f.typed f.flat (omega (arith, within)) in
@@ -178,18 +179,18 @@ module _ (g : Parts) (c : Compression) (d : Patterned) (edges : List Edge) (vali
     low-exact : (e : Expr) → IsLowExact e
     low-exact (var n) i ctx left b at typed flat within =
         let bound : has at.state.goal (types_at d.space at.state.set) ≡ true = ap (λ t. has t (types_at d.space at.state.set)) (sym at.goal) ∙ ap (has b) (sym at.types) ∙ has_context ctx n b typed in
-        let e : HasBound i edges = (all.complete i (slice_get_within d.states i at.state at.is)).bound at.state at.is bound in
+        let e : StandingBound i edges = standing-bound g c d edges all i (all.bound i at.state at.is bound) in
         let w = e.weight in
         let none : total (number_at g.limit numbers) e.edge.tails ≡ 0 = ap (total (number_at g.limit numbers)) e.tails in
         let closed = solved.closed e.number e.edge e.is (omega (arith, w, none, within)) in
-        let here : number_at g.limit numbers e.edge.head ≡ number_at g.limit numbers i = ap (number_at g.limit numbers) e.head in
+        let here : number_at g.limit numbers e.edge.state ≡ number_at g.limit numbers i = ap (number_at g.limit numbers) e.at_state in
         omega (arith, w, none, closed, here)
     low-exact (head n xs) i ctx left b at typed flat within =
         let h : HeadExact g ctx xs (slice_get g.decls n) b = head-exact g ctx xs (slice_get g.decls n) b typed in
         let weighs : decl_weight (slice_get g.decls n) + args_weight g ctx xs (args_wanted (slice_get g.decls n)) ≡ h.decl.weight + args_weight g ctx xs h.decl.args = ap (λ o. decl_weight o + args_weight g ctx xs (args_wanted o)) h.is in
         let wants = all-derive-at i ctx left b at h.decl.args (args-derive g ctx left xs h.decl.args h.fit flat) in
         let least_args = args-least g ctx xs h.decl.args h.fit in
-        let edge : HasEdge c d i (decl_cost h.decl) h.decl.args edges = has-decl g c d edges valid comp made flat_depth all i n at.state h.decl at.is h.is (h.result ∙ at.goal) wants (omega (arith, within, weighs, least_args)) in
+        let edge : Standing c d i (decl_cost h.decl) h.decl.args edges = has-decl g c d edges valid comp made flat_depth all i n at.state h.decl at.is h.is (h.result ∙ at.goal) wants (omega (arith, within, weighs, least_args)) in
         let low = args-low i ctx left b at xs h.decl.args edge.edge.tails edge.tails h.fit flat (omega (arith, within, weighs)) in
         let r = edge-low i (decl_cost h.decl) h.decl.args edge (total (number_at g.limit numbers) edge.edge.tails) (omega arith) (omega (arith, low, within, weighs)) in
         omega (arith, r, low, weighs)

@@ -3,9 +3,6 @@ use Rattle.std.proofs.Common.{◌≡◌, ◌≢◌, inl, inr, ℕ, zero, suc, �
 use Rattle.std.proofs.lemmas.Bool.{false≢true, or_cases, or_left, or_right, eqb-true, eq-eqb}
 use Rattle.std.proofs.lemmas.List.{take_more, take_all}
 use Rattle.terms.specs.Count.{total}
-use Rattle.terms.specs.Reading.{binders}
-use Rattle.terms.specs.declared.parts.Arg.{Arg}
-use Rattle.terms.specs.declared.parts.Arg.TheVariants.{Plain, Fun}
 use Rattle.terms.proofs.Sums.{total-append}
 use Rattle.succinct.specs.Sets.{has}
 use Rattle.succinct.proofs.Needs.{has-push, has-last, has-kept}
@@ -23,12 +20,6 @@ each-more P xs i x d low at before here m h =
 pub each-all : (P : ℕ → Type 0) (xs : List ℕ) (i : ℕ) → length xs ≤ i → ((m : ℕ) → has m (take i xs) ≡ true → P m) → (m : ℕ) → has m xs ≡ true → P m
 each-all P xs i past before m h = before m (ap (has m) (take_all i xs past) ∙ h)
 
--- a member of a list by its place
-pub has-at : (xs : List ℕ) (i d : ℕ) → i < length xs → has (get_or xs i d) xs ≡ true
-has-at [] i d h = absurd (omega (arith, h))
-has-at (x ∷ xs) zero d h = or_left (x == x) (has x xs) (eq-eqb x x refl)
-has-at (x ∷ xs) (suc i) d h = or_right (get_or xs i d == x) (has (get_or xs i d) xs) (has-at xs i d (omega (arith, h)))
-
 -- sums of fronts
 pub total-more : (f : ℕ → ℕ) (xs : List ℕ) (i x d : ℕ) → i < length xs → x ≡ get_or xs i d → total f (take (i + 1) xs) ≡ total f (take i xs) + f x
 total-more f xs i x d low at =
@@ -40,37 +31,6 @@ total-front f [] zero = omega arith
 total-front f [] (suc i) = omega arith
 total-front f (x ∷ xs) zero = omega arith
 total-front f (x ∷ xs) (suc i) = (let r = total-front f xs i in omega (arith, r))
-
--- the binders of fronts
-
-binders-append : (xs ys : List Arg) → binders (xs ++ ys) ≡ binders xs + binders ys
-unfolding binders
-binders-append [] ys = omega arith
-binders-append (Plain b ∷ xs) ys = binders-append xs ys
-binders-append (Fun ps r ∷ xs) ys = (let h = binders-append xs ys in omega (arith, h))
-
-pub binders-more : (xs : List Arg) (i : ℕ) (x d : Arg) → i < length xs → x ≡ get_or xs i d → binders (take (i + 1) xs) ≡ binders (take i xs) + binders (x ∷ [])
-binders-more xs i x d low at = ap binders (take_more xs i d low ∙ ap (λ y. take i xs ++ y ∷ []) (sym at)) ∙ binders-append (take i xs) (x ∷ [])
-
-pub binders-front : (xs : List Arg) (i : ℕ) → binders (take i xs) ≤ binders xs
-unfolding binders
-binders-front [] zero = omega arith
-binders-front [] (suc i) = omega arith
-binders-front (x ∷ xs) zero = omega arith
-binders-front (Plain b ∷ xs) (suc i) = binders-front xs i
-binders-front (Fun ps r ∷ xs) (suc i) = (let h = binders-front xs i in omega (arith, h))
-
-pub binders-plain : (b : ℕ) → binders (Plain b ∷ []) ≡ 0
-unfolding binders
-binders-plain b = refl
-
-pub binders-fun : (ps : List ℕ) (r : ℕ) → binders (Fun ps r ∷ []) ≡ length ps
-unfolding binders
-binders-fun ps r = omega arith
-
-pub binders-none : binders [] ≡ 0
-unfolding binders
-binders-none = refl
 
 -- a list of lists in which one got a member more
 pub user-kept : (lists lists' : List (List ℕ)) (k x : ℕ) → k < length lists → lists' ≡ set lists k (get_or lists k [] ++ x ∷ []) → (t m : ℕ) → has m (get_or lists t []) ≡ true → has m (get_or lists' t []) ≡ true

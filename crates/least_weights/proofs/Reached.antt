@@ -21,12 +21,13 @@ use Rattle.patterns.specs.Patterned.{Patterned, ArePatterns}
 use Rattle.patterns.specs.States.{types_at}
 use Rattle.patterns.specs.declared.state.State.{State}
 use Rattle.patterns.proofs.Contexts.{at_context}
-use Rattle.least_weights.specs.Edges.{AreTails, IsSourceEdge, AreAllEdges, decl_cost, pair_cost}
+use Rattle.edges.specs.Edges.{Edge, AreTails, IsSourceEdge, AreEdges, decl_cost, pair_cost}
+use Rattle.edges.proofs.Offered.{listed-gives}
+use Rattle.edges.proofs.Options.{some_eq}
 use Rattle.least_weights.specs.Numbers.{number_at, cost, IsSupport, IsSolution}
-use Rattle.least_weights.specs.declared.edge.Edge.{Edge}
-use Rattle.least_weights.proofs.Joins.{split, from-places, pair-get}
+use Rattle.least_weights.proofs.Joins.{split, pair-get}
 use Rattle.least_weights.proofs.Lows.{SplitTails, split-tails, no-tails, Fitting, step-same}
-use Rattle.least_weights.proofs.Sought.{IsAt, IsUnder, plain-at, fun-at, some_eq}
+use Rattle.least_weights.proofs.Sought.{IsAt, IsUnder, plain-at, fun-at}
 
 -- a term that fits and weighs at most so much
 pub record Reached (g : Parts) (ctx : List (List ℕ)) (left b w : ℕ) : Type 0 where
@@ -75,7 +76,7 @@ of-head g ctx left b n w decl is result r =
       light = omega (arith, nothing, weighs, light);
     }
 
-module _ (g : Parts) (c : Compression) (d : Patterned) (edges : List Edge) (valid : IsValid g) (comp : IsCompression g c) {goal : ℕ} (made : ArePatterns c goal g.depth d) (flat_depth : g.depth ≤ 1) (all : AreAllEdges g c d edges) (numbers : List ℕ) (solved : IsSolution g.limit edges numbers) where
+module _ (g : Parts) (c : Compression) (d : Patterned) (edges : List Edge) (valid : IsValid g) (comp : IsCompression g c) {goal : ℕ} (made : ArePatterns c goal g.depth d) (flat_depth : g.depth ≤ 1) (all : AreEdges g c d edges) (numbers : List ℕ) (solved : IsSolution g.limit edges numbers) where
   -- numbers below n are reached
   abbrev AreReached : ℕ → Type 0
   AreReached n = (i : ℕ) (ctx : List (List ℕ)) (left b : ℕ) → IsAt d g.depth i ctx left b → number_at g.limit numbers i ≤ g.limit → number_at g.limit numbers i < n → Reached g ctx left b (number_at g.limit numbers i)
@@ -120,24 +121,14 @@ module _ (g : Parts) (c : Compression) (d : Patterned) (edges : List Edge) (vali
   more ctx left b v w le r = (let light = r.light in record { term = r.term; fit = r.fit; light = omega (arith, light, le) })
 
   -- a source's result is the goal of the state at whose edge it is
-  gives-at : (e : Edge) (s : IsSourceEdge g c d e) (i : ℕ) (ctx : List (List ℕ)) (left b : ℕ) → e.head ≡ i → IsAt d g.depth i ctx left b → s.source.result ≡ b
+  gives-at : (e : Edge) (s : IsSourceEdge g c d e) (i : ℕ) (ctx : List (List ℕ)) (left b : ℕ) → e.state ≡ i → IsAt d g.depth i ctx left b → s.source.result ≡ b
   gives-at e s i ctx left b here at =
-      let at_head : slice_get d.states e.head ≡ Some at.state = ap (slice_get d.states) here ∙ at.is in
-      let long = made.found.as_many in
-      let low = slice_get_within d.states e.head at.state at_head in
-      let list : slice_get d.lists e.head ≡ Some (get_or d.lists e.head []) = slice_get-get_or d.lists e.head [] (omega (arith, low, long)) in
-      let kind = (made.found.each e.head at.state (get_or d.lists e.head []) at_head list).only s.kind s.listed in
-      let in_range = slice_get_within c.kinds s.kind kind.0 kind.1 in
-      let selected : get_or c.selected s.kind [] ≡ places_of s.kind c.kind_numbers = get_or_from_slice_get c.selected s.kind (places_of s.kind c.kind_numbers) [] (comp.list_of_each s.kind in_range) in
-      let place = from-places s.kind c.kind_numbers 0 s.number (ap (has s.number) (sym selected) ∙ s.selected) in
-      let same : s.number ≡ place.0 = (let e = place.1 in omega (arith, e)) in
-      let number : slice_get c.kind_numbers s.number ≡ Some s.kind = ap (slice_get c.kind_numbers) same ∙ place.2 in
-      let r = comp.of_sources.kind_of_each s.number s.kind s.source s.is number in
-      let one : r.0 ≡ kind.0 = some_eq r.0 kind.0 (sym r.1 ∙ kind.1) in
-      sym r.2.gives ∙ ap (λ (k : Succinct). k.result) one ∙ kind.2 ∙ sym at.goal
+      let at_state : slice_get d.states e.state ≡ Some at.state = ap (slice_get d.states) here ∙ at.is in
+      let r = comp.of_sources.kind_of_each s.number s.offered.kind s.source s.is s.offered.is in
+      sym r.2.gives ∙ listed-gives g c comp d made e.state s.offered.kind at.state r.0 at_state r.1 s.offered.listed ∙ sym at.goal
 
   -- the term of an edge
-  edge-reached : (n : ℕ) → AreReached n → (i : ℕ) (ctx : List (List ℕ)) (left b : ℕ) → IsAt d g.depth i ctx left b → (e : Edge) → e.head ≡ i → cost g.limit numbers e ≤ g.limit → cost g.limit numbers e < suc n → IsSourceEdge g c d e → Reached g ctx left b (cost g.limit numbers e)
+  edge-reached : (n : ℕ) → AreReached n → (i : ℕ) (ctx : List (List ℕ)) (left b : ℕ) → IsAt d g.depth i ctx left b → (e : Edge) → e.state ≡ i → cost g.limit numbers e ≤ g.limit → cost g.limit numbers e < suc n → IsSourceEdge g c d e → Reached g ctx left b (cost g.limit numbers e)
   edge-reached n again i ctx left b at e here within few s =
       let tails : AreTails c d i s.source.args e.tails = subst (λ x. AreTails c d x s.source.args e.tails) here s.tails in
       let gives : s.source.result ≡ b = gives-at e s i ctx left b here at in
@@ -172,14 +163,14 @@ module _ (g : Parts) (c : Compression) (d : Patterned) (edges : List Edge) (vali
   reached-at n again i ctx left b at within few =
       let s : IsSupport g.limit edges numbers i = solved.supported i within in
       let reaches = s.reaches in
-      elim (all.sound.each s.number s.edge s.is) [
+      elim (all.sound s.number s.edge s.is) [
         | inl v ↦ (
-            let same : v.state ≡ at.state = some_eq v.state at.state (sym v.is ∙ ap (slice_get d.states) s.head ∙ at.is) in
+            let same : v.state ≡ at.state = some_eq v.state at.state (sym v.is ∙ ap (slice_get d.states) s.at_state ∙ at.is) in
             let bound : has b (types_bound ctx) ≡ true = ap (has b) at.types ∙ ap (λ x. has x (types_at d.space at.state.set)) at.goal ∙ subst (λ (x : State). has x.goal (types_at d.space x.set) ≡ true) same v.bound in
             let k = at_context ctx b bound in
             let w = v.weight in
             more ctx left b 1 (number_at g.limit numbers i) (omega (arith, w, reaches)) (of-variable g ctx left b k.0 k.1))
-        | inr e ↦ more ctx left b (cost g.limit numbers s.edge) (number_at g.limit numbers i) reaches (edge-reached n again i ctx left b at s.edge s.head (omega (arith, reaches, within)) (omega (arith, reaches, few)) e)
+        | inr e ↦ more ctx left b (cost g.limit numbers s.edge) (number_at g.limit numbers i) reaches (edge-reached n again i ctx left b at s.edge s.at_state (omega (arith, reaches, within)) (omega (arith, reaches, few)) e)
       ]
 
   all-reached : (n : ℕ) → AreReached n

@@ -11,17 +11,8 @@ use Rattle.patterns.specs.Patterned.{Patterned, state_sought, sought_from}
 use Rattle.patterns.specs.States.{Space, types_at, left_at, set_sought, place_in, place_sought, AreWanted, IsWantedAs}
 use Rattle.patterns.proofs.Contexts.{set_of-more}
 use Rattle.patterns.proofs.Mets.{place_of-get}
-use Rattle.least_weights.specs.Edges.{IsTail}
-
-pub some_eq : {X : Type 0} (x y : X) → Some x ≡ Some y → x ≡ y
-some_eq x y h = cc
-
-abbrev is_there : {X : Type 0} → Option X → Bool
-is_there None = false
-is_there (Some x) = true
-
-pub none_some : {X : Type 0} (x : X) → None ≡ Some x → ⊥
-none_some x h = false≢true (ap is_there h)
+use Rattle.edges.specs.Edges.{IsTail}
+use Rattle.edges.proofs.Options.{some_eq, none_some}
 
 -- a place stands at a state: the state's types are bound, so many lambdas are left, and its goal is wanted
 pub record IsAt (d : Patterned) (depth i : ℕ) (ctx : List (List ℕ)) (left wanted : ℕ) : Type 0 where

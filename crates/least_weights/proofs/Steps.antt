@@ -8,8 +8,8 @@ use Rattle.std.proofs.lemmas.List.Sorted.{Contains-permutation, length_permutati
 use Rattle.terms.specs.Count.{total}
 use Rattle.succinct.specs.Sets.{has}
 use Rattle.least_weights.specs.Numbers.{number_at, cost, IsClosed, IsSupport, AreSupported, IsPending, IsSettled, IsStep, worth}
-use Rattle.least_weights.specs.declared.edge.Edge.{Edge}
-use Rattle.least_weights.proofs.Sought.{some_eq}
+use Rattle.edges.specs.Edges.{Edge}
+use Rattle.edges.proofs.Options.{some_eq}
 
 -- sums over lists
 pub total-falls : (f f' : ℕ → ℕ) → ((i : ℕ) → f' i ≤ f i) → (xs : List ℕ) → total f' xs ≤ total f xs
@@ -53,58 +53,81 @@ contains-cons xs x y h = Contains-append_right (x ∷ []) xs y h
 contains-first : {X : Type 0} (xs : List X) (x : X) → Contains (x ∷ xs) x
 contains-first xs x = (0, omega arith, refl)
 
-module _ (limit : ℕ) (edges : List Edge) (m : ℕ) (e : Edge) (old new : List ℕ) (queue queue' : List (ℕ × ℕ)) (c : ℕ) (stands : slice_get edges m ≡ Some e) (is_cost : c ≡ cost limit old e) (low : e.head < length old) (less : c < number_at limit old e.head) (new_is : new ≡ set old e.head c) (queued : IsPermutation ((c, e.head) ∷ queue) queue') where
-  here : number_at limit new e.head ≡ c
-  here = ap (λ ns. number_at limit ns e.head) new_is ∙ lowered limit old e.head c low
+-- the number of an edge's state falls to what the edge gives
+pub record IsLowered (limit : ℕ) (e : Edge) (old new : List ℕ) (queue queue' : List (ℕ × ℕ)) (c : ℕ) : Type 0 where
+  pub is_cost : c ≡ cost limit old e
+  pub low : e.state < length old
+  pub less : c < number_at limit old e.state
+  pub new_is : new ≡ set old e.state c
+  pub queued : IsPermutation {X = ℕ × ℕ} ((c, e.state) ∷ queue) queue'
 
-  there : (i : ℕ) → i ≢ e.head → number_at limit new i ≡ number_at limit old i
-  there i apart = ap (λ ns. number_at limit ns i) new_is ∙ others limit old e.head c i apart
+module _ (limit : ℕ) (edges : List Edge) (m : ℕ) (e : Edge) (old new : List ℕ) (queue queue' : List (ℕ × ℕ)) (c : ℕ) (stands : slice_get edges m ≡ Some e) (by : IsLowered limit e old new queue queue' c) where
+  is_cost : c ≡ cost limit old e
+  is_cost = by.is_cost
+
+  low : e.state < length old
+  low = by.low
+
+  less : c < number_at limit old e.state
+  less = by.less
+
+  new_is : new ≡ set old e.state c
+  new_is = by.new_is
+
+  queued : IsPermutation {X = ℕ × ℕ} ((c, e.state) ∷ queue) queue'
+  queued = by.queued
+
+  here : number_at limit new e.state ≡ c
+  here = ap (λ ns. number_at limit ns e.state) new_is ∙ lowered limit old e.state c low
+
+  there : (i : ℕ) → i ≢ e.state → number_at limit new i ≡ number_at limit old i
+  there i apart = ap (λ ns. number_at limit ns i) new_is ∙ others limit old e.state c i apart
 
   longer : length new ≡ length old
-  longer = ap length new_is ∙ length-set old e.head c
+  longer = ap length new_is ∙ length-set old e.state c
 
   falls : (i : ℕ) → number_at limit new i ≤ number_at limit old i
-  falls i = go (i == e.head) refl
+  falls i = go (i == e.state) refl
     where
-      go : (b : Bool) → (i == e.head) ≡ b → number_at limit new i ≤ number_at limit old i
-      go true is = (let same = eqb-true i e.head is in subst (λ j. number_at limit new j ≤ number_at limit old j) (sym same) (let h = here in omega (arith, h, less)))
-      go false is = (let h = there i (λ q. absurd (false≢true (sym is ∙ eq-eqb i e.head q))) in omega (arith, h))
+      go : (b : Bool) → (i == e.state) ≡ b → number_at limit new i ≤ number_at limit old i
+      go true is = (let same = eqb-true i e.state is in subst (λ j. number_at limit new j ≤ number_at limit old j) (sym same) (let h = here in omega (arith, h, less)))
+      go false is = (let h = there i (λ q. absurd (false≢true (sym is ∙ eq-eqb i e.state q))) in omega (arith, h))
 
   cheaper : (f : Edge) → cost limit new f ≤ cost limit old f
   cheaper f = (let t = total-falls (number_at limit old) (number_at limit new) falls f.tails in omega (arith, t))
 
-  same_cost : (f : Edge) → has e.head f.tails ≡ false → cost limit new f ≡ cost limit old f
-  same_cost f none = ap (λ k. f.weight + k) (total-apart (number_at limit old) (number_at limit new) e.head there f.tails none)
+  same_cost : (f : Edge) → has e.state f.tails ≡ false → cost limit new f ≡ cost limit old f
+  same_cost f none = ap (λ k. f.weight + k) (total-apart (number_at limit old) (number_at limit new) e.state there f.tails none)
 
-  pending_head : IsPending limit new queue' e.head
-  pending_head = (omega (arith, longer, low), subst (λ n. Contains queue' (n, e.head)) (sym here) (Contains-permutation ((c, e.head) ∷ queue) queue' (c, e.head) queued (contains-first queue (c, e.head))))
+  pending_head : IsPending limit new queue' e.state
+  pending_head = (omega (arith, longer, low), subst (λ n. Contains queue' (n, e.state)) (sym here) (Contains-permutation ((c, e.state) ∷ queue) queue' (c, e.state) queued (contains-first queue (c, e.state))))
 
-  pending_other : (t : ℕ) → t ≢ e.head → IsPending limit old queue t → IsPending limit new queue' t
-  pending_other t apart h = (let within = h.0 in omega (arith, longer, within), subst (λ n. Contains queue' (n, t)) (sym (there t apart)) (Contains-permutation ((c, e.head) ∷ queue) queue' (number_at limit old t, t) queued (contains-cons queue (c, e.head) (number_at limit old t, t) h.1)))
+  pending_other : (t : ℕ) → t ≢ e.state → IsPending limit old queue t → IsPending limit new queue' t
+  pending_other t apart h = (let within = h.0 in omega (arith, longer, within), subst (λ n. Contains queue' (n, t)) (sym (there t apart)) (Contains-permutation ((c, e.state) ∷ queue) queue' (number_at limit old t, t) queued (contains-cons queue (c, e.state) (number_at limit old t, t) h.1)))
 
   keeps : (f : Edge) → IsSettled limit old queue f → IsSettled limit new queue' f
-  keeps f h = go (has e.head f.tails) refl h
+  keeps f h = go (has e.state f.tails) refl h
     where
-      go : (b : Bool) → has e.head f.tails ≡ b → IsSettled limit old queue f → IsSettled limit new queue' f
-      go true is h' = inr (e.head, is, pending_head)
-      go false is (inl closed) = inl (λ within. (let q = same_cost f is in let r = closed (omega (arith, q, within)) in let d = falls f.head in omega (arith, q, r, d)))
+      go : (b : Bool) → has e.state f.tails ≡ b → IsSettled limit old queue f → IsSettled limit new queue' f
+      go true is h' = inr (e.state, is, pending_head)
+      go false is (inl closed) = inl (λ within. (let q = same_cost f is in let r = closed (omega (arith, q, within)) in let d = falls f.state in omega (arith, q, r, d)))
       go false is (inr p) = inr (p.0, p.1, pending_other p.0 (λ q. absurd (false≢true (sym is ∙ ap (λ t. has t f.tails) (sym q) ∙ p.1))) p.2)
 
   supports : AreSupported limit edges old → AreSupported limit edges new
-  supports before i within = go (i == e.head) refl
+  supports before i within = go (i == e.state) refl
     where
-      go : (b : Bool) → (i == e.head) ≡ b → IsSupport limit edges new i
+      go : (b : Bool) → (i == e.state) ≡ b → IsSupport limit edges new i
       go true is =
-          let same = eqb-true i e.head is in
+          let same = eqb-true i e.state is in
           let cheap = cheaper e in
           let at : number_at limit new i ≡ c = ap (number_at limit new) same ∙ here in
-          record { number = m; edge = e; is = stands; head = sym same; reaches = omega (arith, cheap, is_cost, at) }
+          record { number = m; edge = e; is = stands; at_state = sym same; reaches = omega (arith, cheap, is_cost, at) }
       go false is =
-          let at = there i (λ q. absurd (false≢true (sym is ∙ eq-eqb i e.head q))) in
+          let at = there i (λ q. absurd (false≢true (sym is ∙ eq-eqb i e.state q))) in
           let s : IsSupport limit edges old i = before i (omega (arith, at, within)) in
           let cheap = cheaper s.edge in
           let reaches = s.reaches in
-          record { number = s.number; edge = s.edge; is = s.is; head = s.head; reaches = omega (arith, cheap, reaches, at) }
+          record { number = s.number; edge = s.edge; is = s.is; at_state = s.at_state; reaches = omega (arith, cheap, reaches, at) }
 
   pub step-lower : IsStep limit edges old queue new queue'
   step-lower = record {
@@ -112,18 +135,18 @@ module _ (limit : ℕ) (edges : List Edge) (m : ℕ) (e : Edge) (old new : List 
     settled = keeps;
     supported = supports;
     falls = (
-        let s = worth-set old e.head c low in
+        let s = worth-set old e.state c low in
         let n = ap worth new_is in
-        let l = length_permutation ((c, e.head) ∷ queue) queue' queued in
-        let at = in-list old e.head (limit + 1) 0 low in
+        let l = length_permutation ((c, e.state) ∷ queue) queue' queued in
+        let at = in-list old e.state (limit + 1) 0 low in
         omega (arith, s, n, l, less, at));
   }
 
   pub settled-lower : IsSettled limit new queue' e
-  settled-lower = go (has e.head e.tails) refl
+  settled-lower = go (has e.state e.tails) refl
     where
-      go : (b : Bool) → has e.head e.tails ≡ b → IsSettled limit new queue' e
-      go true is = inr (e.head, is, pending_head)
+      go : (b : Bool) → has e.state e.tails ≡ b → IsSettled limit new queue' e
+      go true is = inr (e.state, is, pending_head)
       go false is = inl (λ within. (let q = same_cost e is in let h = here in omega (arith, q, h, is_cost)))
 
 -- no step, and two steps

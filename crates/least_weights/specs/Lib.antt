@@ -1,4 +1,3 @@
--- Least weights of terms, and the edges and numbers by which they are found.
+-- Least weights of terms, and the numbers by which they are found.
 pub mod LeastWeight
-pub mod Edges
 pub mod Numbers

@@ -3,26 +3,26 @@ use Rattle.std.specs.Prelude.{◌≡◌, ◌⊎◌, ℕ, ◌+◌, ◌*◌, ◌�
 use Rattle.std.specs.List.{Contains}
 use Rattle.terms.specs.Count.{total}
 use Rattle.succinct.specs.Sets.{has}
-use Rattle.least_weights.specs.declared.edge.Edge.{Edge}
+use Rattle.edges.specs.Edges.{Edge}
 
 -- the number of a state, above the limit where there is no such state
 abbrev pub number_at : ℕ → List ℕ → ℕ → ℕ
 number_at limit numbers i = slice_index_or numbers i (limit + 1)
 
--- what an edge gives its head: its weight and the numbers of its tails, each as often as it stands there
+-- what an edge gives its state: its weight and the numbers of its tails, each as often as it stands there
 abbrev pub cost : ℕ → List ℕ → Edge → ℕ
 cost limit numbers e = e.weight + total (number_at limit numbers) e.tails
 
 -- the edge lessens no number
 abbrev pub IsClosed : ℕ → List ℕ → Edge → Type 0
-IsClosed limit numbers e = cost limit numbers e ≤ limit → number_at limit numbers e.head ≤ cost limit numbers e
+IsClosed limit numbers e = cost limit numbers e ≤ limit → number_at limit numbers e.state ≤ cost limit numbers e
 
 -- an edge that reaches the number of a state
 pub record IsSupport (limit : ℕ) (edges : List Edge) (numbers : List ℕ) (i : ℕ) : Type 0 where
   pub number : ℕ
   pub edge : Edge
   pub is : slice_get edges number ≡ Some edge
-  pub head : edge.head ≡ i
+  pub at_state : edge.state ≡ i
   pub reaches : cost limit numbers edge ≤ number_at limit numbers i
 
 abbrev pub AreSupported : ℕ → List Edge → List ℕ → Type 0

@@ -3,10 +3,11 @@
 ghost use Rattle.std.specs.Prelude.{◌≡◌, ◌<◌, ℕ, length, slice_index_or, None, IfOk};
 ghost use Rattle.succinct.specs.Compression.{IsCompression};
 ghost use Rattle.patterns.specs.Patterned.{ArePatterns};
+ghost use Rattle.edges.specs.Edges.{AreEdges};
 ghost use Rattle.least_weights.specs.LeastWeight.{AreLeastWeights};
 
-use crate::edges::all_edges;
 use crate::solving::solve;
+use edges::Edges;
 use patterns::Patterns;
 use std::alloc::{AllocError, Global};
 use std::marker::Model;
@@ -31,25 +32,26 @@ impl Model for Least {
 }
 
 impl Least {
-    /// The least weights for the patterns of an environment at its depth and at any goal. The cheapest states
-    /// are settled first, each once, and nothing above the limit is kept. Want of memory is also answered where
-    /// there would be 2^32 edges.
+    /// The least weights for the patterns of an environment at its depth and at any goal, by its edges. The cheapest
+    /// states are settled first, each once, and nothing above the limit is kept.
     pub fn derive(
         alloc: Global,
         env: &Env,
         compressed: &Compressed,
         patterns: &Patterns,
+        edges: &Edges,
         limit: u32,
     ) -> Result<Least, AllocError>
         requires compressed { IsCompression env.now compressed.now }
         requires patterns { (goal : ℕ) × ArePatterns compressed.now goal env.now.depth patterns.now }
+        requires edges { AreEdges env.now compressed.now patterns.now edges.now }
         requires limit { limit ≡ env.now.limit }
         ensures least { IfOk result (λ l. AreLeastWeights env.now patterns.now l) }
     {
         let _ = env.parts();
-        let edges = all_edges(alloc, env, compressed, patterns)?;
+        let _ = compressed.needs();
         let count = patterns.states().len();
-        let numbers = solve(alloc, limit, count, edges.as_slice())?;
+        let numbers = solve(alloc, limit, count, edges)?;
         Ok(Least { limit, numbers })
     }
 

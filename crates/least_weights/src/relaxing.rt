@@ -1,11 +1,12 @@
-// One step for an edge: the number of its head falls where the edge gives less.
+// One step for an edge: the number of its state falls where the edge gives less.
 
-ghost use Rattle.std.specs.Prelude.{◌≡◌, ◌<◌, ◌≤◌, ◌∷◌, ℕ, true, List, length, slice_get, slice_set, Some, OnOk, IsPermutation};
+ghost use Rattle.std.specs.Prelude.{◌≡◌, ◌<◌, ◌≤◌, ◌∷◌, ℕ, true, length, slice_get, slice_set, Some, OnOk, IsPermutation};
 ghost use Rattle.succinct.specs.Sets.{has};
 ghost use Rattle.least_weights.specs.Numbers.{IsStep, IsSettled};
-ghost use Rattle.least_weights.specs.declared.edge.Edge.{Edge};
+ghost use Rattle.edges.specs.Edges.{Edge};
 
-use crate::edge::{Edge, cost_of, number_at};
+use crate::costs::{cost_of, number_at};
+use edges::Edges;
 use std::alloc::AllocError;
 use weight_queue::WeightQueue;
 
@@ -27,62 +28,65 @@ fn lower(
     Ok(())
 }
 
-/// Lets the number of an edge's head fall to what the edge gives, where that is less.
+/// Lets the number of an edge's state fall to what the edge gives, where that is less.
 fn relax(
     limit: u32,
-    edge: &Edge,
+    edges: &Edges,
+    edge: u32,
     numbers: &mut Vec<u32>,
     queue: &mut WeightQueue<u32>,
 ) -> Result<(), AllocError>
     requires small { limit ≤ 10000 }
-    requires head { edge.now.head < length numbers.old.items }
-    ensures step { OnOk result ((edges : List Edge) (m : ℕ) → slice_get edges m ≡ Some edge.now → IsStep limit edges numbers.old.items queue.old.items numbers.new.items queue.new.items) }
-    ensures settled { OnOk result (IsSettled limit numbers.new.items queue.new.items edge.now) }
+    requires in_range { edge < length edges.now }
+    requires states { (m : ℕ) (e : Edge) → slice_get edges.now m ≡ Some e → e.state < length numbers.old.items }
+    ensures step { OnOk result (IsStep limit edges.now numbers.old.items queue.old.items numbers.new.items queue.new.items) }
+    ensures settled { OnOk result ((e : Edge) → slice_get edges.now edge ≡ Some e → IsSettled limit numbers.new.items queue.new.items e) }
     ensures as_many { length numbers.new.items ≡ length numbers.old.items }
 {
+    let state = edges.state(edge);
     let shown = numbers.as_slice();
-    let before = number_at(limit, shown, edge.head);
-    let cost = match cost_of(limit, shown, edge) {
+    let before = number_at(limit, shown, state);
+    let cost = match cost_of(limit, shown, edges.weight(edge), edges.tails(edge)) {
         Some(cost) => cost,
         None => return Ok(()),
     };
     if before <= cost {
         return Ok(());
     }
-    lower(numbers, queue, edge.head, cost)?;
+    lower(numbers, queue, state, cost)?;
     Ok(())
 }
 
-/// The step for the edge of a number.
+/// The step for the edge of a number, where there is one.
 fn relax_numbered(
     limit: u32,
-    edges: &[Edge],
+    edges: &Edges,
     number: u32,
     numbers: &mut Vec<u32>,
     queue: &mut WeightQueue<u32>,
 ) -> Result<(), AllocError>
     requires small { limit ≤ 10000 }
-    requires heads { (m : ℕ) (e : Edge) → slice_get edges.now m ≡ Some e → e.head < length numbers.old.items }
+    requires states { (m : ℕ) (e : Edge) → slice_get edges.now m ≡ Some e → e.state < length numbers.old.items }
     ensures step { OnOk result (IsStep limit edges.now numbers.old.items queue.old.items numbers.new.items queue.new.items) }
     ensures settled { OnOk result ((e : Edge) → slice_get edges.now number ≡ Some e → IsSettled limit numbers.new.items queue.new.items e) }
     ensures as_many { length numbers.new.items ≡ length numbers.old.items }
 {
-    match edges.get(number as usize) {
-        Some(edge) => relax(limit, edge, numbers, queue),
-        None => Ok(()),
+    if number >= edges.len() {
+        return Ok(());
     }
+    relax(limit, edges, number, numbers, queue)
 }
 
 /// The steps for the edges of a list of numbers.
 pub fn relax_listed(
     limit: u32,
-    edges: &[Edge],
+    edges: &Edges,
     list: &[u32],
     numbers: &mut Vec<u32>,
     queue: &mut WeightQueue<u32>,
 ) -> Result<(), AllocError>
     requires small { limit ≤ 10000 }
-    requires heads { (m : ℕ) (e : Edge) → slice_get edges.now m ≡ Some e → e.head < length numbers.old.items }
+    requires states { (m : ℕ) (e : Edge) → slice_get edges.now m ≡ Some e → e.state < length numbers.old.items }
     ensures step { OnOk result (IsStep limit edges.now numbers.old.items queue.old.items numbers.new.items queue.new.items) }
     ensures settled { OnOk result ((m : ℕ) (e : Edge) → has m list.now ≡ true → slice_get edges.now m ≡ Some e → IsSettled limit numbers.new.items queue.new.items e) }
     ensures as_many { length numbers.new.items ≡ length numbers.old.items }
@@ -96,18 +100,18 @@ pub fn relax_listed(
 /// The steps for all edges.
 pub fn relax_all(
     limit: u32,
-    edges: &[Edge],
+    edges: &Edges,
     numbers: &mut Vec<u32>,
     queue: &mut WeightQueue<u32>,
 ) -> Result<(), AllocError>
     requires small { limit ≤ 10000 }
-    requires heads { (m : ℕ) (e : Edge) → slice_get edges.now m ≡ Some e → e.head < length numbers.old.items }
+    requires states { (m : ℕ) (e : Edge) → slice_get edges.now m ≡ Some e → e.state < length numbers.old.items }
     ensures step { OnOk result (IsStep limit edges.now numbers.old.items queue.old.items numbers.new.items queue.new.items) }
     ensures settled { OnOk result ((m : ℕ) (e : Edge) → slice_get edges.now m ≡ Some e → IsSettled limit numbers.new.items queue.new.items e) }
     ensures as_many { length numbers.new.items ≡ length numbers.old.items }
 {
-    for edge in edges {
-        relax(limit, edge, numbers, queue)?;
+    for edge in 0..edges.len() {
+        relax(limit, edges, edge, numbers, queue)?;
     }
     Ok(())
 }

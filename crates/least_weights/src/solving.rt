@@ -2,11 +2,12 @@
 
 ghost use Rattle.std.specs.Prelude.{◌≡◌, ◌<◌, ◌≤◌, ◌∷◌, ℕ, [], List, length, map, slice_get, slice_index_or, Some, IfOk, OnOk, IsPermutation};
 ghost use Rattle.least_weights.specs.Numbers.{IsStep, IsSettled, IsSolution, AreUsers, AreSupported};
-ghost use Rattle.least_weights.specs.declared.edge.Edge.{Edge};
+ghost use Rattle.edges.specs.Edges.{Edge};
 
-use crate::edge::{Edge, number_at};
+use crate::costs::number_at;
 use crate::relaxing::{relax_all, relax_listed};
 use crate::users::users_of;
+use edges::Edges;
 use std::alloc::{AllocError, Global};
 use weight_queue::WeightQueue;
 
@@ -23,7 +24,7 @@ fn users_at(users: &[Vec<u32>], state: u32) -> &[u32]
 /// Goes on from a state that was taken from the queue, unless its number has fallen since.
 fn go_on(
     limit: u32,
-    edges: &[Edge],
+    edges: &Edges,
     users: &[Vec<u32>],
     key: u32,
     state: u32,
@@ -31,7 +32,7 @@ fn go_on(
     queue: &mut WeightQueue<u32>,
 ) -> Result<(), AllocError>
     requires small { limit ≤ 10000 }
-    requires heads { (m : ℕ) (e : Edge) → slice_get edges.now m ≡ Some e → e.head < length numbers.old.items }
+    requires states { (m : ℕ) (e : Edge) → slice_get edges.now m ≡ Some e → e.state < length numbers.old.items }
     requires users { AreUsers edges.now (map (λ l. l.items) users.now) }
     requires as_many { length users.now ≡ length numbers.old.items }
     ensures step { OnOk result (IsStep limit edges.now numbers.old.items queue.old.items numbers.new.items queue.new.items) }
@@ -48,13 +49,13 @@ fn go_on(
 /// Takes states from the queue, the cheapest first, until it is empty.
 fn empty_queue(
     limit: u32,
-    edges: &[Edge],
+    edges: &Edges,
     users: &[Vec<u32>],
     numbers: &mut Vec<u32>,
     queue: &mut WeightQueue<u32>,
 ) -> Result<(), AllocError>
     requires small { limit ≤ 10000 }
-    requires heads { (m : ℕ) (e : Edge) → slice_get edges.now m ≡ Some e → e.head < length numbers.old.items }
+    requires states { (m : ℕ) (e : Edge) → slice_get edges.now m ≡ Some e → e.state < length numbers.old.items }
     requires users { AreUsers edges.now (map (λ l. l.items) users.now) }
     requires as_many { length users.now ≡ length numbers.old.items }
     requires settled { (m : ℕ) (e : Edge) → slice_get edges.now m ≡ Some e → IsSettled limit numbers.old.items queue.old.items e }
@@ -70,14 +71,9 @@ fn empty_queue(
 
 /// The number of each state, above the limit where no edges lead to it within the limit. Each state goes on
 /// once from its least number, so the time is about linear in the edges and their tails.
-pub fn solve(
-    alloc: Global,
-    limit: u32,
-    count: usize,
-    edges: &[Edge],
-) -> Result<Vec<u32>, AllocError>
+pub fn solve(alloc: Global, limit: u32, count: usize, edges: &Edges) -> Result<Vec<u32>, AllocError>
     requires small { limit ≤ 10000 }
-    requires heads { (m : ℕ) (e : Edge) → slice_get edges.now m ≡ Some e → e.head < count }
+    requires states { (m : ℕ) (e : Edge) → slice_get edges.now m ≡ Some e → e.state < count }
     ensures solution { IfOk result (λ numbers. IsSolution limit edges.now numbers.items) }
     ensures as_many { IfOk result (λ numbers. length numbers.items ≡ count) }
 {

@@ -1,6 +1,7 @@
 ghost use Rattle.std.specs.Prelude.{◌≡◌, length, IfOk};
 
 use crate::Least;
+use edges::Edges;
 use lists::{Items, Text};
 use patterns::Patterns;
 use std::alloc::{AllocError, Global};
@@ -127,7 +128,8 @@ fn find(alloc: Global, parts: Parts) -> Result<Found, EnvFault>
     let compressed = Compressed::new(alloc, &env)?;
     let shown = env.parts();
     let patterns = Patterns::derive(alloc, &compressed, shown.goal, shown.depth)?;
-    let least = Least::derive(alloc, &env, &compressed, &patterns, shown.limit)?;
+    let edges = Edges::derive(alloc, &env, &compressed, &patterns)?;
+    let least = Least::derive(alloc, &env, &compressed, &patterns, &edges, shown.limit)?;
     Ok(Found { patterns, least })
 }
 

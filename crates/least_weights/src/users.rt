@@ -4,7 +4,7 @@ ghost use Rattle.std.specs.Prelude.{◌≡◌, ◌<◌, ℕ, true, [], length, m
 ghost use Rattle.succinct.specs.Sets.{has};
 ghost use Rattle.least_weights.specs.Numbers.{AreUsers};
 
-use crate::edge::Edge;
+use edges::Edges;
 use std::alloc::{AllocError, Global};
 
 /// As many empty lists.
@@ -43,18 +43,14 @@ fn add_tails(users: &mut Vec<Vec<u32>>, tails: &[u32], edge: u32) -> Result<(), 
     Ok(())
 }
 
-/// For each state the numbers of the edges of which it is a tail. Want of memory is also answered where there
-/// are 2^32 edges or more.
-pub fn users_of(alloc: Global, count: usize, edges: &[Edge]) -> Result<Vec<Vec<u32>>, AllocError>
+/// For each state the numbers of the edges of which it is a tail.
+pub fn users_of(alloc: Global, count: usize, edges: &Edges) -> Result<Vec<Vec<u32>>, AllocError>
     ensures as_many { IfOk result (λ users. length users.items ≡ count) }
     ensures users { IfOk result (λ users. AreUsers edges.now (map (λ l. l.items) users.items)) }
 {
-    if edges.len() > 4294967295 {
-        return Err(AllocError);
-    }
     let mut users = no_users(alloc, count)?;
-    for i in 0..edges.len() {
-        add_tails(&mut users, edges[i].tails.as_slice(), i as u32)?;
+    for edge in 0..edges.len() {
+        add_tails(&mut users, edges.tails(edge), edge)?;
     }
     Ok(users)
 }

@@ -1,6 +1,6 @@
 use Rattle.std.proofs.Common.{◌≡◌, slice_get, Some, refl, ◌∙◌}
 use Rattle.least_weights.specs.Numbers.{IsSettled}
-use Rattle.least_weights.specs.declared.edge.Edge.{Edge}
+use Rattle.edges.specs.Edges.{Edge}
 use Rattle.least_weights.proofs.Members.{each-more, each-all}
 use Rattle.least_weights.proofs.Steps.{step-then}
 use Rattle.least_weights.proofs.relaxing.relax_listed.Goals as goal

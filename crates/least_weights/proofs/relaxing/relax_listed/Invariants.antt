@@ -1,7 +1,7 @@
 use Rattle.std.proofs.Common.{◌≡◌, ℕ, true, length, take, slice_get, Some}
 use Rattle.succinct.specs.Sets.{has}
 use Rattle.least_weights.specs.Numbers.{IsStep, IsSettled}
-use Rattle.least_weights.specs.declared.edge.Edge.{Edge}
+use Rattle.edges.specs.Edges.{Edge}
 use Rattle.least_weights.proofs.relaxing.relax_listed.Given as goal
 
 abbrev pub invariant-loop-number : goal.invariant-loop-number

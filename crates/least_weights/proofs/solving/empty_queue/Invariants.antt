@@ -1,6 +1,6 @@
 use Rattle.std.proofs.Common.{◌≡◌, ◌+◌, ◌*◌, ℕ, length, slice_get, Some}
 use Rattle.least_weights.specs.Numbers.{IsSettled, AreSupported, worth}
-use Rattle.least_weights.specs.declared.edge.Edge.{Edge}
+use Rattle.edges.specs.Edges.{Edge}
 use Rattle.least_weights.proofs.solving.empty_queue.Given as goal
 
 abbrev pub invariant-loop-key : goal.invariant-loop-key

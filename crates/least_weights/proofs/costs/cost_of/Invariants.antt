@@ -1,10 +1,10 @@
 use Rattle.std.proofs.Common.{◌≡◌, ◌≤◌, ◌+◌, take}
 use Rattle.terms.specs.Count.{total}
 use Rattle.least_weights.specs.Numbers.{number_at}
-use Rattle.least_weights.proofs.edge.cost_of.Given as goal
+use Rattle.least_weights.proofs.costs.cost_of.Given as goal
 
 abbrev pub invariant-loop-tail : goal.invariant-loop-tail
 invariant-loop-tail l = record {
   within : l.sum ≤ l.initial.limit;
-  so_far : l.sum ≡ l.initial.edge.weight + total (number_at l.initial.limit l.initial.numbers) (take l.tail-index l.initial.edge.tails);
+  so_far : l.sum ≡ l.initial.weight + total (number_at l.initial.limit l.initial.numbers) (take l.tail-index l.initial.tails);
 }

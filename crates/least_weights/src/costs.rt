@@ -1,0 +1,35 @@
+// What an edge gives its state by the numbers of its tails.
+
+ghost use Rattle.std.specs.Prelude.{◌≡◌, ◌+◌, ◌≤◌, ◌<◌, MatchOption};
+ghost use Rattle.terms.specs.Count.{total};
+ghost use Rattle.least_weights.specs.Numbers.{number_at};
+
+/// The number of a state, above the limit where there is no such state.
+pub fn number_at(limit: u32, numbers: &[u32], state: u32) -> u32
+    requires small { limit ≤ 10000 }
+    ensures value { result ≡ number_at limit numbers.now state }
+{
+    match numbers.get(state as usize) {
+        Some(number) => *number,
+        None => limit + 1,
+    }
+}
+
+/// What an edge of this weight and these tails gives its state, none where that is above the limit.
+pub fn cost_of(limit: u32, numbers: &[u32], weight: u32, tails: &[u32]) -> Option<u32>
+    requires small { limit ≤ 10000 }
+    ensures value { MatchOption result (limit < weight + total (number_at limit numbers.now) tails.now) (λ w. (w ≡ weight + total (number_at limit numbers.now) tails.now) × (w ≤ limit)) }
+{
+    if weight > limit {
+        return None;
+    }
+    let mut sum = weight;
+    for tail in tails {
+        let more = number_at(limit, numbers, *tail);
+        if more > limit - sum {
+            return None;
+        }
+        sum += more;
+    }
+    Some(sum)
+}
