@@ -5,12 +5,13 @@ ghost use Rattle.java_units.specs.Signs.{seen};
 ghost use Rattle.java_units.specs.Forms.{begins_any, modifiers, annotation_len, modifier_len, non_sealed_len, lead_len, bound_len, bounds_len, var_len, final_len, dots_len, ahead_len, wide_len, called_len, param_len, span};
 
 pub use crate::entries::{Entry, declared_len, entries_len, entry_len};
-pub use crate::lexemes::{Lexeme, begins, begins_any, begins_name, front, is, tail};
+pub use crate::lexemes::{Lexeme, begins, begins_any, begins_name, front, is, same, tail};
+pub use crate::members::held_len;
 use crate::names::rounds;
 pub use crate::names::{base_len, dims_len, name_len, type_len};
 pub use crate::reading::{is_identifier, is_name, lexemes};
 pub use crate::starts::entries;
-pub use crate::values::{first_text, type_text};
+pub use crate::values::{fields_of, first_text, type_text};
 use crate::words::is_modifier;
 pub use crate::words::is_reserved;
 

@@ -32,7 +32,7 @@ fn number_of(lexemes: &[Lexeme<'_>]) -> usize
 }
 
 /// How many lexemes the block at the front holds.
-fn held_len(lexemes: &[Lexeme<'_>]) -> usize
+pub fn held_len(lexemes: &[Lexeme<'_>]) -> usize
     ensures { result ≡ held_len (seen lexemes.now) }
 {
     if lexemes.is_empty() {

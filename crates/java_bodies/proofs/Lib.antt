@@ -1,0 +1,4 @@
+pub mod Lengths
+pub mod Walks
+pub mod Loops
+pub mod LastOnes

@@ -1,0 +1,12 @@
+pub mod Marks
+pub mod Kept
+pub mod Openers
+pub mod Bodies
+pub mod Blocks
+pub mod Statements
+pub mod Variables
+pub mod Scopes
+pub mod Wanted
+pub mod Places
+pub mod Methods
+pub mod Sites
