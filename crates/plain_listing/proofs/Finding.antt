@@ -1,14 +1,13 @@
 -- The number of a context, and the contexts that were met.
-use Rattle.std.proofs.Common.{◌≡◌, ◌⊎◌, inl, inr, ℕ, zero, suc, ◌+◌, ◌<◌, ◌≤◌, Bool, true, false, List, [], ◌∷◌, ◌++◌, length, get_or, Option, None, Some, slice_get, refl, sym, ap, ◌∙◌, subst, arith}
-use Rattle.std.proofs.lemmas.Bool.{true≢false, cases_lt, cases_eq}
-use Rattle.std.proofs.lemmas.List.{length_push}
+use Rattle.std.proofs.Common.{◌≡◌, ◌⊎◌, inl, inr, ℕ, zero, suc, ◌+◌, ◌<◌, ◌≤◌, Bool, true, false, List, [], ◌∷◌, ◌++◌, length, get_or, None, Some, slice_get, refl, sym, ap, ◌∙◌, subst, arith}
+use Rattle.std.proofs.lemmas.Bool.{true≢false, cases_lt}
 use Rattle.std.proofs.lemmas.Option.{slice_get_within, slice_get-get_or}
 use Rattle.terms.specs.declared.parts.Arg.{Arg}
 use Rattle.terms.specs.declared.parts.Arg.TheVariants.{Plain, Fun}
 use Rattle.terms.specs.declared.parts.Decl.{Decl}
 use Rattle.terms.specs.declared.parts.Parts.{Parts}
 use Rattle.plain_listing.specs.Tables.{same_rows, number_from, number_of}
-use Rattle.plain_listing.specs.Contexts.{IsAmong, Keeps, IsMet, AreMet, AreAllMet, AreShallow, AreClosed, AreContexts}
+use Rattle.plain_listing.specs.Contexts.{IsAmong, Keeps, IsMet, AreMet, AreAllMet, AreShallow, AreClosed}
 use Rattle.plain_listing.proofs.Numbers.{number-cons, number-nil, if_yes, if_no, rows-same, rows-itself, length-extended}
 
 -- the context has a number, counted from k
@@ -118,8 +117,8 @@ all_met-next limit old new ctx decls n d at keeps before here m e low is = elim 
 ]
 
 -- one context more is closed
-pub closed-next : (g : Parts) (old new : List (List (List ℕ))) (n : ℕ) (outer : List (List ℕ)) → slice_get old n ≡ Some outer → Keeps old new → AreClosed g old n → (length outer < g.depth → AreAllMet g.limit new outer g.decls (length g.decls)) → AreClosed g new (n + 1)
-closed-next g old new n outer at keeps before here m ctx low is room = elim (cases_lt m n) [
+pub closed-next : (g : Parts) (depth : ℕ) (old new : List (List (List ℕ))) (n : ℕ) (outer : List (List ℕ)) → slice_get old n ≡ Some outer → Keeps old new → AreClosed g depth old n → (length outer < depth → AreAllMet g.limit new outer g.decls (length g.decls)) → AreClosed g depth new (n + 1)
+closed-next g depth old new n outer at keeps before here m ctx low is room = elim (cases_lt m n) [
   | inl earlier ↦ (
       let within : m < length old = (let w = slice_get_within old n outer at in omega (arith, w, earlier)) in
       let there : slice_get old m ≡ Some (get_or old m []) = slice_get-get_or old m [] within in
@@ -128,7 +127,7 @@ closed-next g old new n outer at keeps before here m ctx low is room = elim (cas
   | inr last ↦ (
       let last_is : m ≡ n = omega (arith, low, last) in
       let same : outer ≡ ctx = some_same outer ctx (sym (keeps n outer at) ∙ ap (slice_get new) (sym last_is) ∙ is) in
-      subst (λ x. AreAllMet g.limit new x g.decls (length g.decls)) same (here (subst (λ x. length x < g.depth) (sym same) room)))
+      subst (λ x. AreAllMet g.limit new x g.decls (length g.decls)) same (here (subst (λ x. length x < depth) (sym same) room)))
 ]
 
 -- the empty context alone

@@ -31,11 +31,12 @@ abbrev pub AreShallow : ℕ → List (List (List ℕ)) → Type 0
 AreShallow depth contexts = (n : ℕ) (ctx : List (List ℕ)) → slice_get contexts n ≡ Some ctx → length ctx ≤ depth
 
 -- of the first so many contexts, those in which lambdas may stand have the contexts of the bodies among them
-abbrev pub AreClosed : Parts → List (List (List ℕ)) → ℕ → Type 0
-AreClosed g contexts count = (n : ℕ) (ctx : List (List ℕ)) → n < count → slice_get contexts n ≡ Some ctx → length ctx < g.depth → AreAllMet g.limit contexts ctx g.decls (length g.decls)
+abbrev pub AreClosed : Parts → ℕ → List (List (List ℕ)) → ℕ → Type 0
+AreClosed g depth contexts count = (n : ℕ) (ctx : List (List ℕ)) → n < count → slice_get contexts n ≡ Some ctx → length ctx < depth → AreAllMet g.limit contexts ctx g.decls (length g.decls)
 
--- the contexts of an environment: the empty one, and with each those of the lambdas in it, as deep as they may nest
-pub record AreContexts (g : Parts) (contexts : List (List (List ℕ))) : Type 0 where
+-- the contexts of an environment, where lambdas nest to this depth: the empty one, and with each those of the lambdas
+-- that may stand in it
+pub record AreContexts (g : Parts) (depth : ℕ) (contexts : List (List (List ℕ))) : Type 0 where
   pub first : slice_get contexts 0 ≡ Some []
-  pub shallow : AreShallow g.depth contexts
-  pub closed : AreClosed g contexts (length contexts)
+  pub shallow : AreShallow depth contexts
+  pub closed : AreClosed g depth contexts (length contexts)

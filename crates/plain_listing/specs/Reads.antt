@@ -9,4 +9,4 @@ here s = at s.rows.now s.number
 
 -- the tables under one lambda more
 abbrev pub deeper : Site → Inner
-deeper s = under s.contexts.now s.rows.now s.env.now.depth s.context.now
+deeper s = under s.contexts.now s.rows.now s.depth s.context.now

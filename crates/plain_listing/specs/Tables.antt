@@ -66,14 +66,14 @@ abbrev pub IsRight : Parts → List (List ℕ) → ℕ → Table → ℕ → Typ
 IsRight g ctx left here limit = (k b : ℕ) → k < limit → b < length g.types → (e : Expr) → count (expr_eq e) (here k b) ≡ once_if (stands g (record { ctx = ctx; left = left; wanted = b }) k e)
 
 -- so in each context, with as many lambdas left as its rows leave
-abbrev pub AreRight : Parts → List (List (List ℕ)) → List (List (List (List Term))) → ℕ → Type 0
-AreRight g contexts rows limit = (n left : ℕ) (ctx : List (List ℕ)) → slice_get contexts n ≡ Some ctx → length ctx + left ≡ g.depth → IsRight g ctx left (at rows n) limit
+abbrev pub AreRight : Parts → ℕ → List (List (List ℕ)) → List (List (List (List Term))) → ℕ → Type 0
+AreRight g depth contexts rows limit = (n left : ℕ) (ctx : List (List ℕ)) → slice_get contexts n ≡ Some ctx → length ctx + left ≡ depth → IsRight g ctx left (at rows n) limit
 
 -- one weight's terms for each type, in the context of this number
-abbrev pub IsColumn : Parts → List (List (List ℕ)) → List (List (List (List Term))) → List (List Term) → ℕ → List (List ℕ) → Type 0
-IsColumn g contexts rows column n ctx = (b : ℕ) → b < length g.types → listed (slice_get column b) ≡ made g (joined ctx) (at rows n) (under contexts rows g.depth ctx) (length rows) b
+abbrev pub IsColumn : Parts → ℕ → List (List (List ℕ)) → List (List (List (List Term))) → List (List Term) → ℕ → List (List ℕ) → Type 0
+IsColumn g depth contexts rows column n ctx = (b : ℕ) → b < length g.types → listed (slice_get column b) ≡ made g (joined ctx) (at rows n) (under contexts rows depth ctx) (length rows) b
 
 -- one weight's lists, in the first n contexts
-pub record IsRow (g : Parts) (contexts : List (List (List ℕ))) (rows : List (List (List (List Term)))) (row : List (List (List Term))) (n : ℕ) : Type 0 where
+pub record IsRow (g : Parts) (depth : ℕ) (contexts : List (List (List ℕ))) (rows : List (List (List (List Term)))) (row : List (List (List Term))) (n : ℕ) : Type 0 where
   pub long : length row ≡ n
-  pub each : (m : ℕ) (ctx : List (List ℕ)) → m < n → slice_get contexts m ≡ Some ctx → (b : ℕ) → b < length g.types → for_type (slice_get row m) b ≡ made g (joined ctx) (at rows m) (under contexts rows g.depth ctx) (length rows) b
+  pub each : (m : ℕ) (ctx : List (List ℕ)) → m < n → slice_get contexts m ≡ Some ctx → (b : ℕ) → b < length g.types → for_type (slice_get row m) b ≡ made g (joined ctx) (at rows m) (under contexts rows depth ctx) (length rows) b

@@ -119,22 +119,27 @@ fn add_inner(
     contexts: &mut Items<Items<Items<u32>>>,
     outer: &[Items<u32>],
     parts: &Parts,
+    depth: u32,
 ) -> Result<(), AllocError>
     ensures keeps { OnOk result (Keeps contexts.old contexts.new) }
-    ensures shallow { OnOk result (AreShallow parts.now.depth contexts.old → AreShallow parts.now.depth contexts.new) }
-    ensures met { OnOk result (length outer.now < parts.now.depth → AreAllMet parts.now.limit contexts.new outer.now parts.now.decls (length parts.now.decls)) }
+    ensures shallow { OnOk result (AreShallow depth contexts.old → AreShallow depth contexts.new) }
+    ensures met { OnOk result (length outer.now < depth → AreAllMet parts.now.limit contexts.new outer.now parts.now.decls (length parts.now.decls)) }
 {
-    if outer.len() >= parts.depth as usize {
+    if outer.len() >= depth as usize {
         return Ok(());
     }
     add_decls(alloc, contexts, outer, parts.decls.as_slice(), parts.limit)?;
     Ok(())
 }
 
-/// The contexts of an environment, numbered as they are met from the empty one on. Want of memory is also
+/// The contexts of an environment where lambdas nest to this depth, numbered as they are met from the empty one on. Want of memory is also
 /// answered where they would be 2^32 or more.
-pub fn contexts_of(alloc: Global, parts: &Parts) -> Result<Items<Items<Items<u32>>>, AllocError>
-    ensures { IfOk result (λ contexts. AreContexts parts.now contexts) }
+pub fn contexts_of(
+    alloc: Global,
+    parts: &Parts,
+    depth: u32,
+) -> Result<Items<Items<Items<u32>>>, AllocError>
+    ensures { IfOk result (λ contexts. AreContexts parts.now depth contexts) }
 {
     let mut contexts = Items::new(alloc);
     contexts.push(Items::new(alloc))?;
@@ -143,7 +148,7 @@ pub fn contexts_of(alloc: Global, parts: &Parts) -> Result<Items<Items<Items<u32
             return Ok(contexts);
         }
         let outer = copy_rows(alloc, contexts.as_slice()[n].as_slice())?;
-        add_inner(alloc, &mut contexts, outer.as_slice(), parts)?;
+        add_inner(alloc, &mut contexts, outer.as_slice(), parts, depth)?;
     }
     Err(AllocError)
 }

@@ -51,13 +51,14 @@ fn variables_of(alloc: Global, context: &[Items<u32>]) -> Result<Items<u32>, All
 fn column_in(
     alloc: Global,
     env: &Env,
+    depth: u32,
     contexts: &[Items<Items<u32>>],
     rows: &[Items<Items<Items<Term>>>],
     number: usize,
     context: &[Items<u32>],
 ) -> Result<Items<Items<Term>>, AllocError>
     requires { length rows.now < 2 ^ 32 }
-    ensures { IfOk result (λ column. IsColumn env.now contexts.now rows.now column number context.now) }
+    ensures { IfOk result (λ column. IsColumn env.now depth contexts.now rows.now column number context.now) }
 {
     let variables = variables_of(alloc, context)?;
     if variables.len() >= 4_294_967_296 {
@@ -65,6 +66,7 @@ fn column_in(
     }
     let site = Site {
         env,
+        depth,
         rows,
         number,
         context,
@@ -78,16 +80,17 @@ fn column_in(
 pub fn row(
     alloc: Global,
     env: &Env,
+    depth: u32,
     contexts: &[Items<Items<u32>>],
     rows: &[Items<Items<Items<Term>>>],
 ) -> Result<Items<Items<Items<Term>>>, AllocError>
     requires rows { length rows.now < 2 ^ 32 }
-    ensures { IfOk result (λ row. IsRow env.now contexts.now rows.now row (length contexts.now)) }
+    ensures { IfOk result (λ row. IsRow env.now depth contexts.now rows.now row (length contexts.now)) }
 {
     let mut all = Items::new(alloc);
     for n in 0..contexts.len() {
         let context = contexts[n].as_slice();
-        all.push(column_in(alloc, env, contexts, rows, n, context)?)?;
+        all.push(column_in(alloc, env, depth, contexts, rows, n, context)?)?;
     }
     Ok(all)
 }

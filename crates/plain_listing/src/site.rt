@@ -12,6 +12,8 @@ use terms::{Arg, Env, Term};
 #[derive(Clone, Copy)]
 pub struct Site<'a> {
     pub env: &'a Env,
+    /// How deep lambdas may nest.
+    pub depth: u32,
     /// For each weight, for each context, for each type the terms. Context 0 has no lambda.
     pub rows: &'a [Items<Items<Items<Term>>>],
     /// The number of the context.
@@ -107,7 +109,7 @@ impl Site<'_> {
         if weight < params.len() {
             return &[];
         }
-        if self.context.len() >= self.env.parts().depth as usize {
+        if self.context.len() >= self.depth as usize {
             return &[];
         }
         match number_of(self.contexts, self.context, params) {

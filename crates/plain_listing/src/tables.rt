@@ -33,7 +33,7 @@ impl Model for Tables {
 
     ghost view = { λ t. record { parts = t.env; from = length t.rows.items } };
 
-    ghost invariant = { λ t. IsValid t.env × AreContexts t.env t.contexts × AreRight t.env t.contexts t.rows.items (length t.rows.items) };
+    ghost invariant = { λ t. IsValid t.env × AreContexts t.env t.env.depth t.contexts × AreRight t.env t.env.depth t.contexts t.rows.items (length t.rows.items) };
 }
 
 /// Copies of the terms.
@@ -52,7 +52,8 @@ impl Tables {
     pub fn new(alloc: Global, env: Env) -> Result<Tables, AllocError>
         ensures { IfOk result (λ tables. tables ≡ record { parts = env; from = 0 }) }
     {
-        let contexts = contexts_of(alloc, env.parts())?;
+        let parts = env.parts();
+        let contexts = contexts_of(alloc, parts, parts.depth)?;
         Ok(Tables {
             env,
             contexts,
@@ -90,7 +91,8 @@ impl Tables {
         ensures err { OnErr result (self.new ≡ self.old) }
     {
         let rows = self.rows.as_slice();
-        let row = row(alloc, &self.env, self.contexts.as_slice(), rows)?;
+        let depth = self.env.parts().depth;
+        let row = row(alloc, &self.env, depth, self.contexts.as_slice(), rows)?;
         let terms = copies(alloc, in_context(&row, 0, self.env.parts().goal))?;
         self.rows.push(row)?;
         Ok(terms)

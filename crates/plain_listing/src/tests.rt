@@ -1,4 +1,9 @@
+ghost use Rattle.std.specs.Prelude.{◌<◌};
+
 use crate::Plain;
+use crate::contexts::contexts_of;
+use crate::rows::row;
+use crate::site::in_context;
 use lists::{Items, Text};
 use std::alloc::{AllocError, Global};
 use terms::{Arg, Decl, Env, EnvFault, Form, Level, Levels, Parts, Term, TermArg};
@@ -112,8 +117,8 @@ fn after(term: &Term, code: &[u64], at: usize) -> Option<usize> {
     }
 }
 
-fn has(level: &Level, code: &[u64]) -> bool {
-    for term in level.terms.as_slice() {
+fn has(terms: &[Term], code: &[u64]) -> bool {
+    for term in terms {
         if after(term, code, 0) == Some(code.len()) {
             return true;
         }
@@ -121,13 +126,18 @@ fn has(level: &Level, code: &[u64]) -> bool {
     false
 }
 
-fn is_level(level: &Level, weight: u32, codes: &[&[u64]]) -> bool {
+/// Whether these are the terms, in some order.
+fn are(terms: &[Term], codes: &[&[u64]]) -> bool {
     for code in codes {
-        if !has(level, code) {
+        if !has(terms, code) {
             return false;
         }
     }
-    level.weight == weight && level.terms.len() == codes.len()
+    terms.len() == codes.len()
+}
+
+fn is_level(level: &Level, weight: u32, codes: &[&[u64]]) -> bool {
+    level.weight == weight && are(level.terms.as_slice(), codes)
 }
 
 /// The next level, asked for twice where there was no memory at first.
@@ -262,5 +272,92 @@ fn levels_come_whole_and_in_order(rt: HostRuntime) -> Result<(), EnvFault> {
     for case in [no_term, two_names, one_call, two_calls] {
         assert!(rt; has_levels(rt.alloc(), &case)?);
     }
+    Ok(())
+}
+
+/// Adds the row of one more weight, of at most a hundred.
+fn add_row(
+    alloc: Global,
+    env: &Env,
+    depth: u32,
+    contexts: &[Items<Items<u32>>],
+    rows: &mut Vec<Items<Items<Items<Term>>>>,
+) -> Result<(), AllocError> {
+    if rows.len() > 100 {
+        return Err(AllocError);
+    }
+    let made = row(alloc, env, depth, contexts, rows.as_slice())?;
+    rows.push(made)?;
+    Ok(())
+}
+
+/// Whether the terms of this weight are these, where lambdas nest deeper than an environment admits.
+fn has_deep(
+    alloc: Global,
+    case: &Case<'_>,
+    depth: u32,
+    weight: u32,
+    codes: &[&[u64]],
+) -> Result<bool, EnvFault>
+    requires { weight < 100 }
+{
+    let env = env(alloc, case)?;
+    let contexts = contexts_of(alloc, env.parts(), depth)?;
+    let mut rows = Vec::new(alloc);
+    for _ in 0..weight + 1 {
+        add_row(alloc, &env, depth, contexts.as_slice(), &mut rows)?;
+    }
+    match rows.last() {
+        Some(last) => Ok(are(in_context(last, 0, case.goal), codes)),
+        None => Ok(false),
+    }
+}
+
+/// Three types made from lambdas, `I` of int -> int, `J` of int -> I and `K` of int -> J, each of weight 10.
+const NESTED: [Line<'static>; 3] = [
+    Line {
+        weight: 10,
+        result: 1,
+        wants: &[0],
+        params: Some(&[0]),
+    },
+    Line {
+        weight: 10,
+        result: 2,
+        wants: &[1],
+        params: Some(&[0]),
+    },
+    Line {
+        weight: 10,
+        result: 3,
+        wants: &[2],
+        params: Some(&[0]),
+    },
+];
+
+#[test]
+fn lambdas_nest_as_deep_as_they_may(rt: HostRuntime) -> Result<(), EnvFault> {
+    let two = Case {
+        types: 4,
+        pairs: &[],
+        lines: &NESTED,
+        goal: 2,
+        limit: 40,
+        depth: 1,
+        levels: &[],
+    };
+    let three = Case { goal: 3, ..two };
+    assert!(rt; has_deep(rt.alloc(), &two, 1, 23, &[])?);
+    assert!(rt; has_deep(rt.alloc(), &two, 2, 23, &[&[3, 1, 0], &[3, 1, 2]])?);
+    assert!(rt; has_deep(rt.alloc(), &three, 2, 34, &[])?);
+    assert!(rt;
+        has_deep(
+            rt.alloc(),
+            &three,
+            3,
+            34,
+            &[&[5, 3, 1, 0], &[5, 3, 1, 2], &[5, 3, 1, 4]]
+        )?
+    );
     Ok(())
 }

@@ -1,4 +1,4 @@
-use Rattle.std.proofs.Common.{◌≡◌, List, refl, subst, length, arith}
+use Rattle.std.proofs.Common.{List, refl, subst, length, arith}
 use Rattle.std.proofs.lemmas.Option.{slice_get_read}
 use Rattle.terms.specs.declared.parts.Arg.{Arg}
 use Rattle.plain_listing.specs.Contexts.{AreMet}

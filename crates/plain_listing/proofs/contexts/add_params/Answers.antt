@@ -1,4 +1,4 @@
-use Rattle.std.proofs.Common.{◌++◌, ◌∷◌, [], List, ℕ, Option, Some, ◌≡◌, inl, inr, sym, ap, refl, arith, ◌∙◌}
+use Rattle.std.proofs.Common.{◌++◌, ◌∷◌, [], List, ℕ, Option, Some, ◌≡◌, inl, sym, ap, ◌∙◌}
 use Rattle.plain_listing.specs.Tables.{number_of}
 use Rattle.plain_listing.proofs.Finding.{number-among, keeps-push, among-push, shallow-push}
 use Rattle.plain_listing.proofs.contexts.add_params.Goals as goal

@@ -5,6 +5,6 @@ use Rattle.plain_listing.proofs.contexts.contexts_of.Given as goal
 abbrev pub invariant-loop-n : goal.invariant-loop-n
 invariant-loop-n l = record {
   first : slice_get l.contexts 0 ≡ Some [];
-  shallow : AreShallow l.parts.depth l.contexts;
-  closed : AreClosed l.parts l.contexts l.n;
+  shallow : AreShallow l.depth l.contexts;
+  closed : AreClosed l.parts l.depth l.contexts l.n;
 }

@@ -1,4 +1,4 @@
-use Rattle.std.proofs.Common.{◌≡◌, ◌++◌, ◌∙◌, List, ℕ, ap, arith}
+use Rattle.std.proofs.Common.{◌++◌, ◌∙◌, List, ℕ, ap, arith}
 use Rattle.plain_listing.proofs.Joined.{joined-next, joined-end}
 use Rattle.plain_listing.proofs.rows.variables_of.Goals as goal
 

@@ -24,11 +24,12 @@ invariant_of-self-2 c =
     let g = t.env in
     let P : Progress → Type 0 = λ v. v.from ≤ v.parts.limit in
     let within : length t.rows.items ≤ g.limit = subst P (sym c.self.view_is) c.requires in
-    let Q : List (List (List ℕ)) → Type 0 = λ cs. IsRow g cs c.as_slice-rows.result.now c.in_ok-row.row (length cs) in
-    let S : List (List (List (List Term))) → Type 0 = λ rs. IsRow g t.contexts rs c.in_ok-row.row (length t.contexts) in
-    let made_row = subst S c.as_slice-rows.ensures.value (subst Q c.as_slice.ensures c.in_ok-row.ensures) in
-    let more = grown g t.contexts t.rows.items c.in_ok-row.row (ranges g c.self.invariant.0) c.self.invariant.1 within c.self.invariant.2 made_row in
-    let N : List (List (List (List Term))) → Type 0 = λ rs. AreRight g t.contexts rs (length rs) in
+    let Q : List (List (List ℕ)) → Type 0 = λ cs. IsRow g g.depth cs c.as_slice-rows.result.now c.in_ok-row.row (length cs) in
+    let S : List (List (List (List Term))) → Type 0 = λ rs. IsRow g g.depth t.contexts rs c.in_ok-row.row (length t.contexts) in
+    let D : Parts → Type 0 = λ p. IsRow g p.depth c.as_slice.result.now c.as_slice-rows.result.now c.in_ok-row.row (length c.as_slice.result.now) in
+    let made_row = subst S c.as_slice-rows.ensures.value (subst Q c.as_slice.ensures (subst D c.parts.ensures.value c.in_ok-row.ensures)) in
+    let more = grown g g.depth t.contexts t.rows.items c.in_ok-row.row (ranges g c.self.invariant.0).depth (ranges g c.self.invariant.0) c.self.invariant.1 within c.self.invariant.2 made_row in
+    let N : List (List (List (List Term))) → Type 0 = λ rs. AreRight g g.depth t.contexts rs (length rs) in
     (c.self.invariant.0, c.self.invariant.1, subst N (sym c.in_ok-push.ensures.items) more)
 
 pub returns-clause-all : goal.returns-clause-all
@@ -37,9 +38,10 @@ returns-clause-all c e =
     let g = t.env in
     let P : Progress → Type 0 = λ v. v.from ≤ v.parts.limit in
     let within : length t.rows.items ≤ g.limit = subst P (sym c.self.view_is) c.requires in
-    let Q : List (List (List ℕ)) → Type 0 = λ cs. IsRow g cs c.as_slice-rows.result.now c.in_ok-row.row (length cs) in
-    let S : List (List (List (List Term))) → Type 0 = λ rs. IsRow g t.contexts rs c.in_ok-row.row (length t.contexts) in
-    let made_row = subst S c.as_slice-rows.ensures.value (subst Q c.as_slice.ensures c.in_ok-row.ensures) in
-    let shown = ap (λ (ts : List Term). map expr ts) c.in_ok-terms.ensures ∙ c.in_context.ensures ∙ ap (λ (p : Parts). for_type (slice_get c.in_ok-row.row 0) p.goal) c.parts.ensures.value in
+    let Q : List (List (List ℕ)) → Type 0 = λ cs. IsRow g g.depth cs c.as_slice-rows.result.now c.in_ok-row.row (length cs) in
+    let S : List (List (List (List Term))) → Type 0 = λ rs. IsRow g g.depth t.contexts rs c.in_ok-row.row (length t.contexts) in
+    let D : Parts → Type 0 = λ p. IsRow g p.depth c.as_slice.result.now c.as_slice-rows.result.now c.in_ok-row.row (length c.as_slice.result.now) in
+    let made_row = subst S c.as_slice-rows.ensures.value (subst Q c.as_slice.ensures (subst D c.parts.ensures.value c.in_ok-row.ensures)) in
+    let shown = ap (λ (ts : List Term). map expr ts) c.in_ok-terms.ensures ∙ c.in_context.ensures ∙ ap (λ (p : Parts). for_type (slice_get c.in_ok-row.row 0) p.goal) c.parts-2.ensures.value in
     let L : Progress → Type 0 = λ v. count (expr_eq e) (map expr c.in_ok-terms.terms) ≡ once_if (level_of v.parts v.from e) in
     subst L c.self.view_is (ap (count (expr_eq e)) shown ∙ level_made g t.contexts t.rows.items c.in_ok-row.row (ranges g c.self.invariant.0) c.self.invariant.1 within c.self.invariant.2 made_row e)
