@@ -25,20 +25,20 @@ not_right : (l r : List ℕ) (b : Bool) (s : Sign) → Apart l r → is l s ≡ 
 not_right l r true s a e h = let f = a s h in absurd (cc)
 not_right l r false s a e h = refl
 
-count_none : (p : Sign → Bool) → count_by p [] ≡ 0
+pub count_none : (p : Sign → Bool) → count_by p [] ≡ 0
 count_none p = refl
 
-count_yes : (p : Sign → Bool) (s : Sign) (ss : List Sign) → p s ≡ true → count_by p (s ∷ ss) ≡ suc (count_by p ss)
+pub count_yes : (p : Sign → Bool) (s : Sign) (ss : List Sign) → p s ≡ true → count_by p (s ∷ ss) ≡ suc (count_by p ss)
 count_yes p s ss e = sum_by-cons (λ x. cond (p x) 1 0) s ss ∙ (let one : cond {A = ℕ} (p s) 1 0 ≡ cond {A = ℕ} true 1 0 = ap {B = ℕ} (λ b. cond b 1 0) e in omega (arith, one))
 
-count_no : (p : Sign → Bool) (s : Sign) (ss : List Sign) → p s ≡ false → count_by p (s ∷ ss) ≡ count_by p ss
+pub count_no : (p : Sign → Bool) (s : Sign) (ss : List Sign) → p s ≡ false → count_by p (s ∷ ss) ≡ count_by p ss
 count_no p s ss e = sum_by-cons (λ x. cond (p x) 1 0) s ss ∙ (let one : cond {A = ℕ} (p s) 1 0 ≡ cond {A = ℕ} false 1 0 = ap {B = ℕ} (λ b. cond b 1 0) e in omega (arith, one))
 
 -- the first n of these signs close one bracket where d further ones are open
-record Closed (l r : List ℕ) (d : ℕ) (ss : List Sign) (n : ℕ) : Type 0 where
-  within : n ≤ length ss
-  even : count_by (is l) (take n ss) + suc d ≡ count_by (is r) (take n ss)
-  first : (k : ℕ) → k < n → count_by (is r) (take k ss) ≤ count_by (is l) (take k ss) + d
+pub record Closed (l r : List ℕ) (d : ℕ) (ss : List Sign) (n : ℕ) : Type 0 where
+  pub within : n ≤ length ss
+  pub even : count_by (is l) (take n ss) + suc d ≡ count_by (is r) (take n ss)
+  pub first : (k : ℕ) → k < n → count_by (is r) (take k ss) ≤ count_by (is l) (take k ss) + d
 
 last_first : (l r : List ℕ) (s : Sign) (ss : List Sign) (k : ℕ) → k < 1 → count_by (is r) (take k (s ∷ ss)) ≤ count_by (is l) (take k (s ∷ ss)) + 0
 last_first l r s ss zero h = omega (arith, count_none (is r))
@@ -137,24 +137,24 @@ sound l r f (s ∷ ss) d m e = sound_by l r f s ss (λ d m e. sound l r f ss d m
 
 -- what closes a bracket is read
 
-nothing_closes : (l r : List ℕ) (d : ℕ) (ss : List Sign) → Closed l r d ss 0 → ⊥
+pub nothing_closes : (l r : List ℕ) (d : ℕ) (ss : List Sign) → Closed l r d ss 0 → ⊥
 nothing_closes l r d ss c = absurd (omega (arith, c.even, count_none (is l), count_none (is r)))
 
-past_right : (l r : List ℕ) (d n : ℕ) (s : Sign) (ss : List Sign) → is r s ≡ true → is l s ≡ false → Closed l r (suc d) (s ∷ ss) (suc n) → Closed l r d ss n
+pub past_right : (l r : List ℕ) (d n : ℕ) (s : Sign) (ss : List Sign) → is r s ≡ true → is l s ≡ false → Closed l r (suc d) (s ∷ ss) (suc n) → Closed l r d ss n
 past_right l r d n s ss a b c = record {
   within = omega (arith, c.within);
   even = omega (arith, count_yes (is r) s (take n ss) a, count_no (is l) s (take n ss) b, c.even);
   first = λ k h. omega (arith, count_yes (is r) s (take k ss) a, count_no (is l) s (take k ss) b, c.first (suc k) (omega arith));
 }
 
-past_left : (l r : List ℕ) (d n : ℕ) (s : Sign) (ss : List Sign) → is r s ≡ false → is l s ≡ true → Closed l r d (s ∷ ss) (suc n) → Closed l r (suc d) ss n
+pub past_left : (l r : List ℕ) (d n : ℕ) (s : Sign) (ss : List Sign) → is r s ≡ false → is l s ≡ true → Closed l r d (s ∷ ss) (suc n) → Closed l r (suc d) ss n
 past_left l r d n s ss a b c = record {
   within = omega (arith, c.within);
   even = omega (arith, count_no (is r) s (take n ss) a, count_yes (is l) s (take n ss) b, c.even);
   first = λ k h. omega (arith, count_no (is r) s (take k ss) a, count_yes (is l) s (take k ss) b, c.first (suc k) (omega arith));
 }
 
-past_other : (l r : List ℕ) (d n : ℕ) (s : Sign) (ss : List Sign) → is r s ≡ false → is l s ≡ false → Closed l r d (s ∷ ss) (suc n) → Closed l r d ss n
+pub past_other : (l r : List ℕ) (d n : ℕ) (s : Sign) (ss : List Sign) → is r s ≡ false → is l s ≡ false → Closed l r d (s ∷ ss) (suc n) → Closed l r d ss n
 past_other l r d n s ss a b c = record {
   within = omega (arith, c.within);
   even = omega (arith, count_no (is r) s (take n ss) a, count_no (is l) s (take n ss) b, c.even);
@@ -218,7 +218,7 @@ unfolding matched begins
 found l r f [] n h e = absurd (omega (arith, e))
 found l r f (s ∷ ss) n h e = found_by l r f (is l s) s ss n refl h e
 
-shut : (l r : List ℕ) (s : Sign) (ss : List Sign) (m : ℕ) → is l s ≡ true → is r s ≡ false → IsMatched l r (s ∷ ss) (suc m) → Closed l r 0 ss m
+pub shut : (l r : List ℕ) (s : Sign) (ss : List Sign) (m : ℕ) → is l s ≡ true → is r s ≡ false → IsMatched l r (s ∷ ss) (suc m) → Closed l r 0 ss m
 shut l r s ss m a b c = record {
   within = omega (arith, c.within);
   even = omega (arith, count_yes (is l) s (take m ss) a, count_no (is r) s (take m ss) b, c.even);

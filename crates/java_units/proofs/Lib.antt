@@ -24,4 +24,7 @@ mod SignKinds
 mod Annotations
 mod ParamGrammar
 mod VarGrammar
+mod ParamLists
+mod TypeReading
+mod ParamReading
 pub mod IdentifierLaws

@@ -16,12 +16,12 @@ use Rattle.java_units.proofs.ListGrammar.{suc_of, many_just, many_sound, names_b
 use Rattle.java_units.proofs.SignKinds.{IsNamed, named_not, unnamed, primitive_not, no_identifier-at, no_identifier-round, no_identifier-angle, no_identifier-square, no_identifier-dot, no_identifier-final, no_primitive-at, no_primitive-round, no_primitive-dot, no_primitive-final, begins_not, no_name_tail, dot_alone, no_dim}
 use Rattle.java_units.proofs.Annotations.{AnnotationEnds, annotation_stops, annotation_some, annotation_ends, no_annotation, annotation_sound, annotation_within}
 
-first_named : (s : Sign) (ss : List Sign) → NamesAreIdentifiers (s ∷ ss) → IsNamed s
+pub first_named : (s : Sign) (ss : List Sign) → NamesAreIdentifiers (s ∷ ss) → IsNamed s
 first_named s ss f = All-head (λ s. s.is_name ≡ true → is_identifier s.text ≡ true) s ss f
 
 -- the name of a parameter
 
-abbrev IsCalled : List Sign → Type 0
+abbrev pub IsCalled : List Sign → Type 0
 IsCalled ss = IsEither IsIdentifier (IsSign (codes "this")) ss
 
 or_if : (a b : Bool) → b ≡ true → (a || b) ≡ true
@@ -40,20 +40,20 @@ called_just : (name : List Sign) → IsCalled name → (rest : List Sign) → ca
 called_just _ (one _ (identifier s e)) rest = called_named s rest e
 called_just _ (other _ (sign s e)) rest = called_this s rest e
 
-called_one : (name : List Sign) → IsCalled name → length name ≡ 1
+pub called_one : (name : List Sign) → IsCalled name → length name ≡ 1
 called_one _ (one _ (identifier s e)) = refl
 called_one _ (other _ (sign s e)) = refl
 
 -- what a name or `this` at the front is not
-record CalledFront (ss : List Sign) : Type 0 where
-  no_angle : begins (codes "<") ss ≡ false
-  no_dot : begins (codes ".") ss ≡ false
-  no_square : begins (codes "[") ss ≡ false
+pub record CalledFront (ss : List Sign) : Type 0 where
+  pub no_angle : begins (codes "<") ss ≡ false
+  pub no_dot : begins (codes ".") ss ≡ false
+  pub no_square : begins (codes "[") ss ≡ false
 
 this_differs : (a : ℕ) (w : List ℕ) → w ≡ a ∷ [] → w ≢ codes "this"
 this_differs a w e h = let l : 1 ≡ 4 = ap length (sym e ∙ h) in absurd (omega (arith, l))
 
-called_front : (name : List Sign) → IsCalled name → (rest : List Sign) → NamesAreIdentifiers (name ++ rest) → CalledFront (name ++ rest)
+pub called_front : (name : List Sign) → IsCalled name → (rest : List Sign) → NamesAreIdentifiers (name ++ rest) → CalledFront (name ++ rest)
 called_front _ (one _ (identifier s e)) rest f =
     let n = first_named s rest f in
     record {
@@ -77,11 +77,11 @@ three_dots : (a b c : Sign) (ss : List Sign) → is (codes ".") a ≡ true → i
 unfolding dots_len begins
 three_dots a b c ss e f g = rw (e, f, g) refl
 
-dots_just : (dots : List Sign) → IsOptional IsDots dots → (rest : List Sign) → CalledFront rest → dots_len (dots ++ rest) ≡ length dots
+pub dots_just : (dots : List Sign) → IsOptional IsDots dots → (rest : List Sign) → CalledFront rest → dots_len (dots ++ rest) ≡ length dots
 dots_just _ absent rest h = no_dots rest h.no_dot
 dots_just _ (present _ (both _ _ (sign a e) (both _ _ (sign b f) (sign c g)))) rest h = three_dots a b c rest e f g
 
-dots_end : (dots : List Sign) → IsOptional IsDots dots → (rest : List Sign) → NamesAreIdentifiers (dots ++ rest) → CalledFront rest → TypeEnds (dots ++ rest)
+pub dots_end : (dots : List Sign) → IsOptional IsDots dots → (rest : List Sign) → NamesAreIdentifiers (dots ++ rest) → CalledFront rest → TypeEnds (dots ++ rest)
 dots_end _ absent rest f h = record { no_angle = h.no_angle; no_part = no_name_tail rest h.no_dot; no_dim = no_dim rest h.no_square }
 dots_end _ (present _ (both _ _ (sign a e) (both _ _ (sign b g) (sign c i)))) rest f h =
     let more = b ∷ c ∷ rest in
@@ -93,11 +93,11 @@ dots_end _ (present _ (both _ _ (sign a e) (both _ _ (sign b g) (sign c i)))) re
 
 -- the type
 
-record TypeFront (ss : List Sign) : Type 0 where
-  no_at : begins (codes "@") ss ≡ false
-  no_round : begins (codes "(") ss ≡ false
-  no_dot : begins (codes ".") ss ≡ false
-  no_final : begins (codes "final") ss ≡ false
+pub record TypeFront (ss : List Sign) : Type 0 where
+  pub no_at : begins (codes "@") ss ≡ false
+  pub no_round : begins (codes "(") ss ≡ false
+  pub no_dot : begins (codes ".") ss ≡ false
+  pub no_final : begins (codes "final") ss ≡ false
 
 named_front : (s : Sign) (ss : List Sign) → NamesAreIdentifiers (s ∷ ss) → s.is_name ≡ true → TypeFront (s ∷ ss)
 named_front s ss f e =
@@ -117,7 +117,7 @@ primitive_front s ss e = record {
   no_final = begins_not (codes "final") s ss (primitive_not (codes "final") s no_primitive-final e);
 }
 
-type_front : (ss : List Sign) → IsType ss → (tail : List Sign) → NamesAreIdentifiers (ss ++ tail) → TypeFront (ss ++ tail)
+pub type_front : (ss : List Sign) → IsType ss → (tail : List Sign) → NamesAreIdentifiers (ss ++ tail) → TypeFront (ss ++ tail)
 type_front _ (both _ dims (one _ (primitive s e)) d) tail f = primitive_front s (dims ++ tail) e
 type_front _ (both _ dims (other _ (last _ (both _ arguments (identifier s e) a))) d) tail f = named_front s ((arguments ++ dims) ++ tail) f e
 type_front _ (both _ dims (other _ (followed _ dot others (both _ arguments (identifier s e) a) i c)) d) tail f = named_front s (((arguments ++ (dot ∷ others)) ++ dims) ++ tail) f e
@@ -128,7 +128,7 @@ final_at : (s : Sign) (ss : List Sign) → is (codes "final") s ≡ true → fin
 unfolding final_len begins
 final_at s ss e = rw (e) refl
 
-no_final_len : (ss : List Sign) → begins (codes "final") ss ≡ false → final_len ss ≡ 0
+pub no_final_len : (ss : List Sign) → begins (codes "final") ss ≡ false → final_len ss ≡ 0
 unfolding final_len
 no_final_len ss e = rw (e) refl
 
@@ -152,7 +152,7 @@ final_no_at _ (present _ (sign s e)) rest h = begins_not (codes "@") s rest (is_
 
 -- how a parameter is read
 
-ahead_at : (ss : List Sign) (n : ℕ) → span annotation_len ss ≡ n → ahead_len ss ≡ n + final_len (drop n ss)
+pub ahead_at : (ss : List Sign) (n : ℕ) → span annotation_len ss ≡ n → ahead_len ss ≡ n + final_len (drop n ss)
 unfolding ahead_len
 ahead_at ss n e = ap (λ n. n + final_len (drop n ss)) e
 
@@ -171,7 +171,7 @@ param_at ss a n m e w c =
     let c1 : called_len (drop (wide_len zs) zs) ≡ suc m = ap (λ k. called_len (drop k zs)) w1 ∙ (ap (λ k. called_len (drop (suc n) (drop k ss))) e ∙ c) in
     two_picks (wide_len zs) (called_len (drop (wide_len zs) zs)) (ahead_len ss) n m w1 c1 ∙ ap (λ k. (k + suc n) + suc m) e
 
-wide_just : (kind dots rest : List Sign) → IsType kind → IsOptional IsDots dots → NamesAreIdentifiers (kind ++ (dots ++ rest)) → CalledFront rest → wide_len (kind ++ (dots ++ rest)) ≡ length kind + length dots
+pub wide_just : (kind dots rest : List Sign) → IsType kind → IsOptional IsDots dots → NamesAreIdentifiers (kind ++ (dots ++ rest)) → CalledFront rest → wide_len (kind ++ (dots ++ rest)) ≡ length kind + length dots
 wide_just kind dots rest t d f h =
     let behind = names_behind kind (dots ++ rest) f in
     let size = type_just kind t (dots ++ rest) f (dots_end dots d rest behind h) in
@@ -180,7 +180,7 @@ wide_just kind dots rest t d f h =
     let past : dots_len (drop (suc there.0) all) ≡ dots_len (dots ++ rest) = ap (λ k. dots_len (drop k all)) (sym there.1) ∙ ap dots_len (drop-append_seam kind (dots ++ rest)) in
     omega (arith, wide_at all there.0 (size ∙ there.1), past, dots_just dots d rest h, there.1)
 
-ahead_just : (marks fin rest : List Sign) → IsMany IsAnnotation marks → IsOptional (IsSign (codes "final")) fin → NamesAreIdentifiers (marks ++ (fin ++ rest)) → TypeFront rest → ahead_len (marks ++ (fin ++ rest)) ≡ length marks + length fin
+pub ahead_just : (marks fin rest : List Sign) → IsMany IsAnnotation marks → IsOptional (IsSign (codes "final")) fin → NamesAreIdentifiers (marks ++ (fin ++ rest)) → TypeFront rest → ahead_len (marks ++ (fin ++ rest)) ≡ length marks + length fin
 ahead_just marks fin rest m n f h =
     let all = marks ++ (fin ++ rest) in
     let none = no_annotation (fin ++ rest) (final_no_at fin n rest h) in
@@ -188,10 +188,10 @@ ahead_just marks fin rest m n f h =
     let past : final_len (drop (length marks) all) ≡ final_len (fin ++ rest) = ap final_len (drop-append_seam marks (fin ++ rest)) in
     omega (arith, ahead_at all (length marks) size, past, final_just fin n rest h)
 
-past_two : (a b rest : List Sign) → drop (length a + length b) (a ++ (b ++ rest)) ≡ rest
+pub past_two : (a b rest : List Sign) → drop (length a + length b) (a ++ (b ++ rest)) ≡ rest
 past_two a b rest = drop-append-add a (b ++ rest) (length b) ∙ drop-append_seam b rest
 
-param_reads : (marks fin kind dots name rest : List Sign) → IsMany IsAnnotation marks → IsOptional (IsSign (codes "final")) fin → IsType kind → IsOptional IsDots dots → IsCalled name → NamesAreIdentifiers (marks ++ (fin ++ (kind ++ (dots ++ (name ++ rest))))) → param_len (marks ++ (fin ++ (kind ++ (dots ++ (name ++ rest))))) ≡ ((length marks + length fin) + (length kind + length dots)) + suc (dims_len rest)
+pub param_reads : (marks fin kind dots name rest : List Sign) → IsMany IsAnnotation marks → IsOptional (IsSign (codes "final")) fin → IsType kind → IsOptional IsDots dots → IsCalled name → NamesAreIdentifiers (marks ++ (fin ++ (kind ++ (dots ++ (name ++ rest))))) → param_len (marks ++ (fin ++ (kind ++ (dots ++ (name ++ rest))))) ≡ ((length marks + length fin) + (length kind + length dots)) + suc (dims_len rest)
 param_reads marks fin kind dots name rest m n t d c f =
     let x4 = name ++ rest in
     let x2 = kind ++ (dots ++ x4) in
@@ -208,10 +208,10 @@ param_reads marks fin kind dots name rest m n t d c f =
     let e : called_len (drop (suc there.0) (drop (length marks + length fin) all)) ≡ suc (dims_len rest) = ap called_len behind ∙ called_just name c rest in
     param_at all (length marks + length fin) there.0 (dims_len rest) ahead w e ∙ ap (λ k. ((length marks + length fin) + k) + suc (dims_len rest)) (sym there.1)
 
-regroup : (a b c d e g h : List Sign) → (a ++ (b ++ (c ++ (d ++ (e ++ g))))) ++ h ≡ a ++ (b ++ (c ++ (d ++ (e ++ (g ++ h)))))
+pub regroup : (a b c d e g h : List Sign) → (a ++ (b ++ (c ++ (d ++ (e ++ g))))) ++ h ≡ a ++ (b ++ (c ++ (d ++ (e ++ (g ++ h)))))
 regroup a b c d e g h = simp append_assoc
 
-size_of : (a b c d e g : List Sign) → length (a ++ (b ++ (c ++ (d ++ (e ++ g))))) ≡ length a + (length b + (length c + (length d + (length e + length g))))
+pub size_of : (a b c d e g : List Sign) → length (a ++ (b ++ (c ++ (d ++ (e ++ g))))) ≡ length a + (length b + (length c + (length d + (length e + length g))))
 size_of a b c d e g = simp length-append
 
 param_least : (ss : List Sign) → IsParam ss → (tail : List Sign) → NamesAreIdentifiers (ss ++ tail) → length ss ≤ param_len (ss ++ tail)
@@ -220,7 +220,7 @@ param_least _ (both marks _ m (both fin _ n (both kind _ t (both dots _ d (both 
     let g = subst NamesAreIdentifiers same f in
     omega (arith, ap param_len same, param_reads marks fin kind dots name (dims ++ tail) m n t d c g, dims_least dims ds tail, size_of marks fin kind dots name dims, called_one name c)
 
-param_some : (ss : List Sign) → IsParam ss → 0 < length ss
+pub param_some : (ss : List Sign) → IsParam ss → 0 < length ss
 param_some _ (both marks _ m (both fin _ n (both kind _ t (both dots _ d (both name dims c ds))))) =
     omega (arith, size_of marks fin kind dots name dims, called_one name c)
 
@@ -295,7 +295,7 @@ called_within : (ss : List Sign) → called_len ss ≤ length ss
 called_within [] = omega (arith, empty_called)
 called_within (s ∷ ss) = called_within_by s ss s.is_name (is (codes "this") s) refl refl
 
-no_wide : (ss : List Sign) → type_len ss ≡ 0 → wide_len ss ≡ 0
+pub no_wide : (ss : List Sign) → type_len ss ≡ 0 → wide_len ss ≡ 0
 unfolding wide_len
 no_wide ss e = rw (e) refl
 
@@ -325,7 +325,7 @@ kind_at ss = drop (ahead_len ss) ss
 unfoldable called_at : List Sign → List Sign
 called_at ss = drop (wide_len (kind_at ss)) (kind_at ss)
 
-two_if : (w c a : ℕ) → w ≡ 0 → (if w == 0 then 0 else if c == 0 then 0 else (a + w) + c) ≡ 0
+pub two_if : (w c a : ℕ) → w ≡ 0 → (if w == 0 then 0 else if c == 0 then 0 else (a + w) + c) ≡ 0
 two_if w c a e = rw (e) refl
 
 if_zero : (b : Bool) → ◌≡◌ {A = ℕ} (if b then 0 else 0) 0
@@ -359,13 +359,13 @@ param_within_by ss (suc n) e =
     let r = reads ss some in
     omega (arith, r.whole, ahead_within ss, length-drop (ahead_len ss) ss, wide_within_by (kind_at ss) (type_len (kind_at ss)) refl, length-drop (wide_len (kind_at ss)) (kind_at ss), called_within (called_at ss))
 
-param_within : (ss : List Sign) → param_len ss ≤ length ss
+pub param_within : (ss : List Sign) → param_len ss ≤ length ss
 param_within ss = param_within_by ss (param_len ss) refl
 
 glue : (a b c d e : List Sign) → (a ++ b) ++ ((c ++ d) ++ e) ≡ a ++ (b ++ (c ++ (d ++ e)))
 glue a b c d e = simp append_assoc
 
-param_sound : (ss : List Sign) → 0 < param_len ss → IsParam (take (param_len ss) ss)
+pub param_sound : (ss : List Sign) → 0 < param_len ss → IsParam (take (param_len ss) ss)
 unfolding kind_at called_at
 param_sound ss l =
     let r = reads ss l in

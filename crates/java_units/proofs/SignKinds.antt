@@ -80,6 +80,26 @@ pub no_primitive-final : has primitives (codes "final") ≡ false
 unfolding has
 no_primitive-final = refl
 
+pub no_identifier-close : is_identifier (codes ">") ≡ false
+unfolding is_ascii_identifier has reserved
+no_identifier-close = ascii_identifiers (codes ">") refl
+
+pub no_identifier-end : is_identifier (codes ")") ≡ false
+unfolding is_ascii_identifier has reserved
+no_identifier-end = ascii_identifiers (codes ")") refl
+
+pub no_primitive-angle : has primitives (codes "<") ≡ false
+unfolding has
+no_primitive-angle = refl
+
+pub no_primitive-close : has primitives (codes ">") ≡ false
+unfolding has
+no_primitive-close = refl
+
+pub no_primitive-end : has primitives (codes ")") ≡ false
+unfolding has
+no_primitive-end = refl
+
 -- what the front of the signs says
 
 pub begins_not : (w : List ℕ) (s : Sign) (ss : List Sign) → is w s ≡ false → begins w (s ∷ ss) ≡ false

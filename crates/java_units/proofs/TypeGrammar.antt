@@ -88,14 +88,14 @@ parts_on : (part : List Sign) (dot : Sign) (zs : List Sign) → IsPart part → 
 parts_on part dot zs p d n =
     past_part part (dot ∷ zs) (part_just part p (dot ∷ zs) (no_angle dot zs d)) ∙ ap (λ k. length part + k) (span_dot dot zs d n)
 
-class_names : (ss : List Sign) → IsClassType ss → (tail : List Sign) → begins_name (ss ++ tail) ≡ true
+pub class_names : (ss : List Sign) → IsClassType ss → (tail : List Sign) → begins_name (ss ++ tail) ≡ true
 class_names _ (last part p) tail = part_names part p tail
 class_names _ (followed part dot others p d c) tail = ap begins_name (append_assoc part (dot ∷ others) tail) ∙ part_names part p (dot ∷ (others ++ tail))
 
 dotted_len : (part : List Sign) (dot : Sign) (others tail : List Sign) → IsPart part → is (codes ".") dot ≡ true → IsClassType others → parts_len ((part ++ (dot ∷ others)) ++ tail) ≡ length part + suc (parts_len (others ++ tail))
 dotted_len part dot others tail p d c = ap parts_len (append_assoc part (dot ∷ others) tail) ∙ parts_on part dot (others ++ tail) p d (class_names others c tail)
 
-class_least : (ss : List Sign) → IsClassType ss → (tail : List Sign) → length ss ≤ parts_len (ss ++ tail)
+pub class_least : (ss : List Sign) → IsClassType ss → (tail : List Sign) → length ss ≤ parts_len (ss ++ tail)
 unfolding parts_len
 class_least _ (last part p) tail = omega (arith, part_least part p tail)
 class_least _ (followed part dot others p d c) tail =
@@ -243,17 +243,17 @@ not_primitive (s ∷ ss) f e = free_if (has primitives s.text) s refl (not_reser
 
 -- types
 
-base_primitive : (ss : List Sign) → begins_any primitives ss ≡ true → base_len ss ≡ 1
+pub base_primitive : (ss : List Sign) → begins_any primitives ss ≡ true → base_len ss ≡ 1
 unfolding base_len
 base_primitive ss e = rw (e) refl
 
-base_class : (ss : List Sign) → begins_any primitives ss ≡ false → begins_name ss ≡ true → base_len ss ≡ parts_len ss
+pub base_class : (ss : List Sign) → begins_any primitives ss ≡ false → begins_name ss ≡ true → base_len ss ≡ parts_len ss
 unfolding base_len parts_len part_len
 base_class ss e f =
     let one : 1 + angles (drop 1 ss) ≡ suc (angles (drop 1 ss)) = omega arith in
     rw (e, f) (ap (λ n. n + span type_tail (drop n ss)) one)
 
-base_none : (ss : List Sign) → begins_any primitives ss ≡ false → begins_name ss ≡ false → base_len ss ≡ 0
+pub base_none : (ss : List Sign) → begins_any primitives ss ≡ false → begins_name ss ≡ false → base_len ss ≡ 0
 unfolding base_len
 base_none ss e f = rw (e, f) refl
 
@@ -261,28 +261,28 @@ type_at : (ss : List Sign) (m : ℕ) → base_len ss ≡ suc m → type_len ss �
 unfolding type_len
 type_at ss m e = pick (base_len ss) m 0 (base_len ss + dims_len (drop (base_len ss) ss)) (sym e) ∙ ap (λ n. n + dims_len (drop n ss)) e
 
-no_type : (ss : List Sign) → base_len ss ≡ 0 → type_len ss ≡ 0
+pub no_type : (ss : List Sign) → base_len ss ≡ 0 → type_len ss ≡ 0
 unfolding type_len
 no_type ss e = rw (e) refl
 
-primitive_begins : (s : Sign) (ss : List Sign) → has primitives s.text ≡ true → begins_any primitives (s ∷ ss) ≡ true
+pub primitive_begins : (s : Sign) (ss : List Sign) → has primitives s.text ≡ true → begins_any primitives (s ∷ ss) ≡ true
 unfolding begins_any
 primitive_begins s ss e = e
 
-primitive_len : (s : Sign) (ss : List Sign) → has primitives s.text ≡ true → type_len (s ∷ ss) ≡ suc (dims_len ss)
+pub primitive_len : (s : Sign) (ss : List Sign) → has primitives s.text ≡ true → type_len (s ∷ ss) ≡ suc (dims_len ss)
 primitive_len s ss e = omega (arith, type_at (s ∷ ss) 0 (base_primitive (s ∷ ss) (primitive_begins s ss e)))
 
 parts_some : (ss : List Sign) → parts_len ss ≡ suc (angles (drop 1 ss) + span type_tail (drop (part_len ss) ss))
 unfolding parts_len part_len
 parts_some ss = omega arith
 
-class_len : (ss : List Sign) → NamesAreIdentifiers ss → begins_name ss ≡ true → type_len ss ≡ parts_len ss + dims_len (drop (parts_len ss) ss)
+pub class_len : (ss : List Sign) → NamesAreIdentifiers ss → begins_name ss ≡ true → type_len ss ≡ parts_len ss + dims_len (drop (parts_len ss) ss)
 class_len ss f e =
     let some = parts_some ss in
     let m = angles (drop 1 ss) + span type_tail (drop (part_len ss) ss) in
     type_at ss m (base_class ss (not_primitive ss f e) e ∙ some) ∙ ap (λ n. n + dims_len (drop n ss)) (sym some)
 
-bracket_ends : (a b : Sign) (xs : List Sign) → is (codes "[") a ≡ true → begins (codes "<") (a ∷ b ∷ xs) ≡ false
+pub bracket_ends : (a b : Sign) (xs : List Sign) → is (codes "[") a ≡ true → begins (codes "<") (a ∷ b ∷ xs) ≡ false
 unfolding begins
 bracket_ends a b xs e = is_other (codes "<") (codes "[") (differ 60 91 (λ e. absurd (omega arith))) a e
 
@@ -290,7 +290,7 @@ no_dot : (a : Sign) (xs : List Sign) → is (codes ".") a ≡ false → name_tai
 unfolding name_tail begins
 no_dot a xs e = rw (e) refl
 
-bracket_no_dot : (a b : Sign) (xs : List Sign) → is (codes "[") a ≡ true → name_tail (a ∷ b ∷ xs) ≡ 0
+pub bracket_no_dot : (a b : Sign) (xs : List Sign) → is (codes "[") a ≡ true → name_tail (a ∷ b ∷ xs) ≡ 0
 bracket_no_dot a b xs e = no_dot a (b ∷ xs) (is_other (codes ".") (codes "[") (differ 46 91 (λ e. absurd (omega arith))) a e)
 
 -- a class type with its dimensions, behind which the type goes no further than `tail` lets it

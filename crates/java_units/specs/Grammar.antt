@@ -77,6 +77,10 @@ abbrev pub IsParam : List Sign → Type 0
 IsParam ss =
     IsBoth (IsMany IsAnnotation) (IsBoth (IsOptional (IsSign (codes "final"))) (IsBoth IsType (IsBoth (IsOptional IsDots) (IsBoth (IsEither IsIdentifier (IsSign (codes "this"))) IsDims)))) ss
 
+-- Parameters in `( )` with commas between, or none (JLS 8.4.1).
+abbrev pub IsParams : List Sign → Type 0
+IsParams ss = IsBoth (IsSign (codes "(")) (IsBoth (IsOptional (IsList (codes ",") IsParam)) (IsSign (codes ")"))) ss
+
 -- A type variable, and `extends` with its bounds behind it or nothing (JLS 4.4).
 abbrev pub IsVar : List Sign → Type 0
 IsVar ss = IsBoth IsIdentifier (IsOptional (IsBoth (IsSign (codes "extends")) (IsList (codes "&") IsType))) ss

@@ -5,8 +5,8 @@ use Rattle.java_tokens.specs.Tokens.{AreTokensOf}
 use Rattle.java_tokens.specs.declared.token.Token.{Token}
 use Rattle.java_units.specs.Signs.{Sign, signs_of}
 use Rattle.java_units.specs.Identifiers.{is_identifier}
-use Rattle.java_units.specs.Forms.{type_len, param_len, vars_len}
-use Rattle.java_units.specs.Grammar.{IsType, IsParam, IsVars}
+use Rattle.java_units.specs.Forms.{type_len, param_len, params_len, vars_len}
+use Rattle.java_units.specs.Grammar.{IsType, IsParam, IsParams, IsVars}
 
 -- Each sign that counts as an identifier is one by its text.
 abbrev pub NamesAreIdentifiers : List Sign → Type 0
@@ -31,6 +31,10 @@ TypesAreLongest = (ss : List Sign) → NamesAreIdentifiers ss → TakesLongest I
 -- So is the longest parameter.
 abbrev pub ParamsAreLongest : Type 0
 ParamsAreLongest = (ss : List Sign) → NamesAreIdentifiers ss → TakesLongest IsParam param_len ss
+
+-- So are the longest parameters in brackets.
+abbrev pub ParamListsAreLongest : Type 0
+ParamListsAreLongest = (ss : List Sign) → NamesAreIdentifiers ss → TakesLongest IsParams params_len ss
 
 -- And so are type variables.
 abbrev pub VarsAreLongest : Type 0

@@ -1,7 +1,8 @@
 ghost use Rattle.java_units.specs.Brackets.{BracketsMatch};
-ghost use Rattle.java_units.specs.Longest.{TextsHaveNames, TypesAreLongest, ParamsAreLongest, VarsAreLongest};
+ghost use Rattle.java_units.specs.Longest.{TextsHaveNames, TypesAreLongest, ParamsAreLongest, ParamListsAreLongest, VarsAreLongest};
 ghost use Rattle.java_units.specs.Identifiers.{AsciiIdentifiers};
 ghost use Rattle.java_units.specs.Pieces.{PiecesTile};
+ghost use Rattle.java_units.specs.TypeTrees.{TypesAreRead, ParamsAreRead};
 ghost use Rattle.java_units.specs.SameSigns.{OnlySignsCount};
 
 /// The pieces of a body, end to end, are the body.
@@ -32,12 +33,19 @@ pub fn identifier_laws()
     ensures named { TextsHaveNames }
 {}
 
-/// Reading a parameter takes the longest front that the grammar of parameters spells.
+/// Reading a parameter, and parameters in brackets, takes the longest front that the grammar spells.
 pub fn params_are_longest()
-    ensures law { ParamsAreLongest }
+    ensures one { ParamsAreLongest }
+    ensures lists { ParamListsAreLongest }
 {}
 
 /// Reading type variables takes the longest front that the grammar of type variables spells.
 pub fn vars_are_longest()
     ensures law { VarsAreLongest }
+{}
+
+/// What is read of a type and of a parameter is what it says by the grammar: its names, and how many dimensions.
+pub fn types_are_read()
+    ensures types { TypesAreRead }
+    ensures params { ParamsAreRead }
 {}
