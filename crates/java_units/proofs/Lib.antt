@@ -27,4 +27,5 @@ mod VarGrammar
 mod ParamLists
 mod TypeReading
 mod ParamReading
+mod ListReading
 pub mod IdentifierLaws

@@ -79,7 +79,7 @@ list_len len tail ss = len ss + span tail (drop (len ss) ss)
 abbrev pub ReadsTail : List ℕ → (List Sign → ℕ) → (List Sign → ℕ) → Type 0
 ReadsTail between len tail = (ss : List Sign) → tail ss ≡ (if begins between ss then more (len (drop 1 ss)) else 0)
 
-tail_some : (between : List ℕ) (len tail : List Sign → ℕ) → ReadsTail between len tail → (s : Sign) (zs : List Sign) (m : ℕ) → is between s ≡ true → len zs ≡ suc m → tail (s ∷ zs) ≡ suc (suc m)
+pub tail_some : (between : List ℕ) (len tail : List Sign → ℕ) → ReadsTail between len tail → (s : Sign) (zs : List Sign) (m : ℕ) → is between s ≡ true → len zs ≡ suc m → tail (s ∷ zs) ≡ suc (suc m)
 unfolding begins
 tail_some between len tail reads s zs m e h = reads (s ∷ zs) ∙ (rw (e) (more_some (len zs) m h))
 

@@ -16,10 +16,10 @@ use Rattle.java_units.proofs.Annotations.{no_annotation}
 use Rattle.java_units.proofs.ParamGrammar.{first_named, regroup, size_of, called_one, param_reads, param_some, param_sound, param_within, ahead_at, no_final_len, no_wide, two_if}
 
 -- what ends a parameter
-abbrev NoDim : List Sign → Type 0
+abbrev pub NoDim : List Sign → Type 0
 NoDim ss = dim_len ss ≡ 0
 
-param_stops : Stops IsParam param_len NoDim
+pub param_stops : Stops IsParam param_len NoDim
 param_stops _ (both marks _ m (both fin _ n (both kind _ t (both dots _ d (both name dims c ds))))) tail f h =
     let same = regroup marks fin kind dots name dims tail in
     let g = subst NamesAreIdentifiers same f in
@@ -28,10 +28,10 @@ param_stops _ (both marks _ m (both fin _ n (both kind _ t (both dots _ d (both 
 one_ends : (a : ℕ) → 91 ≢ a → (s : Sign) (ss : List Sign) → is (a ∷ []) s ≡ true → NoDim (s ∷ ss)
 one_ends a d s ss e = no_dim (s ∷ ss) (begins_not (codes "[") s ss (is_other (codes "[") (a ∷ []) (differ 91 a d) s e))
 
-comma_ends : (s : Sign) (ss : List Sign) → is (codes ",") s ≡ true → NoDim (s ∷ ss)
+pub comma_ends : (s : Sign) (ss : List Sign) → is (codes ",") s ≡ true → NoDim (s ∷ ss)
 comma_ends s ss e = one_ends 44 (λ e. absurd (omega arith)) s ss e
 
-close_ends : (s : Sign) (ss : List Sign) → is (codes ")") s ≡ true → NoDim (s ∷ ss)
+pub close_ends : (s : Sign) (ss : List Sign) → is (codes ")") s ≡ true → NoDim (s ∷ ss)
 close_ends s ss e = one_ends 41 (λ e. absurd (omega arith)) s ss e
 
 reads_next : ReadsTail (codes ",") param_len (next_len entry.Param)
@@ -45,13 +45,13 @@ entries_at : (ss : List Sign) (m : ℕ) → param_len ss ≡ suc m → entries_l
 unfolding entries_len list_of list_len
 entries_at ss m e = pick (param_len ss) m 0 (param_len ss + span (next_len entry.Param) (drop (param_len ss) ss)) (sym e)
 
-no_entries : (ss : List Sign) → param_len ss ≡ 0 → entries_len entry.Param ss ≡ 0
+pub no_entries : (ss : List Sign) → param_len ss ≡ 0 → entries_len entry.Param ss ≡ 0
 unfolding entries_len
 no_entries ss e = rw (e) refl
 
 -- no parameter begins with the closing bracket
 
-other_word : (w : List ℕ) (s : Sign) (ss : List Sign) → w ≢ codes ")" → is (codes ")") s ≡ true → begins w (s ∷ ss) ≡ false
+pub other_word : (w : List ℕ) (s : Sign) (ss : List Sign) → w ≢ codes ")" → is (codes ")") s ≡ true → begins w (s ∷ ss) ≡ false
 other_word w s ss d e = begins_not w s ss (is_other w (codes ")") d s e)
 
 no_kind_if : (b : Bool) (s : Sign) → has primitives s.text ≡ b → is (codes ")") s ≡ true → b ≡ false
@@ -69,7 +69,7 @@ no_name s ss f e = unnamed (codes ")") s no_identifier-end f e
 final_differs : codes "final" ≢ codes ")"
 final_differs h = let l : 5 ≡ 1 = ap length h in absurd (omega (arith, l))
 
-no_param : (s : Sign) (ss : List Sign) → IsNamed s → is (codes ")") s ≡ true → param_len (s ∷ ss) ≡ 0
+pub no_param : (s : Sign) (ss : List Sign) → IsNamed s → is (codes ")") s ≡ true → param_len (s ∷ ss) ≡ 0
 unfolding param_len
 no_param s ss f e =
     let all = s ∷ ss in
@@ -111,7 +111,7 @@ no_params : (ss : List Sign) → begins (codes "(") ss ≡ false → params_len 
 unfolding params_len
 no_params ss e = rw (e) refl
 
-params_least : (ss : List Sign) → IsParams ss → (tail : List Sign) → NamesAreIdentifiers (ss ++ tail) → length ss ≤ params_len (ss ++ tail)
+pub params_least : (ss : List Sign) → IsParams ss → (tail : List Sign) → NamesAreIdentifiers (ss ++ tail) → length ss ≤ params_len (ss ++ tail)
 params_least _ (both _ _ (sign s e) (both list _ v (sign t g))) tail f =
     let same = append_assoc list (t ∷ []) tail in
     let behind = subst NamesAreIdentifiers same (names_behind (s ∷ []) ((list ++ (t ∷ [])) ++ tail) f) in
@@ -120,7 +120,7 @@ params_least _ (both _ _ (sign s e) (both list _ v (sign t g))) tail f =
     let shuts : begins (codes ")") (drop (entries_len entry.Param zs) zs) ≡ true = ap (λ k. begins (codes ")") (drop k zs)) size ∙ (ap (begins (codes ")")) (drop-append_seam list (t ∷ tail)) ∙ begins_so (codes ")") t tail g) in
     omega (arith, ap (λ xs. params_len (s ∷ xs)) same, params_at s zs e shuts, size, length-append list (t ∷ []))
 
-params_some : (ss : List Sign) → IsParams ss → 0 < length ss
+pub params_some : (ss : List Sign) → IsParams ss → 0 < length ss
 params_some _ (both _ _ (sign s e) (both list _ v (sign t g))) = omega arith
 
 entries_by : (ss : List Sign) (n : ℕ) → param_len ss ≡ n → IsOptional (IsList (codes ",") IsParam) (take (entries_len entry.Param ss) ss)

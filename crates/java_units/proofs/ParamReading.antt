@@ -9,7 +9,7 @@ use Rattle.java_units.specs.Forms.{ahead_len, type_len, dots_len, wide_len, dims
 use Rattle.java_units.specs.Values.{first_text, type_text, typed_param, param_of}
 use Rattle.java_units.specs.Grammar.{sign, both, one, other, IsOptional, absent, present, identifier, IsType, IsDots, IsParam}
 use Rattle.java_units.specs.Longest.{NamesAreIdentifiers}
-use Rattle.java_units.specs.TypeTrees.{dims_in, type_in, wider, called_text, dots_in, param_in, ParamsAreRead}
+use Rattle.java_units.specs.Trees.{dims_in, type_in, wider, called_text, dots_in, param_in, ParamsAreRead}
 use Rattle.java_units.proofs.TypeGrammar.{type_just}
 use Rattle.java_units.proofs.ListGrammar.{names_behind}
 use Rattle.java_units.proofs.TypeReading.{type_read, dims_length}
@@ -48,7 +48,7 @@ typed_read kind dots name rest t d c count f size =
     let text = ap (λ k. type_text k x2) more ∙ type_read (dots_in dots d + count) kind t x3 f kinds in
     same_param (first_text (drop (wide_len x2) x2)) (called_text name c) (type_text (dots_len (drop (type_len x2) x2) / 3 + dims_len (drop 1 (drop (wide_len x2) x2)) / 2) x2) (wider (dots_in dots d + count) (type_in kind t)) called text
 
-param_read : (ss : List Sign) (p : IsParam ss) (tail : List Sign) → NamesAreIdentifiers (ss ++ tail) → param_len (ss ++ tail) ≡ length ss → param_of (ss ++ tail) ≡ param_in ss p
+pub param_read : (ss : List Sign) (p : IsParam ss) (tail : List Sign) → NamesAreIdentifiers (ss ++ tail) → param_len (ss ++ tail) ≡ length ss → param_of (ss ++ tail) ≡ param_in ss p
 unfolding param_of
 param_read _ (both marks _ m (both fin _ n (both kind _ t (both dots _ d (both name dims c ds))))) tail f size =
     let same = regroup marks fin kind dots name dims tail in

@@ -10,8 +10,8 @@ use Rattle.java_units.specs.Values.{angled, takes, parts_of, type_text}
 use Rattle.java_units.specs.Identifiers.{is_identifier}
 use Rattle.java_units.specs.Grammar.{sign, both, one, other, absent, present, no_more, one_more, last, followed, IsGroup, identifier, primitive, IsPart, IsClassType, IsDims, IsType}
 use Rattle.java_units.specs.Longest.{NamesAreIdentifiers}
-use Rattle.java_units.specs.TypeTrees as trees
-use Rattle.java_units.specs.TypeTrees.{dims_in, type_in, wider, TypesAreRead}
+use Rattle.java_units.specs.Trees as trees
+use Rattle.java_units.specs.Trees.{dims_in, type_in, wider, TypesAreRead}
 use Rattle.java_units.proofs.BracketLaws.{Closed, nothing_closes, past_right, past_left, past_other, shut, count_yes, count_no, count_none}
 use Rattle.java_units.proofs.Groups.{is_other, differ}
 use Rattle.java_units.proofs.TypeGrammar.{parts_len, class_names, class_len, class_least, class_just, bracket_ends, bracket_no_dot, base_class, base_primitive, primitive_begins, primitive_len, not_primitive, type_within}
@@ -202,7 +202,7 @@ type_read extra _ (both name dims (other _ c) d) tail f size =
     let same = append_assoc name dims tail in
     ap (type_text extra) same ∙ class_type_read extra name dims tail c d (subst NamesAreIdentifiers same f) (sym (ap type_len same) ∙ (size ∙ length-append name dims))
 
-no_wider : (t : TypeText) → wider 0 t ≡ t
+pub no_wider : (t : TypeText) → wider 0 t ≡ t
 no_wider t = let e : t.dims + 0 ≡ t.dims = omega arith in ap {B = TypeText} (λ d. record t { dims = d }) e
 
 pub types_are_read : TypesAreRead

@@ -15,7 +15,7 @@ use Rattle.java_units.proofs.SignKinds.{begins_not, begins_so, no_name_tail, no_
 
 -- bounds
 
-abbrev IsBounds : List Sign → Type 0
+abbrev pub IsBounds : List Sign → Type 0
 IsBounds ss = IsBoth (IsSign (codes "extends")) (IsList (codes "&") IsType) ss
 
 reads_bound : ReadsTail (codes "&") type_len bound_len
@@ -32,7 +32,7 @@ bounds_at s zs m e h =
     let past : (1 + type_len zs) + span bound_len (drop (1 + type_len zs) (s ∷ zs)) ≡ suc (type_len zs) + span bound_len (drop (type_len zs) zs) = ap (λ k. k + span bound_len (drop k (s ∷ zs))) one in
     rw (e) (pick (type_len zs) m 0 ((1 + type_len zs) + span bound_len (drop (1 + type_len zs) (s ∷ zs))) (sym h) ∙ (past ∙ omega arith))
 
-no_bounds : (ss : List Sign) → begins (codes "extends") ss ≡ false → bounds_len ss ≡ 0
+pub no_bounds : (ss : List Sign) → begins (codes "extends") ss ≡ false → bounds_len ss ≡ 0
 unfolding bounds_len
 no_bounds ss e = rw (e) refl
 
@@ -42,25 +42,25 @@ boundless s zs true e h = rw (e, h) refl
 boundless s zs false e h = rw (e) refl
 
 -- what ends a type variable
-record VarEnds (tail : List Sign) : Type 0 where
-  kind : TypeEnds tail
-  no_and : begins (codes "&") tail ≡ false
-  no_extends : begins (codes "extends") tail ≡ false
+pub record VarEnds (tail : List Sign) : Type 0 where
+  pub kind : TypeEnds tail
+  pub no_and : begins (codes "&") tail ≡ false
+  pub no_extends : begins (codes "extends") tail ≡ false
 
 -- a sign of one character that goes on with no type
-record IsApart (a : ℕ) : Type 0 where
+pub record IsApart (a : ℕ) : Type 0 where
   angle : 60 ≢ a
   dot : 46 ≢ a
   square : 91 ≢ a
 
-type_ends : (a : ℕ) → IsApart a → (s : Sign) (ss : List Sign) → is (a ∷ []) s ≡ true → TypeEnds (s ∷ ss)
+pub type_ends : (a : ℕ) → IsApart a → (s : Sign) (ss : List Sign) → is (a ∷ []) s ≡ true → TypeEnds (s ∷ ss)
 type_ends a d s ss e = record {
   no_angle = begins_not (codes "<") s ss (is_other (codes "<") (a ∷ []) (differ 60 a d.angle) s e);
   no_part = no_name_tail (s ∷ ss) (begins_not (codes ".") s ss (is_other (codes ".") (a ∷ []) (differ 46 a d.dot) s e));
   no_dim = no_dim (s ∷ ss) (begins_not (codes "[") s ss (is_other (codes "[") (a ∷ []) (differ 91 a d.square) s e));
 }
 
-and_ends : (s : Sign) (ss : List Sign) → is (codes "&") s ≡ true → TypeEnds (s ∷ ss)
+pub and_ends : (s : Sign) (ss : List Sign) → is (codes "&") s ≡ true → TypeEnds (s ∷ ss)
 and_ends s ss e =
     let d : IsApart 38 = record { angle = λ e. absurd (omega arith); dot = λ e. absurd (omega arith); square = λ e. absurd (omega arith) } in
     type_ends 38 d s ss e
@@ -75,12 +75,12 @@ var_ends a d n s ss e = record {
   no_extends = begins_not (codes "extends") s ss (is_other (codes "extends") (a ∷ []) (extends_differs a) s e);
 }
 
-comma_ends : (s : Sign) (ss : List Sign) → is (codes ",") s ≡ true → VarEnds (s ∷ ss)
+pub comma_ends : (s : Sign) (ss : List Sign) → is (codes ",") s ≡ true → VarEnds (s ∷ ss)
 comma_ends s ss e =
     let d : IsApart 44 = record { angle = λ e. absurd (omega arith); dot = λ e. absurd (omega arith); square = λ e. absurd (omega arith) } in
     var_ends 44 d (λ e. absurd (omega arith)) s ss e
 
-close_ends : (s : Sign) (ss : List Sign) → is (codes ">") s ≡ true → VarEnds (s ∷ ss)
+pub close_ends : (s : Sign) (ss : List Sign) → is (codes ">") s ≡ true → VarEnds (s ∷ ss)
 close_ends s ss e =
     let d : IsApart 62 = record { angle = λ e. absurd (omega arith); dot = λ e. absurd (omega arith); square = λ e. absurd (omega arith) } in
     var_ends 62 d (λ e. absurd (omega arith)) s ss e
@@ -90,7 +90,7 @@ unfolding types_len
 types_just ss t tail f h =
     list_just (codes "&") IsType TypeEnds type_len bound_len reads_bound type_just type_some and_ends ss t tail f h.kind (tail_none (codes "&") type_len bound_len reads_bound tail h.no_and)
 
-optional_bounds : (ss : List Sign) → IsOptional IsBounds ss → (tail : List Sign) → NamesAreIdentifiers (ss ++ tail) → VarEnds tail → bounds_len (ss ++ tail) ≡ length ss
+pub optional_bounds : (ss : List Sign) → IsOptional IsBounds ss → (tail : List Sign) → NamesAreIdentifiers (ss ++ tail) → VarEnds tail → bounds_len (ss ++ tail) ≡ length ss
 optional_bounds _ absent tail f h = no_bounds tail h.no_extends
 optional_bounds _ (present _ (both _ types (sign s e) t)) tail f h =
     let behind = names_behind (s ∷ []) (types ++ tail) f in
@@ -137,11 +137,11 @@ no_var : (ss : List Sign) → begins_name ss ≡ false → var_len ss ≡ 0
 unfolding var_len
 no_var ss e = rw (e) refl
 
-var_stops : Stops IsVar var_len VarEnds
+pub var_stops : Stops IsVar var_len VarEnds
 var_stops _ (both _ bounds (identifier s e) b) tail f h =
     var_at s (bounds ++ tail) e ∙ ap suc (optional_bounds bounds b tail (names_behind (s ∷ []) (bounds ++ tail) f) h)
 
-var_some : (ss : List Sign) → IsVar ss → 0 < length ss
+pub var_some : (ss : List Sign) → IsVar ss → 0 < length ss
 var_some _ (both _ bounds (identifier s e) b) = omega arith
 
 var_by : (s : Sign) (zs : List Sign) (b : Bool) → s.is_name ≡ b → 0 < var_len (s ∷ zs) → IsVar (take (var_len (s ∷ zs)) (s ∷ zs))
@@ -166,7 +166,7 @@ var_within (s ∷ zs) = var_within_by s zs s.is_name refl
 
 -- type variables with commas between
 
-reads_next : ReadsTail (codes ",") var_len (next_len entry.Var)
+pub reads_next : ReadsTail (codes ",") var_len (next_len entry.Var)
 unfolding next_len
 reads_next ss = refl
 
@@ -181,7 +181,7 @@ no_entries : (ss : List Sign) → var_len ss ≡ 0 → entries_len entry.Var ss 
 unfolding entries_len
 no_entries ss e = rw (e) refl
 
-no_comma : (s : Sign) (ss : List Sign) → is (codes ">") s ≡ true → begins (codes ",") (s ∷ ss) ≡ false
+pub no_comma : (s : Sign) (ss : List Sign) → is (codes ">") s ≡ true → begins (codes ",") (s ∷ ss) ≡ false
 no_comma s ss e = begins_not (codes ",") s ss (is_other (codes ",") (codes ">") (differ 44 62 (λ e. absurd (omega arith))) s e)
 
 list_reads : (ss : List Sign) → IsList (codes ",") IsVar ss → (s : Sign) (tail : List Sign) → is (codes ">") s ≡ true → NamesAreIdentifiers (ss ++ (s ∷ tail)) → entries_len entry.Var (ss ++ (s ∷ tail)) ≡ length ss
@@ -199,7 +199,7 @@ vars_at s zs m e h g =
     let last : (if begins (codes ">") (drop (1 + entries_len entry.Var zs) (s ∷ zs)) then (1 + entries_len entry.Var zs) + 1 else 0) ≡ (suc (suc m)) + 1 = ap (λ k. if begins (codes ">") (drop k (s ∷ zs)) then k + 1 else 0) one ∙ ap {B = ℕ} (λ b. if b then suc (suc m) + 1 else 0) g in
     rw (e) (pick (entries_len entry.Var zs) m 0 (if begins (codes ">") (drop (1 + entries_len entry.Var zs) (s ∷ zs)) then (1 + entries_len entry.Var zs) + 1 else 0) (sym h) ∙ (last ∙ omega arith))
 
-vars_least : (ss : List Sign) → IsVars ss → (tail : List Sign) → NamesAreIdentifiers (ss ++ tail) → length ss ≤ vars_len (ss ++ tail)
+pub vars_least : (ss : List Sign) → IsVars ss → (tail : List Sign) → NamesAreIdentifiers (ss ++ tail) → length ss ≤ vars_len (ss ++ tail)
 vars_least _ (both _ _ (sign s e) (both list _ v (sign t g))) tail f =
     let same = append_assoc list (t ∷ []) tail in
     let behind = subst NamesAreIdentifiers same (names_behind (s ∷ []) ((list ++ (t ∷ [])) ++ tail) f) in
@@ -209,7 +209,7 @@ vars_least _ (both _ _ (sign s e) (both list _ v (sign t g))) tail f =
     let shut : begins (codes ">") (drop (suc there.0) zs) ≡ true = ap (λ k. begins (codes ">") (drop k zs)) (sym there.1) ∙ (ap (begins (codes ">")) (drop-append_seam list (t ∷ tail)) ∙ begins_so (codes ">") t tail g) in
     omega (arith, ap (λ xs. vars_len (s ∷ xs)) same, vars_at s zs there.0 e (size ∙ there.1) shut, there.1, length-append list (t ∷ []))
 
-vars_some : (ss : List Sign) → IsVars ss → 0 < length ss
+pub vars_some : (ss : List Sign) → IsVars ss → 0 < length ss
 vars_some _ (both _ _ (sign s e) (both list _ v (sign t g))) = omega arith
 
 no_vars : (ss : List Sign) → begins (codes "<") ss ≡ false → vars_len ss ≡ 0

@@ -13,4 +13,4 @@ pub mod SameSigns
 pub mod Brackets
 pub mod Grammar
 pub mod Longest
-pub mod TypeTrees
+pub mod Trees

@@ -2,7 +2,7 @@ ghost use Rattle.java_units.specs.Brackets.{BracketsMatch};
 ghost use Rattle.java_units.specs.Longest.{TextsHaveNames, TypesAreLongest, ParamsAreLongest, ParamListsAreLongest, VarsAreLongest};
 ghost use Rattle.java_units.specs.Identifiers.{AsciiIdentifiers};
 ghost use Rattle.java_units.specs.Pieces.{PiecesTile};
-ghost use Rattle.java_units.specs.TypeTrees.{TypesAreRead, ParamsAreRead};
+ghost use Rattle.java_units.specs.Trees.{TypesAreRead, ParamsAreRead, VarsAreRead, ParamListsAreRead};
 ghost use Rattle.java_units.specs.SameSigns.{OnlySignsCount};
 
 /// The pieces of a body, end to end, are the body.
@@ -44,8 +44,10 @@ pub fn vars_are_longest()
     ensures law { VarsAreLongest }
 {}
 
-/// What is read of a type and of a parameter is what it says by the grammar: its names, and how many dimensions.
-pub fn types_are_read()
+/// What is read of types, parameters and type variables is what they say by the grammar: names, dimensions, bounds.
+pub fn forms_are_read()
     ensures types { TypesAreRead }
     ensures params { ParamsAreRead }
+    ensures vars { VarsAreRead }
+    ensures lists { ParamListsAreRead }
 {}

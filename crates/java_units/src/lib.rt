@@ -23,8 +23,8 @@ mod values;
 mod words;
 
 pub use laws::{
-    brackets_match, identifier_laws, only_signs_count, params_are_longest, pieces_tile,
-    types_are_longest, types_are_read, vars_are_longest,
+    brackets_match, forms_are_read, identifier_laws, only_signs_count, params_are_longest,
+    pieces_tile, types_are_longest, vars_are_longest,
 };
 pub use types::{
     ClassKind, Import, Param, SourceClass, SourceField, SourceMethod, TypeText, TypeVar, Unit,
