@@ -10,3 +10,4 @@ pub mod Wanted
 pub mod Places
 pub mod Methods
 pub mod Sites
+pub mod SiteLaws

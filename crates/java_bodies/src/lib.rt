@@ -9,6 +9,7 @@ mod blocks;
 mod body;
 mod headers;
 mod kept;
+mod laws;
 mod mark;
 mod methods;
 mod names;
@@ -20,6 +21,7 @@ mod statements;
 mod variables;
 mod wanted;
 
+pub use laws::{names_stand_once, prefix_ends_at_place};
 pub use site::{HoleSite, Local, hole_at};
 
 #[cfg(test)]
