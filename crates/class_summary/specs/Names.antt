@@ -1,5 +1,5 @@
 -- What the name of a type denotes in a source text (JLS 4.6, 6.4.1, 6.5.5).
-use Rattle.std.specs.Prelude.{◌≡◌, ℕ, zero, suc, ◌-◌, ◌&&◌, ◌||◌, ◌==◌, not, if◌then◌else◌, Bool, true, false, List, [], ◌∷◌, ◌++◌, length, slice_get, codes, bytes_eq, Option, Some, None, unwrap_or}
+use Rattle.std.specs.Prelude.{ℕ, zero, suc, ◌-◌, ◌&&◌, ◌||◌, ◌==◌, not, if◌then◌else◌, Bool, true, false, List, [], ◌∷◌, ◌++◌, length, slice_get, codes, bytes_eq, Option, Some, None, unwrap_or}
 use Rattle.std.specs.Option.{option_or}
 use Rattle.type_names.specs.declared.kinds.Base.{Base}
 use Rattle.type_names.specs.declared.kinds.Base.TheVariants.{Byte, Char, Double, Float, Int, Long, Short, Boolean, Class}
@@ -13,7 +13,6 @@ use Rattle.known_classes.specs.Nested.{same_text, nested_class}
 use Rattle.class_summary.specs.Sources.{followed, joined, name_at, around, internal_name, canonical_name}
 use Rattle.class_summary.specs.Variables.{End, end_of, scopes_at}
 use Rattle.known_classes.specs.declared.summary.ClassSummary.{ClassSummary}
-use Rattle.known_classes.specs.declared.summary.Nesting.{Nesting}
 use Rattle.class_summary.specs.declared.rules.Denoted.{Denoted}
 use Rattle.class_summary.specs.declared.rules.Denoted.TheVariants.{Own, Other}
 

@@ -9,7 +9,7 @@ use crate::rules::{Denoted, class_with, internal_of, is, joined_with, simple_cla
 use crate::unit_names::UnitNames;
 use crate::variables::{end_of, scopes_at};
 use java_units::TypeText;
-use known_classes::{Classes, canonical};
+use known_classes::{Classes, canonical_named};
 use lists::{Copies, Text};
 use std::alloc::{AllocError, Global};
 use type_names::{Base, Erased};
@@ -25,7 +25,7 @@ fn canonical_of<C: Classes>(
 {
     match class {
         Denoted::Own(i) => canonical_name(alloc, unit.unit(), *i),
-        Denoted::Other(name) => canonical(alloc, known, name),
+        Denoted::Other(name) => canonical_named(alloc, known, name),
     }
 }
 

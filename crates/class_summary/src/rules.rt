@@ -7,7 +7,7 @@ ghost use Rattle.class_summary.specs.Names.{internal_of, class_with, same_number
 use crate::paths::{around, joined};
 use crate::unit_names::UnitNames;
 use java_units::{Import, SourceClass};
-use known_classes::{Classes, nested_class, same};
+use known_classes::{Classes, same};
 use lists::{Copies, Items, Text, at, copy_all};
 use std::alloc::{AllocError, Global};
 
@@ -196,7 +196,7 @@ fn nested_below<C: Classes>(
     ensures { IfOk result (λ found. found ≡ nested_below unit.now (C.listed known.now) name.now (Some class.now)) }
 {
     let outer = internal_of(alloc, unit, class)?;
-    let Some(place) = nested_class(known, &outer, name) else {
+    let Some(place) = known.nested(outer.as_str(), name.as_str()) else {
         return Ok(None);
     };
     Ok(Some(Denoted::Other(known.at(place).name.copy(alloc)?)))

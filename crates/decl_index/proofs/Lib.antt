@@ -4,7 +4,6 @@ pub mod Places
 pub mod State
 pub mod Cycles
 pub mod RowLemmas
-pub mod Texts
 pub mod CountLemmas
 pub mod Results
 pub mod Searches

@@ -1,13 +1,13 @@
 -- The places of classes in an index.
-use Rattle.std.specs.Prelude.{◌≡◌, ◌≢◌, ◌≤◌, ℕ, suc, Bool, false, if◌then◌else◌, List, [], ◌∷◌, length, map, take, drop, bytes_eq, option_map, Option, Some, None}
+use Rattle.std.specs.Prelude.{◌≡◌, ◌≢◌, ◌≤◌, ℕ, Bool, false, List, [], ◌∷◌, length, map, take, drop, bytes_eq, Option, Some, None}
 use Rattle.std.specs.declared.cmp.Ordering.TheVariants.{Less}
 use Rattle.std.specs.List.{AllByRecursion}
-use Rattle.std.specs.Prelude.{Vec, String, string_bytes}
-use Rattle.std.specs.BTreeMap.{BTreeMap, get_by}
-use Rattle.std.specs.Cmp.Lexicographic.{slice_cmp}
-use Rattle.std.specs.Ordering.{nat_cmp}
+use Rattle.std.specs.Prelude.{String, string_bytes}
+use Rattle.std.specs.BTreeMap.{BTreeMap}
 use Rattle.known_classes.specs.declared.summary.ClassSummary.{ClassSummary}
-use Rattle.known_classes.specs.Known.{class_named, canonical}
+use Rattle.known_classes.specs.Known.{class_named}
+use Rattle.known_classes.specs.NameTables.{AreNameTables, table_of}
+use Rattle.known_classes.specs.declared.name_tables.NameTables.{NameTables}
 use Rattle.decl_index.specs.History.{Name, order, Rises, Edit, decided}
 
 -- So many classes have lesser names than n.
@@ -31,18 +31,10 @@ abbrev pub heads : Name → List ClassSummary → Bool
 heads n [] = false
 heads n (c ∷ cs) = bytes_eq n c.name
 
--- The first place of a name among names.
-unfoldable pub place_among : List Name → Name → Option ℕ
-place_among [] n = None
-place_among (m ∷ ms) n = if bytes_eq m n then Some 0 else option_map suc (place_among ms n)
-
--- The canonical names of the classes, in their order.
-abbrev pub canonical_names : List ClassSummary → List Name
-canonical_names cs = map (λ c. canonical cs c.name) cs
-
--- The place that a map has for a text.
-abbrev pub called_place : {Y : Type 0} → BTreeMap (Vec ℕ Y) ℕ → Name → Option ℕ
-called_place places text = get_by (λ k. slice_cmp nat_cmp text k.items) places
+-- The tables are those of all these classes.
+pub record AreNamesOf (cs : List ClassSummary) (names : NameTables) : Type 0 where
+  pub tables : AreNameTables cs (table_of names)
+  pub whole : names.from ≡ 0
 
 -- The pairs of a map from keys to counts.
 abbrev pub count_pairs : {Y : Type 0} → BTreeMap (String Y) ℕ → List (Name × ℕ)

@@ -6,14 +6,14 @@ ghost use Rattle.decl_index.specs.History.{IsState, use_of};
 ghost use Rattle.decl_index.specs.Refusals.{RefusesFor, IsTooHigh};
 ghost use Rattle.decl_index.specs.Steps.{IsPublished, IsPublishFault, IsWithdrawn};
 
-use crate::called::{Called, called_after};
 use crate::change::{Change, ChangeFault};
 use crate::checks::check;
+use crate::class_names::{Sorted, names_after};
 use crate::counts::{Counts, with_counts};
 use crate::merging::{put_all, take_all};
 use crate::table::{Shared, find, share};
-use known_classes::{ClassSummary, Classes};
-use lists::Text;
+use known_classes::{ClassSummary, Classes, NameTables};
+use lists::{Items, Text};
 use std::alloc::{AllocError, Global};
 use std::collections::BTreeMap;
 use std::marker::Model;
@@ -25,22 +25,22 @@ use std::sync::Arc;
 pub struct Index {
     classes: Vec<Shared>,
     counts: Arc<Counts, Global>,
-    called: Arc<Called, Global>,
+    names: Arc<NameTables, Global>,
     number: u32,
 }
 
 impl Model for Index {
     ghost use Rattle.std.specs.Prelude.{◌≡◌, List, ℕ, map};
     ghost use Rattle.std.specs.Arc.{arc_value};
-    ghost use Rattle.decl_index.specs.History.{State, Name, Rises};
-    ghost use Rattle.decl_index.specs.Places.{called_place, place_among, canonical_names, count_pairs};
+    ghost use Rattle.decl_index.specs.History.{State, Rises};
+    ghost use Rattle.decl_index.specs.Places.{AreNamesOf, count_pairs};
     ghost use Rattle.decl_index.specs.Changed.{IsFree};
 
     ghost Value = { State };
 
     ghost view = { λ i. record { classes = map arc_value i.classes.items; counts = count_pairs (arc_value i.counts); number = i.number } };
 
-    ghost invariant = { λ i. Rises (map arc_value i.classes.items) × ((text : Name) → called_place (arc_value i.called) text ≡ place_among (canonical_names (map arc_value i.classes.items)) text) × IsFree (map arc_value i.classes.items) };
+    ghost invariant = { λ i. Rises (map arc_value i.classes.items) × AreNamesOf (map arc_value i.classes.items) (arc_value i.names) × IsFree (map arc_value i.classes.items) };
 }
 
 impl Index {
@@ -48,10 +48,12 @@ impl Index {
     pub fn empty(alloc: Global) -> Result<Index, AllocError>
         ensures state { IfOk result (λ index. IsState [] index) }
     {
+        let classes = Vec::new(alloc);
+        let names = NameTables::new(alloc, &Sorted::of(&classes), 0, Items::new(alloc))?;
         Ok(Index {
-            classes: Vec::new(alloc),
+            classes,
             counts: Arc::new(alloc, BTreeMap::new(alloc)).map_err(|_| AllocError)?,
-            called: Arc::new(alloc, BTreeMap::new(alloc)).map_err(|_| AllocError)?,
+            names: Arc::new(alloc, names).map_err(|_| AllocError)?,
             number: 0,
         })
     }
@@ -86,11 +88,19 @@ impl Index {
         take_all(alloc, &mut classes, removes)?;
         put_all(alloc, &mut classes, puts)?;
         check(alloc, &self.classes, &classes, removes, puts)?;
-        let called = called_after(alloc, &self.called, &self.classes, &classes, removes, puts)?;
+        let names = names_after(
+            alloc,
+            self,
+            &self.names,
+            &self.classes,
+            &classes,
+            removes,
+            puts,
+        )?;
         Ok(Index {
             classes,
             counts: with_counts(alloc, &self.counts, counts)?,
-            called,
+            names,
             number: self.number + 1,
         })
     }
@@ -107,7 +117,7 @@ impl Index {
         Ok(Index {
             classes: share(alloc, &self.classes)?,
             counts: Arc::try_clone(&self.counts)?,
-            called: Arc::try_clone(&self.called)?,
+            names: Arc::try_clone(&self.names)?,
             number: 1 + self.number,
         })
     }
@@ -153,6 +163,21 @@ impl Classes for Index {
     }
 
     fn by_canonical(&self, dotted: &str) -> Option<usize> {
-        self.called.get(dotted.as_bytes()).copied()
+        self.names.place(dotted)
+    }
+
+    fn canonical_name(&self, place: usize) -> &str {
+        match self.names.text(place) {
+            Some(text) => text.as_str(),
+            None => "",
+        }
+    }
+
+    fn nested(&self, outer: &str, simple: &str) -> Option<usize> {
+        self.names.nested(outer, simple)
+    }
+
+    fn surrounds(&self, name: &str) -> bool {
+        self.names.surrounds(name)
     }
 }

@@ -3,10 +3,10 @@
 // index shares the classes that a change doesn't touch. It stands on `known_classes` and `graphs`.
 #![tactic(auto)]
 
-mod called;
 mod change;
 mod changed;
 mod checks;
+mod class_names;
 mod counts;
 mod index;
 mod laws;

@@ -14,7 +14,7 @@ least_by test [] = None
 least_by test (c ∷ cs) = cond (test c) (Some (lesser c (least_by test cs))) (least_by test cs)
 
 -- names that aren't less
-pub NotLess : List ℕ → List ℕ → Type 0
+unfoldable pub NotLess : List ℕ → List ℕ → Type 0
 NotLess a b = is_lt (slice_cmp nat_cmp a b) ≡ false
 
 pub not-by : (o : Ordering) → (o ≡ Less → ⊥) → is_lt o ≡ false

@@ -1,7 +1,5 @@
 pub mod CanonicalLaws
-pub mod CanonicalEnds
 pub mod CanonicalPlaces
-pub mod CanonicalTexts
 pub mod Dots
 pub mod KeptItems
 pub mod Merging
@@ -14,3 +12,8 @@ pub mod Orders
 pub mod Leasts
 pub mod Sets
 pub mod Merges
+pub mod TableLemmas
+pub mod MemberLemmas
+pub mod NamePlaces
+pub mod TextPlaces
+pub mod Beside

@@ -29,7 +29,7 @@ best_first known outer name n e = record {
   place = ap (nested_class outer name) (drop_all n known (omega arith)) ∙ nested-none outer name;
 }
 
-front : (known : List ClassSummary) (left k : ℕ) (c : ClassSummary) → k + 1 ≡ left → slice_get known k ≡ Some c → drop k known ≡ c ∷ drop left known
+pub front : (known : List ClassSummary) (left k : ℕ) (c : ClassSummary) → k + 1 ≡ left → slice_get known k ≡ Some c → drop k known ≡ c ∷ drop left known
 front known left k c e g =
     drop_more known k c (slice_get_within known k c g) ∙ (ap (λ (x : ClassSummary). x ∷ drop (k + 1) known) (get_or_from_slice_get known k c c g) ∙ ap (λ (n : ℕ). c ∷ drop n known) e)
 

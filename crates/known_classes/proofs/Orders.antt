@@ -1,5 +1,5 @@
 -- The order of names by their bytes.
-use Rattle.std.proofs.Common.{◌≡◌, ℕ, List, Less, Equal, Greater, Ordering, refl, sym, ap, subst, ◌∙◌}
+use Rattle.std.proofs.Common.{◌≡◌, ℕ, List, Less, Equal, Greater, Ordering, ap, ◌∙◌}
 use Rattle.std.specs.Ordering.{nat_cmp, ordering_reverse}
 use Rattle.std.specs.Cmp.Lexicographic.{slice_cmp}
 use Rattle.std.proofs.lemmas.Cmp.{nat_list_cmp_total, tied_itself}

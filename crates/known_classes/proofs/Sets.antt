@@ -1,8 +1,8 @@
 -- Outside a set of names that is closed under nesting, canonical names stay.
-use Rattle.std.proofs.Common.{◌≡◌, ◌∙◌, ap, sym, refl, arith, ℕ, zero, suc, ◌+◌, ◌≤◌, Bool, true, false, cond, List, length, bytes_eq, Option, Some, None}
+use Rattle.std.proofs.Common.{◌≡◌, ◌∙◌, ap, sym, refl, arith, ℕ, zero, suc, ◌+◌, Bool, true, false, cond, List, length, bytes_eq, Option, Some, None}
 use Rattle.known_classes.specs.declared.summary.ClassSummary.{ClassSummary}
 use Rattle.known_classes.specs.Known.{class_named, nesting_at, simple_in, outer_of, comes_to, cycles, dotted, nested_name, canonical_by, canonical}
-use Rattle.known_classes.specs.Alike.{simple_of, StandsAlike, IsNestedSet}
+use Rattle.known_classes.specs.Alike.{simple_of, IsNestedSet}
 use Rattle.known_classes.proofs.Ways.{no-true, cycles-any}
 use Rattle.known_classes.proofs.CanonicalLaws.{nested-same, canon-any}
 

@@ -133,7 +133,7 @@ steps-hold (suc j) (suc k) cs n (Some x) l p =
     ap (λ b. cond b true (comes_to k cs n (outer_of cs x))) (differs n x (λ q. p.2 (e ∙ sym q)))
     ∙ steps-hold j k cs n (outer_of cs x) (omega (arith, l)) (subst (λ z. ComesIn j cs n (outer_of cs z)) e p.3)
 
-same-truth : (a b : Bool) → (a ≡ true → b ≡ true) → (b ≡ true → a ≡ true) → a ≡ b
+pub same-truth : (a b : Bool) → (a ≡ true → b ≡ true) → (b ≡ true → a ≡ true) → a ≡ b
 same-truth true b f g = sym (f refl)
 same-truth false true f g = g refl
 same-truth false false f g = refl

@@ -1,5 +1,5 @@
 -- When two lists of classes say the same of how classes stand in others (JVMS 4.7.6).
-use Rattle.std.specs.Prelude.{◌≡◌, ℕ, ◌<◌, Bool, true, false, List, length, is_some, Option, Some, None}
+use Rattle.std.specs.Prelude.{◌≡◌, ℕ, ◌<◌, Bool, true, false, List, length, is_some, Option, Some}
 use Rattle.known_classes.specs.declared.summary.ClassSummary.{ClassSummary}
 use Rattle.known_classes.specs.Known.{class_named, nesting_at, outer_of, outer_in, simple_in, cycles}
 use Rattle.known_classes.specs.Merging.{last_named}

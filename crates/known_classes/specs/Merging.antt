@@ -1,8 +1,9 @@
 -- Known classes with others added: of two classes of one name the one added last counts.
-use Rattle.std.specs.Prelude.{◌≡◌, ℕ, ◌<◌, ◌+◌, ◌-◌, ◌^◌, if◌then◌else◌, List, [], ◌∷◌, ◌++◌, length, map, slice_get, bytes_eq, is_some, unwrap_or, Option, Some, None}
+use Rattle.std.specs.Prelude.{◌≡◌, ℕ, ◌<◌, ◌+◌, ◌-◌, ◌^◌, if◌then◌else◌, List, [], ◌∷◌, ◌++◌, length, map, slice_get, bytes_eq, false, is_some, unwrap_or, Option, Some, None}
 use Rattle.std.specs.Option.{option_or}
 use Rattle.known_classes.specs.declared.summary.ClassSummary.{ClassSummary}
-use Rattle.known_classes.specs.Known.{KnownClasses, class_named, IsPlaceOf}
+use Rattle.known_classes.specs.Known.{KnownClasses, class_named, outer_in, simple_in, IsPlaceOf}
+use Rattle.known_classes.specs.Nested.{surrounds}
 
 -- The last class of this name.
 unfoldable pub last_named : List ClassSummary → List ℕ → Option ClassSummary
@@ -39,3 +40,13 @@ pub record IsTable (base extra part : List ClassSummary) (number : List ℕ → 
   pub has : (name : List ℕ) → is_some (number name) ≡ is_some (class_named part name)
   pub kept : (name : List ℕ) (c : ClassSummary) → class_named base name ≡ Some c → IsPlaceOf extra (last_named part name) (number name)
   pub new : (name : List ℕ) → class_named base name ≡ None → IsPlaceFromEnd (added base part) (class_named (added base part) name) (number name)
+
+-- The extra class has the outer class and the simple name of the base class of its name, or has a new name in which
+-- no base class is nested.
+pub record KeepsName (base : List ClassSummary) (e : ClassSummary) : Type 0 where
+  pub old : (b : ClassSummary) → class_named base e.name ≡ Some b → (outer_in e.nesting ≡ outer_in b.nesting) × (simple_in e.nesting ≡ simple_in b.nesting)
+  pub new : class_named base e.name ≡ None → surrounds base e.name ≡ false
+
+-- Each extra class does.
+abbrev pub KeepNames : List ClassSummary → List ClassSummary → Type 0
+KeepNames base extra = (i : ℕ) (e : ClassSummary) → slice_get extra i ≡ Some e → KeepsName base e

@@ -4,7 +4,7 @@ ghost use Rattle.std.specs.Str.{IsUtf8};
 ghost use Rattle.known_classes.specs.Known.{class_named, nesting_at, outer_of, simple_in, cycles, dotted, canonical};
 ghost use Rattle.known_classes.specs.Outwards.{outwards};
 
-use crate::classes::Classes;
+use crate::classes::ClassList;
 use crate::nested::same;
 use crate::summary::Nesting;
 use lists::{Copies, Text};
@@ -18,7 +18,7 @@ fn cut_at_slash(text: &str) -> Option<(&str, &str)>
 }
 
 /// Adds a name to a text, with `.` in place of `/`.
-fn push_dotted(text: &mut Text, name: &str) -> Result<(), AllocError>
+pub fn push_dotted(text: &mut Text, name: &str) -> Result<(), AllocError>
     ensures { OnOk result (text.new ≡ text.old ++ dotted name.now) }
 {
     let mut rest = name;
@@ -32,8 +32,8 @@ fn push_dotted(text: &mut Text, name: &str) -> Result<(), AllocError>
 }
 
 /// How the class of this name stands in another, where that is known.
-fn nesting_of<'a, C: Classes>(known: &'a C, name: &Text) -> Option<&'a Nesting>
-    ensures { option_copied result ≡ nesting_at (class_named (C.listed known.now) name.now) }
+fn nesting_of<'a, L: ClassList>(known: &'a L, name: &Text) -> Option<&'a Nesting>
+    ensures { option_copied result ≡ nesting_at (class_named (L.listed known.now) name.now) }
 {
     let Some(place) = known.find(name.as_str()) else {
         return None;
@@ -42,8 +42,8 @@ fn nesting_of<'a, C: Classes>(known: &'a C, name: &Text) -> Option<&'a Nesting>
 }
 
 /// The outer class of the class of this name, where that is known and has one.
-fn outer_of<'a, C: Classes>(known: &'a C, name: &Text) -> Option<&'a Text>
-    ensures { option_copied result ≡ outer_of (C.listed known.now) name.now }
+fn outer_of<'a, L: ClassList>(known: &'a L, name: &Text) -> Option<&'a Text>
+    ensures { option_copied result ≡ outer_of (L.listed known.now) name.now }
 {
     match nesting_of(known, name) {
         Some(nesting) => nesting.outer.as_ref(),
@@ -52,8 +52,8 @@ fn outer_of<'a, C: Classes>(known: &'a C, name: &Text) -> Option<&'a Text>
 }
 
 /// The simple name of the class of this name, where that is known and has one.
-fn simple_of<'a, C: Classes>(known: &'a C, name: &Text) -> Option<&'a Text>
-    ensures { option_copied result ≡ simple_in (nesting_at (class_named (C.listed known.now) name.now)) }
+fn simple_of<'a, L: ClassList>(known: &'a L, name: &Text) -> Option<&'a Text>
+    ensures { option_copied result ≡ simple_in (nesting_at (class_named (L.listed known.now) name.now)) }
 {
     match nesting_of(known, name) {
         Some(nesting) => nesting.simple.as_ref(),
@@ -62,8 +62,8 @@ fn simple_of<'a, C: Classes>(known: &'a C, name: &Text) -> Option<&'a Text>
 }
 
 /// Whether a class reaches itself by outer classes.
-fn cycles<C: Classes>(known: &C, name: &Text) -> bool
-    ensures { result ≡ cycles (C.listed known.now) name.now }
+fn cycles<L: ClassList>(known: &L, name: &Text) -> bool
+    ensures { result ≡ cycles (L.listed known.now) name.now }
 {
     let mut next = outer_of(known, name);
     for _step in 0..known.count() {
@@ -88,8 +88,8 @@ struct Step<'a> {
 
 /// The outer class and the simple name of a class, where it has both and doesn't reach itself.
 #[tactic(auto, unfolding(crate::specs::Outwards::outwards))]
-fn outwards<'a, C: Classes>(known: &'a C, name: &Text) -> Option<Step<'a>>
-    ensures { option_map (λ x. (x.outer.now, x.simple.now)) result ≡ outwards (C.listed known.now) name.now }
+fn outwards<'a, L: ClassList>(known: &'a L, name: &Text) -> Option<Step<'a>>
+    ensures { option_map (λ x. (x.outer.now, x.simple.now)) result ≡ outwards (L.listed known.now) name.now }
 {
     if cycles(known, name) {
         return None;
@@ -124,8 +124,8 @@ fn longer(alloc: Global, simple: &Text, tail: &Text) -> Result<Text, AllocError>
 }
 
 /// The canonical name of the class of this internal name (JLS 6.7).
-pub fn canonical<C: Classes>(alloc: Global, known: &C, name: &Text) -> Result<Text, AllocError>
-    ensures { IfOk result (λ text. text ≡ canonical (C.listed known.now) name.now) }
+pub fn canonical<L: ClassList>(alloc: Global, known: &L, name: &Text) -> Result<Text, AllocError>
+    ensures { IfOk result (λ text. text ≡ canonical (L.listed known.now) name.now) }
 {
     let mut here = name.copy(alloc)?;
     let mut tail = Text::new(alloc);

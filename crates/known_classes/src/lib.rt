@@ -4,19 +4,23 @@
 // the class around them. It stands on `lists` and `type_names`, and knows neither class files nor Java text.
 #![tactic(auto)]
 
-mod canonical_places;
 mod canonical_text;
 mod classes;
 mod laws;
+mod members;
 mod merged;
+mod name_tables;
 mod nested;
+mod parts;
 mod summary;
 mod tables;
+mod texts;
 
-pub use canonical_text::canonical;
-pub use classes::Classes;
+pub use classes::{ClassList, Classes};
 pub use laws::{canonical_names, merges_of_names};
 pub use merged::Merged;
-pub use nested::{nested_class, same};
+pub use name_tables::NameTables;
+pub use nested::same;
 pub use summary::{ClassSummary, FieldSummary, MethodSummary, Nesting, copy_text};
-pub use tables::put;
+pub use tables::{put, put_at};
+pub use texts::{canonical_named, tables_of};

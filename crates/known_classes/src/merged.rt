@@ -1,77 +1,108 @@
-ghost use Rattle.std.specs.Prelude.{◌≡◌, ◌<◌, length, map, slice_get, Some, IfOk};
-ghost use Rattle.std.specs.BTreeMap.{get_by_text};
-ghost use Rattle.known_classes.specs.Known.{HasEachOnce, IsPlaceOf, class_named, class_by_canonical};
-ghost use Rattle.known_classes.specs.Merging.{merged, added, IsMerging, IsTable};
+ghost use Rattle.std.specs.Prelude.{◌≡◌, ◌<◌, length, IfOk, IfSome, true};
+ghost use Rattle.std.specs.Option.{option_copied};
+ghost use Rattle.known_classes.specs.Merging.{merged, KeepsName, KeepNames};
+ghost use Rattle.known_classes.specs.Nested.{IsLesserOf};
+ghost use Rattle.known_classes.specs.NameTables.{Extends, AreTablesBeside, table_of};
 
-use crate::canonical_places::place_called;
-use crate::classes::Classes;
+use crate::classes::{ClassList, Classes};
+use crate::name_tables::NameTables;
+use crate::nested::{lesser, outer_name, simple_name};
+use crate::parts::Parts;
 use crate::summary::ClassSummary;
-use crate::tables::put;
-use lists::Items;
+use crate::texts::{tables_behind, tables_of};
+use lists::{Items, Text};
 use std::alloc::{AllocError, Global};
-use std::collections::BTreeMap;
 use std::marker::Model;
 
 /// Known classes with others added: an extra class replaces the base class of its name, and of two extra classes
 /// of one name the later one counts. The base classes keep their places; those that the base lacks follow. A class
-/// is found by its name or place in logarithmic time beside that of the base; by its canonical name in linear time.
+/// is found by each of its names in logarithmic time beside that of the base. To make it takes time linear in the
+/// extra classes, where these leave the names of the base's classes as they are; else in all classes.
 #[derive(Drop)]
 pub struct Merged<'a, C: Classes> {
     base: &'a C,
-    extra: Items<ClassSummary>,
-    /// The numbers of the extra classes that the base lacks, of each name the last.
-    added: Vec<usize>,
-    /// For a name of the base the number of the last extra class of it, for another the place of that class among
-    /// the added ones, counted from the last.
-    by_name: BTreeMap<String, usize>,
+    parts: Parts<'a, C>,
+    /// The names of the classes behind the base; of all classes, where some of the base have other names here.
+    names: NameTables,
 }
 
 impl<'a, C: Classes> Model for Merged<'a, C> {
     ghost use Rattle.known_classes.specs.Known.{KnownClasses};
-    ghost use Rattle.known_classes.specs.Merging.{merged, IsMerging, IsTable};
-    ghost use Rattle.std.specs.BTreeMap.{get_by_text};
+    ghost use Rattle.known_classes.specs.NameTables.{AreTablesBeside, table_of};
 
     ghost Value = { KnownClasses };
 
-    ghost view = { λ m. merged (C.listed m.base.now) m.extra };
+    ghost view = { λ m. m.parts };
 
-    ghost invariant = { λ m. IsMerging (C.listed m.base.now) m.extra m.added.items × IsTable (C.listed m.base.now) m.extra m.extra (get_by_text m.by_name) };
+    ghost invariant = { λ m. AreTablesBeside (C.listed m.base.now) m.parts (table_of m.names) };
 }
 
-/// The numbers of the added classes, and the table of the extra classes by their names.
-#[derive(Drop)]
-struct Numbers {
-    added: Vec<usize>,
-    by_name: BTreeMap<String, usize>,
-}
-
-/// The extra classes that count, found from the last to the first.
-fn numbers_of<C: Classes>(
-    alloc: Global,
-    base: &C,
-    extra: &[ClassSummary],
-) -> Result<Numbers, AllocError>
-    ensures added { IfOk result (λ n. map (slice_get extra.now) n.added.items ≡ map Some (added (C.listed base.now) extra.now)) }
-    ensures table { IfOk result (λ n. IsTable (C.listed base.now) extra.now extra.now (get_by_text n.by_name)) }
+/// Whether both are the same text, or both are none.
+fn same_option(text: Option<&Text>, other: Option<&Text>) -> bool
+    ensures { result ≡ true → option_copied text.entry ≡ option_copied other.entry }
 {
-    let mut added = Vec::new(alloc);
-    let mut by_name = BTreeMap::new(alloc);
-    let mut left = extra.len();
-    while left > 0 {
-        left -= 1;
-        let name = extra[left].name.as_str();
-        if by_name.contains_key(name) {
-            continue;
-        }
-        if base.find(name).is_some() {
-            put(alloc, &mut by_name, name, left)?;
-            continue;
-        }
-        put(alloc, &mut by_name, name, added.len())?;
-        added.push(left)?;
+    match (text, other) {
+        (Some(text), Some(other)) => text.same(other),
+        (None, None) => true,
+        _ => false,
     }
-    added.as_mut_slice().reverse();
-    Ok(Numbers { added, by_name })
+}
+
+/// Whether a class leaves the names of the base's classes as they are: it has the outer class and the simple name
+/// of the base class of its name, or a new name in which no base class is nested.
+fn keeps_name<C: Classes>(base: &C, class: &ClassSummary) -> bool
+    ensures { result ≡ true → KeepsName (C.listed base.now) class.now }
+{
+    let Some(place) = base.find(class.name.as_str()) else {
+        return !base.surrounds(class.name.as_str());
+    };
+    let old = base.at(place);
+    if !same_option(outer_name(class), outer_name(old)) {
+        return false;
+    }
+    same_option(simple_name(class), simple_name(old))
+}
+
+/// Whether each of these classes does.
+fn keep_names<C: Classes>(base: &C, extra: &[ClassSummary]) -> bool
+    ensures { result ≡ true → KeepNames (C.listed base.now) extra.now }
+{
+    for class in extra {
+        if !keeps_name(base, class) {
+            return false;
+        }
+    }
+    true
+}
+
+/// The names of the classes behind the base, where the base's classes keep theirs; else those of all classes.
+fn names_of<C: Classes>(
+    alloc: Global,
+    keeps: bool,
+    base: &C,
+    parts: &Parts<'_, C>,
+) -> Result<NameTables, AllocError>
+    requires { keeps ≡ true → Extends (C.listed base.now) parts.now }
+    ensures { IfOk result (λ names. AreTablesBeside (C.listed base.now) parts.now (table_of names)) }
+{
+    if keeps {
+        if let Some(tables) = tables_behind(alloc, base, parts, base.count())? {
+            return Ok(tables);
+        }
+    }
+    tables_of(alloc, base, parts)
+}
+
+/// Of two classes that may be missing, the one whose name is less.
+fn lesser_of<L: ClassList>(known: &L, own: Option<usize>, other: Option<usize>) -> Option<usize>
+    requires own { IfSome own (λ place. place < length (L.listed known.now)) }
+    requires other { IfSome other (λ place. place < length (L.listed known.now)) }
+    ensures { IsLesserOf (L.listed known.now) own other result }
+{
+    match own {
+        Some(place) => Some(lesser(known, place, other)),
+        None => other,
+    }
 }
 
 impl<'a, C: Classes> Merged<'a, C> {
@@ -83,53 +114,10 @@ impl<'a, C: Classes> Merged<'a, C> {
     ) -> Result<Merged<'a, C>, AllocError>
         ensures { IfOk result (λ classes. classes ≡ merged (C.listed base.now) extra) }
     {
-        let numbers = numbers_of(alloc, base, extra.as_slice())?;
-        if numbers.added.len() > usize::MAX - base.count() {
-            return Err(AllocError);
-        }
-        Ok(Merged {
-            base,
-            extra,
-            added: numbers.added,
-            by_name: numbers.by_name,
-        })
-    }
-
-    /// How many classes there are.
-    pub(crate) fn size(&self) -> usize
-        ensures size { result ≡ length self.now }
-        ensures once { HasEachOnce self.now }
-    {
-        self.base.count() + self.added.len()
-    }
-
-    /// The class at a place.
-    pub(crate) fn class_at(&self, place: usize) -> &ClassSummary
-        requires { place < length self.now }
-        ensures { slice_get self.now place ≡ Some result.now }
-    {
-        let kept = self.base.count();
-        if place >= kept {
-            return &self.extra.as_slice()[self.added[place - kept]];
-        }
-        let class = self.base.at(place);
-        match self.by_name.get(class.name.as_str()).copied() {
-            Some(number) => &self.extra.as_slice()[number],
-            None => class,
-        }
-    }
-
-    /// The place of the class of this name.
-    pub(crate) fn place_named(&self, name: &str) -> Option<usize>
-        ensures { IsPlaceOf self.now (class_named self.now name.now) result }
-    {
-        if let Some(place) = self.base.find(name) {
-            return Some(place);
-        }
-        match self.by_name.get(name).copied() {
-            Some(number) => Some(self.base.count() + (self.added.len() - 1 - number)),
-            None => None,
-        }
+        let keeps = keep_names(base, extra.as_slice());
+        let parts = Parts::new(alloc, base, extra)?;
+        let names = names_of(alloc, keeps, base, &parts)?;
+        Ok(Merged { base, parts, names })
     }
 }
 
@@ -137,18 +125,51 @@ impl<'a, C: Classes> Classes for Merged<'a, C> {
     ghost listed = { λ classes. classes };
 
     fn count(&self) -> usize {
-        self.size()
+        self.parts.count()
     }
 
     fn at(&self, place: usize) -> &ClassSummary {
-        self.class_at(place)
+        self.parts.at(place)
     }
 
     fn find(&self, name: &str) -> Option<usize> {
-        self.place_named(name)
+        self.parts.find(name)
     }
 
     fn by_canonical(&self, dotted: &str) -> Option<usize> {
-        place_called(self, dotted)
+        let own = self.names.place(dotted);
+        if self.names.from() == 0 {
+            return own;
+        }
+        lesser_of(&self.parts, own, self.base.by_canonical(dotted))
+    }
+
+    fn canonical_name(&self, place: usize) -> &str {
+        let from = self.names.from();
+        if place < from {
+            return self.base.canonical_name(place);
+        }
+        match self.names.text(place - from) {
+            Some(text) => text.as_str(),
+            None => "",
+        }
+    }
+
+    fn nested(&self, outer: &str, simple: &str) -> Option<usize> {
+        let own = self.names.nested(outer, simple);
+        if self.names.from() == 0 {
+            return own;
+        }
+        lesser_of(&self.parts, own, self.base.nested(outer, simple))
+    }
+
+    fn surrounds(&self, name: &str) -> bool {
+        if self.names.surrounds(name) {
+            return true;
+        }
+        if self.names.from() == 0 {
+            return false;
+        }
+        self.base.surrounds(name)
     }
 }

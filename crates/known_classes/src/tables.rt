@@ -1,5 +1,6 @@
-ghost use Rattle.std.specs.Prelude.{◌≡◌, ℕ, List, if◌then◌else◌, bytes_eq, Some, OnOk};
+ghost use Rattle.std.specs.Prelude.{◌≡◌, ℕ, List, if◌then◌else◌, bytes_eq, map, Some, OnOk};
 ghost use Rattle.std.specs.BTreeMap.{get_by_text};
+ghost use Rattle.known_classes.specs.NameTables.{PutsAt};
 
 use std::alloc::{AllocError, Global};
 use std::collections::BTreeMap;
@@ -16,4 +17,20 @@ pub fn put(
     let key = String::from_str(alloc, name)?;
     numbers.insert(key, number)?;
     Ok(())
+}
+
+/// Gives a name a number in the table at this place, where there is one.
+pub fn put_at(
+    alloc: Global,
+    tables: &mut Vec<BTreeMap<String, usize>>,
+    place: usize,
+    name: &str,
+    number: usize,
+) -> Result<(), AllocError>
+    ensures { OnOk result (PutsAt place name.now number (map get_by_text tables.old.items) (map get_by_text tables.new.items)) }
+{
+    if place >= tables.len() {
+        return Ok(());
+    }
+    put(alloc, &mut tables[place], name, number)
 }

@@ -5,3 +5,4 @@ pub mod Laws
 pub mod Nodes
 pub mod Searching
 pub mod Answering
+pub mod SuperLaws

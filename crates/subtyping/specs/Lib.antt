@@ -3,3 +3,4 @@ pub mod Steps
 pub mod Places
 pub mod Asked
 pub mod Widening
+pub mod Alike

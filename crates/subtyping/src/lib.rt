@@ -3,9 +3,11 @@
 // also lists. It stands on `known_classes`, `type_names` and `graphs`.
 #![tactic(auto)]
 
+mod merges;
 mod names;
 mod subtypes;
 mod supers;
 mod widening;
 
+pub use merges::merges_of_supers;
 pub use subtypes::Subtypes;

@@ -21,8 +21,8 @@ check-requires-clause-leaves c =
     let new : map arc_value c.put_all.new.classes.items ≡ map arc_value c.deref-3.result.now = search rules in
     subst (Leaves (map remove c.args.removes.now ++ map put c.args.puts.now) (map arc_value c.deref-2.result.now)) new (subst (λ cs. Leaves (map remove c.args.removes.now ++ map put c.args.puts.now) cs (map arc_value c.put_all.new.classes.items)) old whole)
 
-pub called_after-requires-clause-leaves : goal.called_after-requires-clause-leaves
-called_after-requires-clause-leaves c =
+pub names_after-requires-clause-leaves : goal.names_after-requires-clause-leaves
+names_after-requires-clause-leaves c =
     let first : Leaves (map remove c.args.removes.now) c.args.self.now.classes (map arc_value c.take_all.new.classes.items) = search rules in
     let second : Leaves (map put c.args.puts.now) (map arc_value c.take_all.new.classes.items) (map arc_value c.put_all.new.classes.items) = search rules in
     let whole : Leaves (map remove c.args.removes.now ++ map put c.args.puts.now) c.args.self.now.classes (map arc_value c.put_all.new.classes.items) = leaves-then _ _ _ _ _ first second in
