@@ -3,6 +3,7 @@ mod Bodies
 mod Heading
 pub mod Inputs
 mod Lasting
+pub mod Lengths
 pub mod Lines
 pub mod Parsed
 pub mod Parts

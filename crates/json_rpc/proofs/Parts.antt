@@ -38,7 +38,7 @@ scan-run [] ys n line h g e l =
     (line, ap (λ k. scan_from n line k ys) same ∙ ap (λ m. scan_from m line g ys) i)
 scan-run (b ∷ xs) ys n line h g e l = scan-on n line h g b xs ys (step h b) refl e l (λ k f. scan-run xs ys (n + 1) (line_after n line k.mode) k g f (omega (arith, l)))
 
-scan-done : (n line k d v : ℕ) (t : Bool) (bs : List ℕ) → n < 8192 → scan_from n line (known LastEnd k t d v) (10 ∷ bs) ≡ Whole (n + 1) (known LastEnd k t d v)
+pub scan-done : (n line k d v : ℕ) (t : Bool) (bs : List ℕ) → n < 8192 → scan_from n line (known LastEnd k t d v) (10 ∷ bs) ≡ Whole (n + 1) (known LastEnd k t d v)
 unfolding scan_from step
 scan-done n line k d v t bs l = let f : nat_le 8192 n ≡ false = grind (arith, l) in pick_false (nat_le 8192 n) (Bad n) _ f
 

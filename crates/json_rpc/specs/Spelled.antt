@@ -71,6 +71,15 @@ pub record BeginsFrame (bytes body rest : List ℕ) : Type 0 where
   pub is : IsFrame frame body
   pub spelled : bytes ≡ frame ++ rest
 
+-- The bytes begin with header lines that tell these lengths, and an empty line, in so many bytes, at most 8,192.
+pub record BeginsPart (bytes lengths : List ℕ) (count : ℕ) : Type 0 where
+  pub part : List ℕ
+  pub rest : List ℕ
+  pub lines : AreHeaderLines part lengths
+  pub many : length part ≡ count
+  pub short : count ≤ 8192
+  pub spelled : bytes ≡ part ++ rest
+
 -- With these bytes added, the bytes are header lines of which at most one tells the length, and an empty line.
 pub record BeginsLines (bytes more : List ℕ) : Type 0 where
   pub lengths : List ℕ

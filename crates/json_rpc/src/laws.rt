@@ -1,6 +1,6 @@
-ghost use Rattle.std.specs.Prelude.{◌≡◌, ◌↔◌, ◌≤◌, ◌+◌, ◌++◌, ℕ, List, length};
+ghost use Rattle.std.specs.Prelude.{◌≡◌, ◌↔◌, ◌<◌, ◌≤◌, ◌+◌, ◌++◌, ◌∷◌, [], ℕ, List, length};
 ghost use Rattle.json_rpc.specs.Replies.{frame_of};
-ghost use Rattle.json_rpc.specs.Spelled.{AreHeaderLines, BeginsFrame, BeginsLines, IsFrame, IsRefusedAt};
+ghost use Rattle.json_rpc.specs.Spelled.{AreHeaderLines, BeginsFrame, BeginsLines, BeginsPart, IsFrame, IsRefusedAt};
 ghost use Rattle.json_rpc.specs.Streams.{next_of, whole, wrong};
 ghost use Rattle.json_rpc.specs.declared.fault.FrameFault.{FrameFault};
 
@@ -11,5 +11,7 @@ pub fn frame_laws()
     ensures refused { (at : ℕ) (bytes : List ℕ) (k : ℕ) → (next_of at bytes ≡ wrong (FrameFault.Header k)) ↔ ((place : ℕ) × (k ≡ at + place) × IsRefusedAt bytes place) }
     ensures one_place { (bytes : List ℕ) (a b : ℕ) → IsRefusedAt bytes a → IsRefusedAt bytes b → a ≡ b }
     ensures broken { (bytes : List ℕ) → ((more : List ℕ) → BeginsLines bytes more → ⊥) → ((front rest lengths : List ℕ) → bytes ≡ front ++ rest → AreHeaderLines front lengths → ⊥) → (place : ℕ) × IsRefusedAt bytes place }
+    ensures no_length { (at : ℕ) (bytes : List ℕ) (k : ℕ) → (next_of at bytes ≡ wrong (FrameFault.NoLength k)) ↔ ((count : ℕ) × (k ≡ at + count) × BeginsPart bytes [] count) }
+    ensures too_long { (at : ℕ) (bytes : List ℕ) (n : ℕ) → (next_of at bytes ≡ wrong (FrameFault.TooLong n)) ↔ ((16777216 < n) × ((count : ℕ) × BeginsPart bytes (n ∷ []) count)) }
     ensures written { (body : List ℕ) → length body ≤ 16777216 → IsFrame (frame_of body) body }
 {}

@@ -1,10 +1,11 @@
 use Rattle.std.proofs.Common.{ap, sym, ◌∙◌}
 use Rattle.json_rpc.specs.Streams.{wrong}
 use Rattle.json_rpc.proofs.Backs.{refused-next, one-place, broken-refused}
-use Rattle.json_rpc.specs.declared.fault.FrameFault.TheVariants.{Header}
+use Rattle.json_rpc.specs.declared.fault.FrameFault.TheVariants.{Header, NoLength}
 use Rattle.json_rpc.proofs.Parts.{frame-at, frame-next, frame_of-frame}
 use Rattle.json_rpc.proofs.Wholes.{next-frame}
 use Rattle.json_rpc.proofs.Stops.{next-refused}
+use Rattle.json_rpc.proofs.Lengths.{next-no_length, no_length-next, next-too_long, too_long-next}
 use Rattle.json_rpc.proofs.laws.frame_laws.Goals as goal
 
 pub returns-clause-read : goal.returns-clause-read
@@ -24,3 +25,9 @@ returns-clause-one_place c = one-place
 
 pub returns-clause-broken : goal.returns-clause-broken
 returns-clause-broken c = broken-refused
+
+pub returns-clause-no_length : goal.returns-clause-no_length
+returns-clause-no_length c = λ at bytes k. (next-no_length at bytes k, λ r. no_length-next at bytes (r.0) (r.2) ∙ ap (λ v. wrong (NoLength v)) (sym (r.1)))
+
+pub returns-clause-too_long : goal.returns-clause-too_long
+returns-clause-too_long c = λ at bytes n. (next-too_long at bytes n, λ r. too_long-next at bytes n (r.0) ((r.1).0) ((r.1).1))
