@@ -37,7 +37,7 @@ lines-run lines [] a e l = (_, run-none lines (13 ∷ []) 0 0 false a e ∙ line
 lines-run lines (n ∷ []) a e l = let one = run-one lines (13 ∷ []) n 0 a e in (_, one.1 ∙ line-last 0 (one.0) n true)
 lines-run lines (n ∷ m ∷ more) a e l = absurd (omega (arith, l))
 
-goes-run : (front : List ℕ) → GoesOn front → (h : Head) × (run start front ≡ Some h)
+pub goes-run : (front : List ℕ) → GoesOn front → (h : Head) × (run start front ≡ Some h)
 goes-run front g =
     let lines = g.begins.lines.lines in
     let all : List ℕ = flat_map line_text lines ++ (13 ∷ []) in
@@ -49,10 +49,10 @@ goes-run front g =
     run-prefix front (drop (length front) all) start (r.0) (ap (run start) split ∙ r.1)
 
 -- what is known where bytes have led on, and how a reading goes on from there
-record Led (done xs : List ℕ) (n line : ℕ) (h g : Head) : Type 0 where
-  end : ℕ
-  read : Read g end (done ++ xs)
-  scan : (ys : List ℕ) → scan_from n line h (xs ++ ys) ≡ scan_from (n + length xs) end g ys
+pub record Led (done xs : List ℕ) (n line : ℕ) (h g : Head) : Type 0 where
+  pub end : ℕ
+  pub read : Read g end (done ++ xs)
+  pub scan : (ys : List ℕ) → scan_from n line h (xs ++ ys) ≡ scan_from (n + length xs) end g ys
 
 led-step : (done xs : List ℕ) (n line b : ℕ) (h g : Head) (s : Step) → step h b ≡ s → onward s (λ k. run k xs) ≡ Some g → n + length (b ∷ xs) ≤ 8192 → ((k : Head) → step h b ≡ On k → run k xs ≡ Some g → Led (done ++ (b ∷ [])) xs (n + 1) (line_after n line k.mode) k g) → Led done (b ∷ xs) n line h g
 led-step done xs n line b h g (On k) q e l more =
@@ -85,7 +85,7 @@ run-led (b ∷ xs) done n line h g r q e l =
     let P : ℕ → Type 0 = λ v. Read k (line_after v line k.mode) (done ++ (b ∷ [])) in
     run-led xs (done ++ (b ∷ [])) (n + 1) (line_after n line k.mode) k g (subst P q (read-on h k line b done r f)) (omega (arith, q, length-append done (b ∷ []))) u (omega (arith, l)))
 
-front-led : (front : List ℕ) (g : Head) → run start front ≡ Some g → length front ≤ 8192 → Led [] front 0 0 start g
+pub front-led : (front : List ℕ) (g : Head) → run start front ≡ Some g → length front ≤ 8192 → Led [] front 0 0 start g
 front-led front g e l = run-led front [] 0 0 start g read-start refl e (omega (arith, l))
 
 -- the 8,193rd byte

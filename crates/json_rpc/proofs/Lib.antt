@@ -11,4 +11,5 @@ mod Pieces
 mod Scans
 pub mod Stops
 pub mod Tails
+pub mod Unfinished
 pub mod Wholes

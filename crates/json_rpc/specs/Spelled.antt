@@ -80,6 +80,16 @@ pub record BeginsPart (bytes lengths : List ℕ) (count : ℕ) : Type 0 where
   pub short : count ≤ 8192
   pub spelled : bytes ≡ part ++ rest
 
+-- The bytes begin a frame within its body: a header part, and fewer bytes than it tells.
+pub record BeginsBody (bytes : List ℕ) : Type 0 where
+  pub count : ℕ
+  pub part : List ℕ
+  pub body : List ℕ
+  pub header : IsHeaderPart part count
+  pub small : count ≤ 16777216
+  pub few : length body < count
+  pub spelled : bytes ≡ part ++ body
+
 -- With these bytes added, the bytes are header lines of which at most one tells the length, and an empty line.
 pub record BeginsLines (bytes more : List ℕ) : Type 0 where
   pub lengths : List ℕ

@@ -1,7 +1,7 @@
-ghost use Rattle.std.specs.Prelude.{◌≡◌, ◌↔◌, ◌<◌, ◌≤◌, ◌+◌, ◌++◌, ◌∷◌, [], ℕ, List, length};
+ghost use Rattle.std.specs.Prelude.{◌≡◌, ◌↔◌, ◌⊎◌, ◌<◌, ◌≤◌, ◌+◌, ◌++◌, ◌∷◌, [], ℕ, List, length};
 ghost use Rattle.json_rpc.specs.Replies.{frame_of};
-ghost use Rattle.json_rpc.specs.Spelled.{AreHeaderLines, BeginsFrame, BeginsLines, BeginsPart, IsFrame, IsRefusedAt};
-ghost use Rattle.json_rpc.specs.Streams.{next_of, whole, wrong};
+ghost use Rattle.json_rpc.specs.Spelled.{AreHeaderLines, BeginsBody, BeginsFrame, BeginsLines, BeginsPart, GoesOn, IsFrame, IsRefusedAt};
+ghost use Rattle.json_rpc.specs.Streams.{next_of, partial, whole, wrong};
 ghost use Rattle.json_rpc.specs.declared.fault.FrameFault.{FrameFault};
 
 /// Frames are read as they are spelled, and what is written is a frame that is read back.
@@ -13,5 +13,6 @@ pub fn frame_laws()
     ensures broken { (bytes : List ℕ) → ((more : List ℕ) → BeginsLines bytes more → ⊥) → ((front rest lengths : List ℕ) → bytes ≡ front ++ rest → AreHeaderLines front lengths → ⊥) → (place : ℕ) × IsRefusedAt bytes place }
     ensures no_length { (at : ℕ) (bytes : List ℕ) (k : ℕ) → (next_of at bytes ≡ wrong (FrameFault.NoLength k)) ↔ ((count : ℕ) × (k ≡ at + count) × BeginsPart bytes [] count) }
     ensures too_long { (at : ℕ) (bytes : List ℕ) (n : ℕ) → (next_of at bytes ≡ wrong (FrameFault.TooLong n)) ↔ ((16777216 < n) × ((count : ℕ) × BeginsPart bytes (n ∷ []) count)) }
+    ensures unfinished { (at : ℕ) (bytes : List ℕ) → (next_of at bytes ≡ partial) ↔ (((length bytes ≤ 8192) × GoesOn bytes) ⊎ BeginsBody bytes) }
     ensures written { (body : List ℕ) → length body ≤ 16777216 → IsFrame (frame_of body) body }
 {}

@@ -6,6 +6,7 @@ use Rattle.json_rpc.proofs.Parts.{frame-at, frame-next, frame_of-frame}
 use Rattle.json_rpc.proofs.Wholes.{next-frame}
 use Rattle.json_rpc.proofs.Stops.{next-refused}
 use Rattle.json_rpc.proofs.Lengths.{next-no_length, no_length-next, next-too_long, too_long-next}
+use Rattle.json_rpc.proofs.Unfinished.{next-unfinished, unfinished-next}
 use Rattle.json_rpc.proofs.laws.frame_laws.Goals as goal
 
 pub returns-clause-read : goal.returns-clause-read
@@ -31,3 +32,6 @@ returns-clause-no_length c = λ at bytes k. (next-no_length at bytes k, λ r. no
 
 pub returns-clause-too_long : goal.returns-clause-too_long
 returns-clause-too_long c = λ at bytes n. (next-too_long at bytes n, λ r. too_long-next at bytes n (r.0) ((r.1).0) ((r.1).1))
+
+pub returns-clause-unfinished : goal.returns-clause-unfinished
+returns-clause-unfinished c = λ at bytes. (next-unfinished at bytes, unfinished-next at bytes)
