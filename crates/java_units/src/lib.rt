@@ -2,7 +2,8 @@
 // `read_unit` reads it from the tokens and refuses nothing: what isn't recognised gives nothing. The main
 // definition is `IsUnit`: the text is cut into pieces, a table of forms says what each piece gives, and
 // the block of a class is cut again. The reading of lexemes below it is public in `forms`, for those who
-// read bodies. It stands on `java_tokens` and `lists`.
+// read bodies; laws tie it to a grammar of types, parameters and type variables. It stands on `java_tokens`
+// and `lists`.
 #![tactic(auto)]
 
 mod access;
