@@ -12,12 +12,12 @@ use Rattle.java_units.specs.Forms.{starts, entry_len, next_len, entries, bounds_
 use Rattle.java_units.specs.Values.{first_text, type_text, bound_of, var_of, vars_of, param_of, kept, params_of}
 use Rattle.java_units.specs.Grammar.{IsSign, sign, IsBoth, both, IsOptional, absent, present, IsList, last, followed, identifier, IsType, IsParam, IsParams, IsVar, IsVars}
 use Rattle.java_units.specs.Longest.{NamesAreIdentifiers}
-use Rattle.java_units.specs.Trees.{type_in, param_in, listed, first_type, bound_in, var_in, vars_in, all_params, params_in, VarsAreRead, ParamListsAreRead}
+use Rattle.java_units.specs.Trees.{spelled_type, spelled_param, each_spelled, first_type, spelled_bound, spelled_var, spelled_vars, all_params, spelled_params, VarsAreRead, ParamListsAreRead}
 use Rattle.java_units.proofs.Walks.{pick, starts-none, starts-more}
 use Rattle.java_units.proofs.Groups.{differ}
 use Rattle.java_units.proofs.TypeGrammar.{type_just}
 use Rattle.java_units.proofs.ListGrammar.{ReadsTail, Stops, list_part, names_behind, tail_none, tail_some, suc_of}
-use Rattle.java_units.proofs.TypeReading.{type_read, no_wider}
+use Rattle.java_units.proofs.TypeReading.{type_read, no_more_dims}
 use Rattle.java_units.proofs.ParamGrammar.{first_named, param_some}
 use Rattle.java_units.proofs.ParamReading.{param_read}
 use Rattle.java_units.proofs.ParamLists as lists
@@ -55,7 +55,7 @@ entries_on e first s zs n m a b c h =
     ∙ (ap (λ xs. all ∷ map (drop 1) xs) on ∙ ap (λ xs. all ∷ xs) (sym (entries_some e zs m h))))
 
 module _ (e : Entry) (Form Ends : List Sign → Type 0) (V : Type 0) (read : List Sign → V) (value : (ss : List Sign) → Form ss → V) (stops : Stops Form (entry_len e) Ends) (some : (ss : List Sign) → Form ss → 0 < length ss) (comma : (s : Sign) (zs : List Sign) → is (codes ",") s ≡ true → Ends (s ∷ zs)) (reads : (ss : List Sign) (f : Form ss) (tail : List Sign) → NamesAreIdentifiers (ss ++ tail) → Ends tail → read (ss ++ tail) ≡ value ss f) where
-  list_read : (ss : List Sign) (l : IsList (codes ",") Form ss) (rest : List Sign) → NamesAreIdentifiers (ss ++ rest) → Ends rest → next_len e rest ≡ 0 → map read (entries e (ss ++ rest)) ≡ listed (codes ",") Form V value ss l
+  list_read : (ss : List Sign) (l : IsList (codes ",") Form ss) (rest : List Sign) → NamesAreIdentifiers (ss ++ rest) → Ends rest → next_len e rest ≡ 0 → map read (entries e (ss ++ rest)) ≡ each_spelled (codes ",") Form V value ss l
   list_read _ (last ss f) rest g h z =
       let there = suc_of (length ss) (some ss f) in
       ap (map read) (entries_last e ss rest there.0 (stops ss f rest g h) there.1 z) ∙ ap (λ v. v ∷ []) (reads ss f rest g h)
@@ -75,12 +75,12 @@ module _ (e : Entry) (Form Ends : List Sign → Type 0) (V : Type 0) (read : Lis
 -- type variables
 
 types_first : (types : List Sign) (t : IsList (codes "&") IsType types) (tail : List Sign) → NamesAreIdentifiers (types ++ tail) → VarEnds tail → type_text 0 (types ++ tail) ≡ first_type types t
-types_first _ (last ss t) tail f h = type_read 0 ss t tail f (type_just ss t tail f h.kind) ∙ no_wider (type_in ss t)
+types_first _ (last ss t) tail f h = type_read 0 ss t tail f (type_just ss t tail f h.kind) ∙ no_more_dims (spelled_type ss t)
 types_first _ (followed first s others t d l) tail f h =
     let same = append_assoc first (s ∷ others) tail in
     let rest = s ∷ (others ++ tail) in
     let g = subst NamesAreIdentifiers same f in
-    ap (type_text 0) same ∙ (type_read 0 first t rest g (type_just first t rest g (and_ends s (others ++ tail) d)) ∙ no_wider (type_in first t))
+    ap (type_text 0) same ∙ (type_read 0 first t rest g (type_just first t rest g (and_ends s (others ++ tail) d)) ∙ no_more_dims (spelled_type first t))
 
 no_bound : (ss : List Sign) → bounds_len ss ≡ 0 → bound_of ss ≡ None
 unfolding bound_of
@@ -90,13 +90,13 @@ some_bound : (ss : List Sign) (n : ℕ) → bounds_len ss ≡ suc n → bound_of
 unfolding bound_of
 some_bound ss n e = pick (bounds_len ss) n None (Some (type_text 0 (drop 1 ss))) (sym e)
 
-bound_read : (ss : List Sign) (b : IsOptional (IsBoth (IsSign (codes "extends")) (IsList (codes "&") IsType)) ss) (tail : List Sign) → NamesAreIdentifiers (ss ++ tail) → VarEnds tail → bound_of (ss ++ tail) ≡ bound_in ss b
+bound_read : (ss : List Sign) (b : IsOptional (IsBoth (IsSign (codes "extends")) (IsList (codes "&") IsType)) ss) (tail : List Sign) → NamesAreIdentifiers (ss ++ tail) → VarEnds tail → bound_of (ss ++ tail) ≡ spelled_bound ss b
 bound_read _ absent tail f h = no_bound tail (no_bounds tail h.no_extends)
 bound_read _ (present _ (both _ types (sign s e) t)) tail f h =
     let size = optional_bounds (s ∷ types) (present (s ∷ types) (both (s ∷ []) types (sign s e) t)) tail f h in
     some_bound (s ∷ (types ++ tail)) (length types) size ∙ ap Some (types_first types t tail (names_behind (s ∷ []) (types ++ tail) f) h)
 
-var_read : (ss : List Sign) (v : IsVar ss) (tail : List Sign) → NamesAreIdentifiers (ss ++ tail) → VarEnds tail → var_of (ss ++ tail) ≡ var_in ss v
+var_read : (ss : List Sign) (v : IsVar ss) (tail : List Sign) → NamesAreIdentifiers (ss ++ tail) → VarEnds tail → var_of (ss ++ tail) ≡ spelled_var ss v
 unfolding var_of first_text
 var_read _ (both _ bounds (identifier s e) b) tail f h =
     ap {B = TypeVar} (λ x. record { name = s.text; bound = x }) (bound_read bounds b tail (names_behind (s ∷ []) (bounds ++ tail) f) h)
@@ -105,7 +105,7 @@ vars_some_read : (ss : List Sign) (n : ℕ) → vars_len ss ≡ suc n → vars_o
 unfolding vars_of
 vars_some_read ss n e = pick (vars_len ss) n [] (map var_of (entries entry.Var (drop 1 ss))) (sym e)
 
-vars_read : (ss : List Sign) (v : IsVars ss) (tail : List Sign) → NamesAreIdentifiers (ss ++ tail) → vars_of (ss ++ tail) ≡ vars_in ss v
+vars_read : (ss : List Sign) (v : IsVars ss) (tail : List Sign) → NamesAreIdentifiers (ss ++ tail) → vars_of (ss ++ tail) ≡ spelled_vars ss v
 vars_read _ (both _ _ (sign s e) (both vars _ v (sign t g))) tail f =
     let all = s ∷ ((vars ++ (t ∷ [])) ++ tail) in
     let some : 0 < vars_len all = omega (arith, vars_least (s ∷ (vars ++ (t ∷ []))) (both (s ∷ []) (vars ++ (t ∷ [])) (sign s e) (both vars (t ∷ []) v (sign t g))) tail f) in
@@ -114,7 +114,7 @@ vars_read _ (both _ _ (sign s e) (both vars _ v (sign t g))) tail f =
     let behind = subst NamesAreIdentifiers same (names_behind (s ∷ []) ((vars ++ (t ∷ [])) ++ tail) f) in
     vars_some_read all there.0 there.1
     ∙ (ap (λ xs. map var_of (entries entry.Var xs)) same
-    ∙ list_read entry.Var IsVar VarEnds TypeVar var_of var_in var_stops var_some comma_ends var_read vars v (t ∷ tail) behind (close_ends t tail g) (tail_none (codes ",") var_len (next_len entry.Var) (reads_next entry.Var) (t ∷ tail) (no_comma t tail g)))
+    ∙ list_read entry.Var IsVar VarEnds TypeVar var_of spelled_var var_stops var_some comma_ends var_read vars v (t ∷ tail) behind (close_ends t tail g) (tail_none (codes ",") var_len (next_len entry.Var) (reads_next entry.Var) (t ∷ tail) (no_comma t tail g)))
 
 pub vars_are_read : VarsAreRead
 vars_are_read ss f v =
@@ -124,7 +124,7 @@ vars_are_read ss f v =
 
 -- parameters
 
-one_param : (ss : List Sign) (p : IsParam ss) (tail : List Sign) → NamesAreIdentifiers (ss ++ tail) → NoDim tail → param_of (ss ++ tail) ≡ param_in ss p
+one_param : (ss : List Sign) (p : IsParam ss) (tail : List Sign) → NamesAreIdentifiers (ss ++ tail) → NoDim tail → param_of (ss ++ tail) ≡ spelled_param ss p
 one_param ss p tail f h = param_read ss p tail f (param_stops ss p tail f h)
 
 no_list : (e : Entry) (ss : List Sign) → entry_len e ss ≡ 0 → entries e ss ≡ []
@@ -134,14 +134,14 @@ no_list e ss h = rw (h) refl
 all_read : (ss : List Sign) (p : IsOptional (IsList (codes ",") IsParam) ss) (s : Sign) (tail : List Sign) → is (codes ")") s ≡ true → NamesAreIdentifiers (ss ++ (s ∷ tail)) → map param_of (entries entry.Param (ss ++ (s ∷ tail))) ≡ all_params ss p
 all_read _ absent s tail e f = ap (map param_of) (no_list entry.Param (s ∷ tail) (no_param s tail (first_named s tail f) e))
 all_read _ (present ss l) s tail e f =
-    list_read entry.Param IsParam NoDim Param param_of param_in param_stops param_some lists.comma_ends one_param ss l (s ∷ tail) f (lists.close_ends s tail e)
+    list_read entry.Param IsParam NoDim Param param_of spelled_param param_stops param_some lists.comma_ends one_param ss l (s ∷ tail) f (lists.close_ends s tail e)
     (tail_none (codes ",") param_len (next_len entry.Param) (reads_next entry.Param) (s ∷ tail) (lists.other_word (codes ",") s tail (differ 44 41 (λ e. absurd (omega arith))) e))
 
 kept_map : (xs : List (List Sign)) → flat_map (λ x. kept (param_of x)) xs ≡ flat_map kept (map param_of xs)
 kept_map [] = refl
 kept_map (x ∷ xs) = ap (λ ys. kept (param_of x) ++ ys) (kept_map xs)
 
-params_read : (ss : List Sign) (p : IsParams ss) (tail : List Sign) → NamesAreIdentifiers (ss ++ tail) → params_of (ss ++ tail) ≡ params_in ss p
+params_read : (ss : List Sign) (p : IsParams ss) (tail : List Sign) → NamesAreIdentifiers (ss ++ tail) → params_of (ss ++ tail) ≡ spelled_params ss p
 unfolding params_of
 params_read _ (both _ _ (sign s e) (both params _ p (sign t g))) tail f =
     let same = append_assoc params (t ∷ []) tail in

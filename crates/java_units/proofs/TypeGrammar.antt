@@ -11,7 +11,7 @@ use Rattle.java_tokens.specs.Words.{is_word}
 use Rattle.java_units.specs.Signs.{Sign, is, has, reserved}
 use Rattle.java_units.specs.Forms.{begins, begins_any, begins_name, primitives, span, angles, name_tail, type_tail, base_len, dim_len, dims_len, type_len}
 use Rattle.java_units.specs.Identifiers.{is_identifier}
-use Rattle.java_units.specs.Grammar.{sign, both, one, other, absent, present, no_more, one_more, last, followed, IsGroup, identifier, primitive, IsPart, IsClassType, IsDims, IsType}
+use Rattle.java_units.specs.Grammar.{sign, both, one, other, absent, present, no_more, one_more, last, followed, IsGroup, identifier, primitive, IsTypePart, IsClassType, IsDims, IsType}
 use Rattle.java_units.specs.Longest.{NamesAreIdentifiers, TakesLongest, TypesAreLongest}
 use Rattle.java_units.proofs.Walks.{pick, span-none, span-more}
 use Rattle.java_units.proofs.Dimensions.{span_within, dims_within}
@@ -60,17 +60,17 @@ span_dot dot zs a b =
     let there : 0 < length (dot ∷ zs) = omega arith in
     omega (arith, span-more type_tail (dot ∷ zs) (suc (part_len zs)) (sym (tail_dot dot zs a b)) some there)
 
-part_just : (part : List Sign) → IsPart part → (tail : List Sign) → begins (codes "<") tail ≡ false → part_len (part ++ tail) ≡ length part
+part_just : (part : List Sign) → IsTypePart part → (tail : List Sign) → begins (codes "<") tail ≡ false → part_len (part ++ tail) ≡ length part
 unfolding part_len
 part_just _ (both _ _ (identifier name e) absent) tail h = ap suc (angles_none tail h)
 part_just _ (both _ _ (identifier name e) (present arguments g)) tail h = ap suc (angles_just arguments tail g)
 
-part_least : (part : List Sign) → IsPart part → (tail : List Sign) → length part ≤ part_len (part ++ tail)
+part_least : (part : List Sign) → IsTypePart part → (tail : List Sign) → length part ≤ part_len (part ++ tail)
 unfolding part_len
 part_least _ (both _ _ (identifier name e) absent) tail = omega arith
 part_least _ (both _ _ (identifier name e) (present arguments g)) tail = omega (arith, angles_just arguments tail g)
 
-part_names : (part : List Sign) → IsPart part → (tail : List Sign) → begins_name (part ++ tail) ≡ true
+part_names : (part : List Sign) → IsTypePart part → (tail : List Sign) → begins_name (part ++ tail) ≡ true
 unfolding begins_name
 part_names _ (both _ _ (identifier name e) absent) tail = e
 part_names _ (both _ _ (identifier name e) (present arguments g)) tail = e
@@ -84,7 +84,7 @@ unfolding parts_len
 past_part part tail e =
     ap (λ n. n + span type_tail (drop n (part ++ tail))) e ∙ ap (λ xs. length part + span type_tail xs) (drop-append_seam part tail)
 
-parts_on : (part : List Sign) (dot : Sign) (zs : List Sign) → IsPart part → is (codes ".") dot ≡ true → begins_name zs ≡ true → parts_len (part ++ (dot ∷ zs)) ≡ length part + suc (parts_len zs)
+parts_on : (part : List Sign) (dot : Sign) (zs : List Sign) → IsTypePart part → is (codes ".") dot ≡ true → begins_name zs ≡ true → parts_len (part ++ (dot ∷ zs)) ≡ length part + suc (parts_len zs)
 parts_on part dot zs p d n =
     past_part part (dot ∷ zs) (part_just part p (dot ∷ zs) (no_angle dot zs d)) ∙ ap (λ k. length part + k) (span_dot dot zs d n)
 
@@ -92,7 +92,7 @@ pub class_names : (ss : List Sign) → IsClassType ss → (tail : List Sign) →
 class_names _ (last part p) tail = part_names part p tail
 class_names _ (followed part dot others p d c) tail = ap begins_name (append_assoc part (dot ∷ others) tail) ∙ part_names part p (dot ∷ (others ++ tail))
 
-dotted_len : (part : List Sign) (dot : Sign) (others tail : List Sign) → IsPart part → is (codes ".") dot ≡ true → IsClassType others → parts_len ((part ++ (dot ∷ others)) ++ tail) ≡ length part + suc (parts_len (others ++ tail))
+dotted_len : (part : List Sign) (dot : Sign) (others tail : List Sign) → IsTypePart part → is (codes ".") dot ≡ true → IsClassType others → parts_len ((part ++ (dot ∷ others)) ++ tail) ≡ length part + suc (parts_len (others ++ tail))
 dotted_len part dot others tail p d c = ap parts_len (append_assoc part (dot ∷ others) tail) ∙ parts_on part dot (others ++ tail) p d (class_names others c tail)
 
 pub class_least : (ss : List Sign) → IsClassType ss → (tail : List Sign) → length ss ≤ parts_len (ss ++ tail)
@@ -159,11 +159,11 @@ unfolding begins_name
 names_some [] e = absurd (cc)
 names_some (s ∷ ss) e = omega arith
 
-part_by : (s : Sign) (xs : List Sign) (n : ℕ) → s.is_name ≡ true → n ≡ angles xs → IsPart (s ∷ take n xs)
+part_by : (s : Sign) (xs : List Sign) (n : ℕ) → s.is_name ≡ true → n ≡ angles xs → IsTypePart (s ∷ take n xs)
 part_by s xs zero e h = both (s ∷ []) [] (identifier s e) absent
 part_by s xs (suc n) e h = both (s ∷ []) (take (suc n) xs) (identifier s e) (present (take (suc n) xs) (angles_group xs n h))
 
-part_sound : (ss : List Sign) → begins_name ss ≡ true → IsPart (take (part_len ss) ss)
+part_sound : (ss : List Sign) → begins_name ss ≡ true → IsTypePart (take (part_len ss) ss)
 unfolding part_len begins_name
 part_sound [] e = absurd (cc)
 part_sound (s ∷ xs) e = part_by s xs (angles xs) e refl
@@ -399,7 +399,7 @@ type_within ss =
 
 -- no form is empty
 
-part_some : (part : List Sign) → IsPart part → 0 < length part
+part_some : (part : List Sign) → IsTypePart part → 0 < length part
 part_some _ (both _ _ (identifier name e) absent) = omega arith
 part_some _ (both _ _ (identifier name e) (present arguments g)) = omega arith
 

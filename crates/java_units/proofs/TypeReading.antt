@@ -8,10 +8,10 @@ use Rattle.java_units.specs.Signs.{Sign, is, has}
 use Rattle.java_units.specs.Forms.{begins, primitives, base_len, dims_len, type_len}
 use Rattle.java_units.specs.Values.{angled, takes, parts_of, type_text}
 use Rattle.java_units.specs.Identifiers.{is_identifier}
-use Rattle.java_units.specs.Grammar.{sign, both, one, other, absent, present, no_more, one_more, last, followed, IsGroup, identifier, primitive, IsPart, IsClassType, IsDims, IsType}
+use Rattle.java_units.specs.Grammar.{sign, both, one, other, absent, present, no_more, one_more, last, followed, IsGroup, identifier, primitive, IsTypePart, IsClassType, IsDims, IsType}
 use Rattle.java_units.specs.Longest.{NamesAreIdentifiers}
 use Rattle.java_units.specs.Trees as trees
-use Rattle.java_units.specs.Trees.{dims_in, type_in, wider, TypesAreRead}
+use Rattle.java_units.specs.Trees.{spelled_dims, spelled_type, with_dims, TypesAreRead}
 use Rattle.java_units.proofs.BracketLaws.{Closed, nothing_closes, past_right, past_left, past_other, shut, count_yes, count_no, count_none}
 use Rattle.java_units.proofs.Groups.{is_other, differ}
 use Rattle.java_units.proofs.TypeGrammar.{parts_len, class_names, class_len, class_least, class_just, bracket_ends, bracket_no_dot, base_class, base_primitive, primitive_begins, primitive_len, not_primitive, type_within}
@@ -131,7 +131,7 @@ named s ss f e =
     let n = All-head (λ s. s.is_name ≡ true → is_identifier s.text ≡ true) s ss f in
     word s ss (named_not (codes ".") s no_identifier-dot n e) (named_not (codes "<") s no_identifier-angle n e) (named_not (codes ">") s no_identifier-close n e)
 
-part_read : (part : List Sign) (p : IsPart part) (rest : List Sign) → NamesAreIdentifiers (part ++ rest) → parts_of 0 (part ++ rest) ≡ trees.part_name part p ∷ parts_of 0 rest
+part_read : (part : List Sign) (p : IsTypePart part) (rest : List Sign) → NamesAreIdentifiers (part ++ rest) → parts_of 0 (part ++ rest) ≡ trees.part_name part p ∷ parts_of 0 rest
 part_read _ (both _ _ (identifier s e) absent) rest f = named s rest f e
 part_read _ (both _ _ (identifier s e) (present arguments g)) rest f =
     named s (arguments ++ rest) f e ∙ ap (λ xs. s.text ∷ xs) (group_passed arguments rest g)
@@ -154,7 +154,7 @@ class_read _ (followed part s others p d c) f =
 
 -- the dimensions
 
-pub dims_length : (ss : List Sign) (d : IsDims ss) → length ss ≡ 2 * dims_in ss d
+pub dims_length : (ss : List Sign) (d : IsDims ss) → length ss ≡ 2 * spelled_dims ss d
 dims_length _ no_more = omega arith
 dims_length _ (one_more _ others (both _ _ (sign a e) (sign b g)) d) = omega (arith, dims_length others d)
 
@@ -173,7 +173,7 @@ name_stops name _ tail c no_more f size = omega (arith, class_least name c tail,
 name_stops name _ tail c (one_more _ others (both _ _ (sign a e) (sign b g)) d) f size =
     class_just name c (a ∷ b ∷ (others ++ tail)) (bracket_ends a b (others ++ tail) e) (bracket_no_dot a b (others ++ tail) e)
 
-class_type_read : (extra : ℕ) (name dims tail : List Sign) (c : IsClassType name) (d : IsDims dims) → NamesAreIdentifiers (name ++ (dims ++ tail)) → type_len (name ++ (dims ++ tail)) ≡ length name + length dims → type_text extra (name ++ (dims ++ tail)) ≡ record { parts = trees.class_names name c; dims = dims_in dims d + extra }
+class_type_read : (extra : ℕ) (name dims tail : List Sign) (c : IsClassType name) (d : IsDims dims) → NamesAreIdentifiers (name ++ (dims ++ tail)) → type_len (name ++ (dims ++ tail)) ≡ length name + length dims → type_text extra (name ++ (dims ++ tail)) ≡ record { parts = trees.class_names name c; dims = spelled_dims dims d + extra }
 unfolding type_text
 class_type_read extra name dims tail c d f size =
     let all = name ++ (dims ++ tail) in
@@ -182,10 +182,10 @@ class_type_read extra name dims tail c d f size =
     let base = base_class all (not_primitive all f names) names ∙ stops in
     let parts : parts_of 0 (take (base_len all) all) ≡ trees.class_names name c = ap (λ k. parts_of 0 (take k all)) base ∙ (ap (parts_of 0) (take-append_seam name (dims ++ tail)) ∙ class_read name c (names_front name (dims ++ tail) f)) in
     let past : dims_len (drop (parts_len all) all) ≡ dims_len (drop (base_len all) all) = ap (λ k. dims_len (drop k all)) (stops ∙ sym base) in
-    let count : dims_len (drop (base_len all) all) / 2 + extra ≡ dims_in dims d + extra = omega (arith, class_len all f names, stops, past, size, dims_length dims d) in
-    same_type (parts_of 0 (take (base_len all) all)) (trees.class_names name c) (dims_len (drop (base_len all) all) / 2 + extra) (dims_in dims d + extra) parts count
+    let count : dims_len (drop (base_len all) all) / 2 + extra ≡ spelled_dims dims d + extra = omega (arith, class_len all f names, stops, past, size, dims_length dims d) in
+    same_type (parts_of 0 (take (base_len all) all)) (trees.class_names name c) (dims_len (drop (base_len all) all) / 2 + extra) (spelled_dims dims d + extra) parts count
 
-primitive_read : (extra : ℕ) (s : Sign) (dims tail : List Sign) (d : IsDims dims) → has primitives s.text ≡ true → type_len (s ∷ (dims ++ tail)) ≡ suc (length dims) → type_text extra (s ∷ (dims ++ tail)) ≡ record { parts = s.text ∷ []; dims = dims_in dims d + extra }
+primitive_read : (extra : ℕ) (s : Sign) (dims tail : List Sign) (d : IsDims dims) → has primitives s.text ≡ true → type_len (s ∷ (dims ++ tail)) ≡ suc (length dims) → type_text extra (s ∷ (dims ++ tail)) ≡ record { parts = s.text ∷ []; dims = spelled_dims dims d + extra }
 unfolding type_text
 primitive_read extra s dims tail d e size =
     let all = s ∷ (dims ++ tail) in
@@ -193,21 +193,21 @@ primitive_read extra s dims tail d e size =
     let alone = word s [] (primitive_not (codes ".") s no_primitive-dot e) (primitive_not (codes "<") s no_primitive-angle e) (primitive_not (codes ">") s no_primitive-close e) in
     let parts : parts_of 0 (take (base_len all) all) ≡ s.text ∷ [] = ap (λ k. parts_of 0 (take k all)) base ∙ (alone ∙ ap (λ xs. s.text ∷ xs) empty_parts) in
     let past : dims_len (drop (base_len all) all) ≡ dims_len (dims ++ tail) = ap (λ k. dims_len (drop k all)) base in
-    let count : dims_len (drop (base_len all) all) / 2 + extra ≡ dims_in dims d + extra = omega (arith, primitive_len s (dims ++ tail) e, past, size, dims_length dims d) in
-    same_type (parts_of 0 (take (base_len all) all)) (s.text ∷ []) (dims_len (drop (base_len all) all) / 2 + extra) (dims_in dims d + extra) parts count
+    let count : dims_len (drop (base_len all) all) / 2 + extra ≡ spelled_dims dims d + extra = omega (arith, primitive_len s (dims ++ tail) e, past, size, dims_length dims d) in
+    same_type (parts_of 0 (take (base_len all) all)) (s.text ∷ []) (dims_len (drop (base_len all) all) / 2 + extra) (spelled_dims dims d + extra) parts count
 
-pub type_read : (extra : ℕ) (ss : List Sign) (t : IsType ss) (tail : List Sign) → NamesAreIdentifiers (ss ++ tail) → type_len (ss ++ tail) ≡ length ss → type_text extra (ss ++ tail) ≡ wider extra (type_in ss t)
+pub type_read : (extra : ℕ) (ss : List Sign) (t : IsType ss) (tail : List Sign) → NamesAreIdentifiers (ss ++ tail) → type_len (ss ++ tail) ≡ length ss → type_text extra (ss ++ tail) ≡ with_dims extra (spelled_type ss t)
 type_read extra _ (both _ dims (one _ (primitive s e)) d) tail f size = primitive_read extra s dims tail d e size
 type_read extra _ (both name dims (other _ c) d) tail f size =
     let same = append_assoc name dims tail in
     ap (type_text extra) same ∙ class_type_read extra name dims tail c d (subst NamesAreIdentifiers same f) (sym (ap type_len same) ∙ (size ∙ length-append name dims))
 
-pub no_wider : (t : TypeText) → wider 0 t ≡ t
-no_wider t = let e : t.dims + 0 ≡ t.dims = omega arith in ap {B = TypeText} (λ d. record t { dims = d }) e
+pub no_more_dims : (t : TypeText) → with_dims 0 t ≡ t
+no_more_dims t = let e : t.dims + 0 ≡ t.dims = omega arith in ap {B = TypeText} (λ d. record t { dims = d }) e
 
 pub types_are_read : TypesAreRead
 types_are_read ss f t =
     let n = type_len ss in
     let whole = take-append-drop n ss in
     let size : type_len (take n ss ++ drop n ss) ≡ length (take n ss) = ap type_len whole ∙ sym (length-take-le n ss (type_within ss)) in
-    ap (type_text 0) (sym whole) ∙ (type_read 0 (take n ss) t (drop n ss) (subst NamesAreIdentifiers (sym whole) f) size ∙ no_wider (type_in (take n ss) t))
+    ap (type_text 0) (sym whole) ∙ (type_read 0 (take n ss) t (drop n ss) (subst NamesAreIdentifiers (sym whole) f) size ∙ no_more_dims (spelled_type (take n ss) t))

@@ -45,12 +45,12 @@ pub data IsPrimitive : List Sign → Type 0 where
   primitive : (s : Sign) → has primitives s.text ≡ true → IsPrimitive (s ∷ [])
 
 -- An identifier, and type arguments behind it or none (JLS 4.5).
-abbrev pub IsPart : List Sign → Type 0
-IsPart ss = IsBoth IsIdentifier (IsOptional (IsGroup (codes "<") (codes ">"))) ss
+abbrev pub IsTypePart : List Sign → Type 0
+IsTypePart ss = IsBoth IsIdentifier (IsOptional (IsGroup (codes "<") (codes ">"))) ss
 
 -- Such parts with dots between (JLS 4.3).
 abbrev pub IsClassType : List Sign → Type 0
-IsClassType ss = IsList (codes ".") IsPart ss
+IsClassType ss = IsList (codes ".") IsTypePart ss
 
 -- Any number of `[ ]` (JLS 10.1).
 abbrev pub IsDims : List Sign → Type 0
