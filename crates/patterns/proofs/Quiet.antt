@@ -12,7 +12,7 @@ use Rattle.patterns.specs.Met.{AreSound}
 use Rattle.patterns.specs.States.{Space, types_at, place_sought, marked_at, need_marked, needs_marked, kind_marked, kinds_of, is_seen, IsSettledAt, IsSettled}
 use Rattle.patterns.specs.Waiting.{AreTargets, AreUses, Waits, IsPending, IsQuiet, ends_needs, ends_marked}
 use Rattle.patterns.specs.declared.state.State.{State}
-use Rattle.patterns.specs.declared.uses.Use.{Use}
+use Rattle.patterns.specs.declared.watchers.Use.{Use}
 use Rattle.patterns.proofs.Mets.{in_ends, ends_in, any_member, some_member, sound-set, sound-mark}
 use Rattle.patterns.proofs.Tables.{remap}
 

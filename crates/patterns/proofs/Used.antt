@@ -11,7 +11,7 @@ use Rattle.succinct.proofs.Numberings.{get_append}
 use Rattle.patterns.specs.States.{Space, place_sought, kinds_of}
 use Rattle.patterns.specs.Waiting.{IsAmong, AreTargets, AreUsedBy, AreUses, needs_of}
 use Rattle.patterns.specs.declared.state.State.{State}
-use Rattle.patterns.specs.declared.uses.Use.{Use}
+use Rattle.patterns.specs.declared.watchers.Use.{Use}
 use Rattle.patterns.proofs.Mets.{in_ends}
 use Rattle.patterns.proofs.Tables.{unmap}
 

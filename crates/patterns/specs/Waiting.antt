@@ -4,7 +4,7 @@ use Rattle.std.specs.List.{list_all}
 use Rattle.succinct.specs.Sets.{has}
 use Rattle.succinct.specs.declared.kind.Succinct.{Succinct}
 use Rattle.patterns.specs.declared.state.State.{State}
-use Rattle.patterns.specs.declared.uses.Use.{Use}
+use Rattle.patterns.specs.declared.watchers.Use.{Use}
 use Rattle.patterns.specs.States.{Space, types_at, place_sought, need_marked}
 
 -- a use stands in the list

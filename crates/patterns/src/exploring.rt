@@ -5,7 +5,7 @@ ghost use Rattle.patterns.specs.States.{AreEnds, AreInRange, AreSetsInRange, IsL
 ghost use Rattle.patterns.specs.declared.state.State.{State};
 ghost use Rattle.succinct.specs.Numbering.{IsGrown};
 
-use crate::ends::Ends;
+use crate::kinds_by_result::Ends;
 use crate::opening::open_state;
 use crate::sets::Sets;
 use crate::states::States;

@@ -6,11 +6,11 @@ ghost use Rattle.patterns.specs.States.{AreEnds, AreInRange, AreSetsInRange, IsL
 ghost use Rattle.patterns.specs.declared.state.State.{State};
 ghost use Rattle.succinct.specs.Compression.{AreDistinct};
 
-use crate::ends::Ends;
 use crate::exploring::explore;
+use crate::kinds_by_result::Ends;
 use crate::listing::{all_met, no_marks};
+use crate::saturate::settle;
 use crate::sets::Sets;
-use crate::settling::settle;
 use crate::state::State;
 use crate::states::States;
 use std::alloc::{AllocError, Global};

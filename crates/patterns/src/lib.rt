@@ -5,22 +5,22 @@
 // the kit's `indexmap`.
 #![tactic(auto)]
 
-mod ends;
 mod exploring;
 mod finding;
+mod kinds_by_result;
 mod listing;
+mod lookup_cache;
 mod marking;
-mod notes;
 mod opening;
 mod patterns;
+mod saturate;
 mod sets;
-mod settling;
 mod state;
 mod states;
 mod type_set;
-mod uses;
 mod wanted;
 mod wanting;
+mod watchers;
 
 pub use patterns::Patterns;
 pub use state::State;

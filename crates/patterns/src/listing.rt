@@ -3,7 +3,7 @@
 ghost use Rattle.std.specs.Prelude.{◌≡◌, ◌<◌, ℕ, false, length, map, slice_get, slice_index_or, Some, IfOk};
 ghost use Rattle.patterns.specs.States.{AreEnds, AreLists};
 
-use crate::ends::Ends;
+use crate::kinds_by_result::Ends;
 use crate::marking::kinds_met;
 use crate::sets::Sets;
 use crate::states::States;

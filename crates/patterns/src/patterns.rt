@@ -7,8 +7,8 @@ ghost use Rattle.succinct.specs.Compression.{IsCompression};
 ghost use Rattle.terms.specs.Faults.{IsValid};
 ghost use Rattle.terms.specs.declared.parts.Parts.{Parts};
 
-use crate::ends::Ends;
 use crate::finding::{Found, find};
+use crate::kinds_by_result::Ends;
 use crate::sets::Sets;
 use crate::state::State;
 use crate::states::States;

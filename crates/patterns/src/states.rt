@@ -6,7 +6,7 @@ ghost use Rattle.patterns.specs.declared.state.State.{State};
 ghost use Rattle.succinct.specs.Compression.{AreDistinct};
 ghost use Rattle.succinct.specs.Numbering.{IsGrown};
 
-use crate::notes::Notes;
+use crate::lookup_cache::Notes;
 use crate::state::State;
 use indexmap::IndexSet;
 use std::alloc::{AllocError, Global};
