@@ -5,5 +5,6 @@ pub mod Lows
 pub mod Reached
 pub mod Leasts
 pub mod Steps
+pub mod Chains
 pub mod Members
 pub mod Equations

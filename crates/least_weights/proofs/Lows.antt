@@ -1,7 +1,6 @@
 -- No term weighs less than the number of its state, where the numbers are closed under the edges.
 use Rattle.std.proofs.Common.{◌≡◌, ◌⊎◌, inl, inr, ℕ, zero, suc, ◌+◌, ◌≤◌, ◌≢◌, Bool, true, false, ◌&&◌, ◌==◌, nat_lt, cond, List, [], ◌∷◌, ◌++◌, length, slice_get, Option, Some, None, refl, sym, ap, subst, ◌∙◌, arith}
 use Rattle.std.proofs.lemmas.Bool.{false≢true, and_parts, and_from, or_cases, eqb-true, eq-eqb, ne_eqb}
-use Rattle.std.proofs.lemmas.Option.{slice_get_within}
 use Rattle.terms.specs.Count.{total}
 use Rattle.terms.specs.Expr.{Expr, var, head, Args, no_args, plain, lam}
 use Rattle.terms.specs.Faults.{IsValid}

@@ -1,7 +1,6 @@
 -- Each number within the limit is reached by a term, where the numbers are supported by the edges.
-use Rattle.std.proofs.Common.{◌≡◌, inl, inr, ℕ, zero, suc, ◌+◌, ◌<◌, ◌≤◌, Bool, true, false, ◌&&◌, ◌==◌, if◌then◌else◌, nat_lt, List, [], ◌∷◌, ◌++◌, length, slice_get, get_or, Some, refl, sym, ap, subst, ◌∙◌, arith}
+use Rattle.std.proofs.Common.{◌≡◌, inl, inr, ℕ, zero, suc, ◌+◌, ◌<◌, ◌≤◌, Bool, true, false, ◌&&◌, ◌==◌, if◌then◌else◌, nat_lt, List, [], ◌∷◌, ◌++◌, length, slice_get, Some, refl, sym, ap, subst, ◌∙◌, arith}
 use Rattle.std.proofs.lemmas.Bool.{and_from, lt-ltb, or_right}
-use Rattle.std.proofs.lemmas.Option.{slice_get_within, slice_get-get_or, get_or_from_slice_get}
 use Rattle.terms.specs.Count.{total}
 use Rattle.terms.specs.Expr.{Expr, var, head, Args, no_args, plain, lam}
 use Rattle.terms.specs.Faults.{IsValid}
@@ -14,9 +13,8 @@ use Rattle.terms.specs.declared.parts.Arg.TheVariants.{Plain, Fun}
 use Rattle.terms.specs.declared.parts.Decl.{Decl}
 use Rattle.terms.specs.declared.parts.Parts.{Parts}
 use Rattle.terms.proofs.Valid.{valid-heavy, below-itself, below-transitive}
-use Rattle.succinct.specs.Compression.{Compression, IsCompression, Source, of_decl, of_pair, places_of}
+use Rattle.succinct.specs.Compression.{Compression, IsCompression, Source, of_decl, of_pair}
 use Rattle.succinct.specs.Sets.{has, types_bound}
-use Rattle.succinct.specs.declared.kind.Succinct.{Succinct}
 use Rattle.patterns.specs.Patterned.{Patterned, ArePatterns}
 use Rattle.patterns.specs.States.{types_at}
 use Rattle.patterns.specs.declared.state.State.{State}

@@ -1,5 +1,5 @@
 -- Numbers for states that solve the equations of a list of edges. A number above the limit stands for none.
-use Rattle.std.specs.Prelude.{◌≡◌, ◌⊎◌, ℕ, ◌+◌, ◌*◌, ◌≤◌, ◌<◌, true, List, [], length, slice_get, slice_index_or, Some}
+use Rattle.std.specs.Prelude.{◌≡◌, ◌⊎◌, ℕ, ◌+◌, ◌*◌, ◌≤◌, ◌<◌, true, List, length, slice_get, slice_index_or, Some}
 use Rattle.std.specs.List.{Contains}
 use Rattle.terms.specs.Count.{total}
 use Rattle.succinct.specs.Sets.{has}
@@ -51,7 +51,3 @@ pub record IsStep (limit : ℕ) (edges : List Edge) (old : List ℕ) (queue : Li
   pub settled : (e : Edge) → IsSettled limit old queue e → IsSettled limit new queue' e
   pub supported : AreSupported limit edges old → AreSupported limit edges new
   pub falls : 2 * worth new + length queue' ≤ 2 * worth old + length queue
-
--- the lists show, for each state, at least the edges of which it is a tail
-abbrev pub AreUsers : List Edge → List (List ℕ) → Type 0
-AreUsers edges users = (m t : ℕ) (e : Edge) → slice_get edges m ≡ Some e → has t e.tails ≡ true → t < length users → has m (slice_index_or users t []) ≡ true

@@ -1,11 +1,13 @@
 // One step for an edge: the number of its state falls where the edge gives less.
 
-ghost use Rattle.std.specs.Prelude.{◌≡◌, ◌<◌, ◌≤◌, ◌∷◌, ℕ, true, length, slice_get, slice_set, Some, OnOk, IsPermutation};
-ghost use Rattle.succinct.specs.Sets.{has};
+ghost use Rattle.std.specs.Prelude.{◌≡◌, ◌<◌, ◌≤◌, ◌∷◌, ℕ, length, slice_get, slice_set, Some, OnOk, IsPermutation};
 ghost use Rattle.least_weights.specs.Numbers.{IsStep, IsSettled};
+ghost use Rattle.least_weights.specs.Users.{Leads};
+ghost use Rattle.least_weights.specs.declared.users.Link.{Link};
 ghost use Rattle.edges.specs.Edges.{Edge};
 
 use crate::costs::{cost_of, number_at};
+use crate::users::Link;
 use edges::Edges;
 use std::alloc::AllocError;
 use weight_queue::WeightQueue;
@@ -77,22 +79,28 @@ fn relax_numbered(
     relax(limit, edges, number, numbers, queue)
 }
 
-/// The steps for the edges of a list of numbers.
-pub fn relax_listed(
+/// The steps for the edges of a chain.
+pub fn relax_chain(
     limit: u32,
     edges: &Edges,
-    list: &[u32],
+    links: &[Link],
+    first: u32,
     numbers: &mut Vec<u32>,
     queue: &mut WeightQueue<u32>,
 ) -> Result<(), AllocError>
     requires small { limit ≤ 10000 }
     requires states { (m : ℕ) (e : Edge) → slice_get edges.now m ≡ Some e → e.state < length numbers.old.items }
+    requires falling { (k : ℕ) (l : Link) → slice_get links.now k ≡ Some l → l.next ≤ k }
+    requires within { first ≤ length links.now }
     ensures step { OnOk result (IsStep limit edges.now numbers.old.items queue.old.items numbers.new.items queue.new.items) }
-    ensures settled { OnOk result ((m : ℕ) (e : Edge) → has m list.now ≡ true → slice_get edges.now m ≡ Some e → IsSettled limit numbers.new.items queue.new.items e) }
+    ensures settled { OnOk result ((m : ℕ) (e : Edge) → Leads links.now first m → slice_get edges.now m ≡ Some e → IsSettled limit numbers.new.items queue.new.items e) }
     ensures as_many { length numbers.new.items ≡ length numbers.old.items }
 {
-    for number in list {
-        relax_numbered(limit, edges, *number, numbers, queue)?;
+    let mut at = first;
+    while at > 0 {
+        let link = links[at as usize - 1];
+        relax_numbered(limit, edges, link.edge, numbers, queue)?;
+        at = link.next;
     }
     Ok(())
 }

@@ -1,23 +1,24 @@
 // The numbers that solve the equations of the edges, found cheapest first.
 
 ghost use Rattle.std.specs.Prelude.{◌≡◌, ◌<◌, ◌≤◌, ◌∷◌, ℕ, [], List, length, map, slice_get, slice_index_or, Some, IfOk, OnOk, IsPermutation};
-ghost use Rattle.least_weights.specs.Numbers.{IsStep, IsSettled, IsSolution, AreUsers, AreSupported};
+ghost use Rattle.least_weights.specs.Numbers.{IsStep, IsSettled, IsSolution, AreSupported};
+ghost use Rattle.least_weights.specs.Users.{AreChains, AreUsers};
 ghost use Rattle.edges.specs.Edges.{Edge};
 
 use crate::costs::number_at;
-use crate::relaxing::{relax_all, relax_listed};
-use crate::users::users_of;
+use crate::relaxing::{relax_all, relax_chain};
+use crate::users::{Users, users_of};
 use edges::Edges;
 use std::alloc::{AllocError, Global};
 use weight_queue::WeightQueue;
 
-/// The list of a state.
-fn users_at(users: &[Vec<u32>], state: u32) -> &[u32]
-    ensures value { result.now ≡ slice_index_or (map (λ l. l.items) users.now) state [] }
+/// The first link of a state, 0 also where there is no such state.
+fn first_of(firsts: &[u32], state: u32) -> u32
+    ensures value { result ≡ slice_index_or firsts.now state 0 }
 {
-    match users.get(state as usize) {
-        Some(list) => list.as_slice(),
-        None => &[],
+    match firsts.get(state as usize) {
+        Some(first) => *first,
+        None => 0,
     }
 }
 
@@ -25,7 +26,7 @@ fn users_at(users: &[Vec<u32>], state: u32) -> &[u32]
 fn go_on(
     limit: u32,
     edges: &Edges,
-    users: &[Vec<u32>],
+    users: &Users,
     key: u32,
     state: u32,
     numbers: &mut Vec<u32>,
@@ -33,8 +34,9 @@ fn go_on(
 ) -> Result<(), AllocError>
     requires small { limit ≤ 10000 }
     requires states { (m : ℕ) (e : Edge) → slice_get edges.now m ≡ Some e → e.state < length numbers.old.items }
-    requires users { AreUsers edges.now (map (λ l. l.items) users.now) }
-    requires as_many { length users.now ≡ length numbers.old.items }
+    requires users { AreUsers edges.now users.now.firsts.items users.now.links.items }
+    requires chains { AreChains users.now.firsts.items users.now.links.items }
+    requires as_many { length users.now.firsts.items ≡ length numbers.old.items }
     ensures step { OnOk result (IsStep limit edges.now numbers.old.items queue.old.items numbers.new.items queue.new.items) }
     ensures settled { OnOk result ((before : List (ℕ × ℕ)) → IsPermutation before ((key, state) ∷ queue.old.items) → ((m : ℕ) (e : Edge) → slice_get edges.now m ≡ Some e → IsSettled limit numbers.old.items before e) → (m : ℕ) (e : Edge) → slice_get edges.now m ≡ Some e → IsSettled limit numbers.new.items queue.new.items e) }
     ensures as_many { length numbers.new.items ≡ length numbers.old.items }
@@ -42,7 +44,8 @@ fn go_on(
     if key != number_at(limit, numbers.as_slice(), state) {
         return Ok(());
     }
-    relax_listed(limit, edges, users_at(users, state), numbers, queue)?;
+    let first = first_of(users.firsts.as_slice(), state);
+    relax_chain(limit, edges, users.links.as_slice(), first, numbers, queue)?;
     Ok(())
 }
 
@@ -50,14 +53,15 @@ fn go_on(
 fn empty_queue(
     limit: u32,
     edges: &Edges,
-    users: &[Vec<u32>],
+    users: &Users,
     numbers: &mut Vec<u32>,
     queue: &mut WeightQueue<u32>,
 ) -> Result<(), AllocError>
     requires small { limit ≤ 10000 }
     requires states { (m : ℕ) (e : Edge) → slice_get edges.now m ≡ Some e → e.state < length numbers.old.items }
-    requires users { AreUsers edges.now (map (λ l. l.items) users.now) }
-    requires as_many { length users.now ≡ length numbers.old.items }
+    requires users { AreUsers edges.now users.now.firsts.items users.now.links.items }
+    requires chains { AreChains users.now.firsts.items users.now.links.items }
+    requires as_many { length users.now.firsts.items ≡ length numbers.old.items }
     requires settled { (m : ℕ) (e : Edge) → slice_get edges.now m ≡ Some e → IsSettled limit numbers.old.items queue.old.items e }
     requires supported { AreSupported limit edges.now numbers.old.items }
     ensures solution { OnOk result (IsSolution limit edges.now numbers.new.items) }
@@ -81,6 +85,6 @@ pub fn solve(alloc: Global, limit: u32, count: usize, edges: &Edges) -> Result<V
     let mut numbers = vec![in alloc; limit + 1; count]?;
     let mut queue = WeightQueue::new(alloc);
     relax_all(limit, edges, &mut numbers, &mut queue)?;
-    empty_queue(limit, edges, users.as_slice(), &mut numbers, &mut queue)?;
+    empty_queue(limit, edges, &users, &mut numbers, &mut queue)?;
     Ok(numbers)
 }

@@ -20,7 +20,7 @@ lowered-by c e at =
     let before = c.number_at-before.ensures.value ∙ ap (λ l. number_at c.args.limit l c.state-state.result) c.as_slice-shown.ensures.value ∙ ap (number_at c.args.limit c.args.numbers.now.items) state in
     record {
       is_cost = c.in-Some.ensures.value.0 ∙ ap (λ w. w + total (number_at c.args.limit c.as_slice-shown.result.now) c.tails.result.now) (c.weight.ensures.value e at)
-        ∙ ap (λ ts. e.weight + total (number_at c.args.limit c.as_slice-shown.result.now) ts) (c.tails.ensures.value e at) ∙ ap (λ l. cost c.args.limit l e) c.as_slice-shown.ensures.value;
+          ∙ ap (λ ts. e.weight + total (number_at c.args.limit c.as_slice-shown.result.now) ts) (c.tails.ensures.value e at) ∙ ap (λ l. cost c.args.limit l e) c.as_slice-shown.ensures.value;
       low = c.requires.states c.args.edge e at;
       less = omega (arith, before, c.if-before-cost.false);
       new_is = c.in_ok-lower.ensures.set ∙ ap (λ s. set c.args.numbers.now.items s c.in-Some.cost) state;

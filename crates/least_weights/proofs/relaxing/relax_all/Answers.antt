@@ -1,4 +1,4 @@
-use Rattle.std.proofs.Common.{◌∙◌, arith, slice_get, Some}
+use Rattle.std.proofs.Common.{◌∙◌, arith}
 use Rattle.std.proofs.lemmas.Option.{slice_get_within}
 use Rattle.edges.proofs.Options.{there}
 use Rattle.least_weights.proofs.Steps.{step-then, settled-next}

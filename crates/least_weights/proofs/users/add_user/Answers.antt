@@ -1,14 +1,24 @@
-use Rattle.std.proofs.Common.{◌<◌, length, sym, subst, arith}
-use Rattle.std.proofs.lemmas.List.{length-map}
-use Rattle.succinct.proofs.Places.{grows_at}
-use Rattle.least_weights.proofs.Members.{user-kept, user-added}
+use Rattle.std.proofs.Common.{◌≡◌, ◌+◌, ◌<◌, length, get_or, refl, rules, ◌∙◌, arith}
+use Rattle.least_weights.proofs.Chains.{chains-more, user-kept, user-added}
+use Rattle.least_weights.proofs.Steps.{in-list}
 use Rattle.least_weights.proofs.users.add_user.Goals as goal
 
+pub returns-clause-chains : goal.returns-clause-chains
+returns-clause-chains c =
+    let low : c.args.state < length c.args.firsts.now.items = omega (arith, c.if-place-len.false, c.len.ensures) in
+    let count : c.len-count.result ≡ length c.args.links.now.items = search rules in
+    let next : c.index-next.result.now ≡ get_or c.args.firsts.now.items c.args.state 0 = c.index-next.ensures ∙ in-list c.args.firsts.now.items c.args.state _ 0 low in
+    chains-more c.args.firsts.now.items _ c.args.links.now.items c.push.new.self.items c.args.state c.args.edge (c.len-count.result + 1) low c.index-next.result.now next c.in_ok-push.ensures.items (omega (arith, count)) refl c.requires.chains
+
 pub returns-clause-kept : goal.returns-clause-kept
-returns-clause-kept c =
-    let low : c.args.state < length c.args.users.now.items = omega (arith, c.if-state-len.false, c.len.ensures) in
-    user-kept _ _ c.args.state c.args.edge (subst (λ n. c.args.state < n) (sym (length-map c.args.users.now.items (λ v. v.items))) low) (grows_at (λ v. v.items) _ _ _ c.index_mut.result.now _ low c.index_mut.ensures.value c.in_ok-push.ensures.items)
+returns-clause-kept c t m h =
+    let low : c.args.state < length c.args.firsts.now.items = omega (arith, c.if-place-len.false, c.len.ensures) in
+    let count : c.len-count.result ≡ length c.args.links.now.items = search rules in
+    let next : c.index-next.result.now ≡ get_or c.args.firsts.now.items c.args.state 0 = c.index-next.ensures ∙ in-list c.args.firsts.now.items c.args.state _ 0 low in
+    user-kept c.args.firsts.now.items _ c.args.links.now.items c.push.new.self.items c.args.state c.args.edge (c.len-count.result + 1) low c.index-next.result.now next c.in_ok-push.ensures.items (omega (arith, count)) refl t m h
 
 pub returns-clause-added : goal.returns-clause-added
 returns-clause-added c low =
-    user-added _ _ c.args.state c.args.edge (subst (λ n. c.args.state < n) (sym (length-map c.args.users.now.items (λ v. v.items))) low) (grows_at (λ v. v.items) _ _ _ c.index_mut.result.now _ low c.index_mut.ensures.value c.in_ok-push.ensures.items)
+    let count : c.len-count.result ≡ length c.args.links.now.items = search rules in
+    let next : c.index-next.result.now ≡ get_or c.args.firsts.now.items c.args.state 0 = c.index-next.ensures ∙ in-list c.args.firsts.now.items c.args.state _ 0 low in
+    user-added c.args.firsts.now.items _ c.args.links.now.items c.push.new.self.items c.args.state c.args.edge (c.len-count.result + 1) low c.index-next.result.now next c.in_ok-push.ensures.items (omega (arith, count)) refl
