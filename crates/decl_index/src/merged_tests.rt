@@ -135,3 +135,84 @@ fn merged_classes_are_found_by_canonical_name(rt: HostRuntime) -> Result<(), Fai
     }
     Ok(())
 }
+
+/// Classes that leave the names of the others as they are: `p/A` keeps its nesting, the others are new.
+const BESIDE: [(&str, u16, &str, &str); 4] = [
+    ("p/A", 11, "", ""),
+    ("p/A$N", 12, "p/A", "N"),
+    ("p/A$N$M", 13, "p/A$N", "M"),
+    ("p/E", 14, "", ""),
+];
+
+/// Canonical names, and the flags of their classes.
+const BESIDE_CALLED: [(&str, u16); 7] = [
+    ("p.A", 11),
+    ("p.A.B", 2),
+    ("p.A.N", 12),
+    ("p.A.N.M", 13),
+    ("p.C.D", 4),
+    ("p.E", 14),
+    ("p.A$N", 0),
+];
+
+/// Outer classes and simple names, and the flags of their classes.
+const BESIDE_NESTED: [(&str, &str, u16); 6] = [
+    ("p/A", "B", 2),
+    ("p/A", "N", 12),
+    ("p/A$N", "M", 13),
+    ("p/C", "D", 4),
+    ("p/A", "D", 0),
+    ("", "B", 0),
+];
+
+/// The same where classes of the base have other names in the merge.
+const NESTED: [(&str, &str, u16); 4] = [
+    ("p/E", "X", 13),
+    ("p/C", "D", 4),
+    ("p/S", "R", 16),
+    ("p/A", "X", 0),
+];
+
+/// The canonical name of the class of this name, empty where there is none.
+fn canonical_of<'a, C: Classes>(known: &'a C, name: &str) -> &'a str {
+    match known.find(name) {
+        Some(place) if place < known.count() => known.canonical_name(place),
+        _ => "",
+    }
+}
+
+#[test]
+fn a_merge_beside_its_base_is_found_by_canonical_name(rt: HostRuntime) -> Result<(), Fail> {
+    let index = index_of(rt.alloc(), &BASE)?;
+    let known = Merged::new(rt.alloc(), &index, classes(rt.alloc(), &BESIDE)?)?;
+    for (name, flags) in BESIDE_CALLED {
+        assert!(rt; flags_at(&known, known.by_canonical(name)) == flags);
+    }
+    assert_eq!(rt; canonical_of(&known, "p/A$N$M"), "p.A.N.M");
+    assert_eq!(rt; canonical_of(&known, "p/C$D"), "p.C.D");
+    Ok(())
+}
+
+#[test]
+fn a_merge_beside_its_base_knows_nested_classes(rt: HostRuntime) -> Result<(), Fail> {
+    let index = index_of(rt.alloc(), &BASE)?;
+    let known = Merged::new(rt.alloc(), &index, classes(rt.alloc(), &BESIDE)?)?;
+    for (outer, name, flags) in BESIDE_NESTED {
+        assert!(rt; flags_at(&known, known.nested(outer, name)) == flags);
+    }
+    assert!(rt; known.surrounds("p/C") && known.surrounds("p/A$N"));
+    assert!(rt; !known.surrounds("p/E"));
+    Ok(())
+}
+
+#[test]
+fn a_merge_that_moves_classes_knows_nested_classes(rt: HostRuntime) -> Result<(), Fail> {
+    let index = index_of(rt.alloc(), &BASE)?;
+    let known = Merged::new(rt.alloc(), &index, classes(rt.alloc(), &EXTRA)?)?;
+    for (outer, name, flags) in NESTED {
+        assert!(rt; flags_at(&known, known.nested(outer, name)) == flags);
+    }
+    assert_eq!(rt; canonical_of(&known, "p/C$D"), "p.E.X.D");
+    assert!(rt; known.surrounds("p/S"));
+    Ok(())
+}
