@@ -13,6 +13,3 @@ mod tails;
 mod weights;
 
 pub use edges::Edges;
-
-#[cfg(test)]
-mod tests;

@@ -21,9 +21,9 @@ returns-then-place-decls-2 c =
     let none = binders-none in
     record {
       value = match-weaker c.with_binders-then-place-decls-2.result (c.parts-parts.result.now.limit < 10 + binders []) ((w : ℕ) → slice_get (source_costs g) c.args.number ≡ Some w → g.limit < w) (λ w. (w ≡ 10 + binders []) × (w ≤ c.parts-parts.result.now.limit)) (λ w. (slice_get (source_costs g) c.args.number ≡ Some w) × (w ≤ g.limit))
-        (λ h w h'. (let e : 10 ≡ w = some_eq 10 w (sym at ∙ h') in omega (arith, h, e, none, limit)))
-        (λ w h. (let q = h.0 in let r = h.1 in let e : 10 ≡ w = omega (arith, q, none) in (at ∙ ap (λ n. Some n) e, omega (arith, r, limit))))
-        c.with_binders-then-place-decls-2.ensures.value;
+          (λ h w h'. (let e : 10 ≡ w = some_eq 10 w (sym at ∙ h') in omega (arith, h, e, none, limit)))
+          (λ w h. (let q = h.0 in let r = h.1 in let e : 10 ≡ w = omega (arith, q, none) in (at ∙ ap (λ n. Some n) e, omega (arith, r, limit))))
+          c.with_binders-then-place-decls-2.ensures.value;
     }
 
 pub returns : goal.returns

@@ -15,6 +15,6 @@ returns-in-Some-Some c =
     let run : IsRunOf c.args.state c.self.inside.table (get_or starts c.args.state 0) (get_or starts (c.args.state + 1) 0) = run-at starts c.self.inside.table c.args.state c.self.invariant.1 (slice_get_within starts (c.args.state + 1) c.in-Some-Some.end.now at') in
     record {
       run = subst (λ es. IsRunOf c.args.state es c.in-Some-Some.start.now c.in-Some-Some.end.now) c.self.view_is
-        (subst (λ s. IsRunOf c.args.state c.self.inside.table s c.in-Some-Some.end.now) (get_or_from_slice_get starts c.args.state c.in-Some-Some.start.now 0 at)
-        (subst (λ t. IsRunOf c.args.state c.self.inside.table (get_or starts c.args.state 0) t) (get_or_from_slice_get starts (c.args.state + 1) c.in-Some-Some.end.now 0 at') run));
+          (subst (λ s. IsRunOf c.args.state c.self.inside.table s c.in-Some-Some.end.now) (get_or_from_slice_get starts c.args.state c.in-Some-Some.start.now 0 at)
+          (subst (λ t. IsRunOf c.args.state c.self.inside.table (get_or starts c.args.state 0) t) (get_or_from_slice_get starts (c.args.state + 1) c.in-Some-Some.end.now 0 at') run));
     }
