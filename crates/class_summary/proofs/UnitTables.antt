@@ -1,20 +1,13 @@
 -- The tables of a unit's names, one class further.
-use Rattle.std.proofs.Common.{◌≡◌, ◌≢◌, ◌∙◌, ap, sym, refl, arith, ℕ, zero, suc, ◌+◌, ◌-◌, ◌<◌, ◌≤◌, Bool, true, false, List, [], ◌∷◌, ◌++◌, length, map, drop, get_or, set, slice_get, add-zero, add-one, bytes_eq, if◌then◌else◌, Option, Some, None, Result, Ok, Err, IfOk, OnOk, inl, inr}
+use Rattle.std.proofs.Common.{◌≡◌, ◌∙◌, ap, sym, refl, arith, ℕ, zero, suc, ◌+◌, ◌-◌, ◌<◌, ◌≤◌, Bool, true, false, List, [], ◌∷◌, ◌++◌, length, drop, get_or, slice_get, add-zero, add-one, bytes_eq, if◌then◌else◌, Option, Some, None, Result, Ok, Err, IfOk}
 use Rattle.std.specs.Prelude.{◌==◌, ◌&&◌, is_some}
-use Rattle.std.proofs.lemmas.Bool.Decides.{eqb_tells}
-use Rattle.std.proofs.lemmas.Bool.{false_from_ne_true}
 use Rattle.std.proofs.lemmas.List.{drop_all, drop_more}
 use Rattle.std.proofs.lemmas.Option.{slice_get_read}
 use Rattle.java_units.specs.declared.types.SourceClass.{SourceClass}
 use Rattle.class_summary.specs.Names.{first_from, is_member, member_from, same_number}
-use Rattle.class_summary.specs.UnitTables.{numbered, Table, PutsAt}
-use Rattle.known_classes.proofs.Merging.{two, equal, itself}
-
-swap : (a b : List ℕ) → bytes_eq a b ≡ bytes_eq b a
-swap a b = elim (two (bytes_eq a b)) [
-  | inl t ↦ t ∙ sym (ap (bytes_eq b) (equal a b t) ∙ itself b)
-  | inr f ↦ f ∙ sym (false_from_ne_true (bytes_eq b a) (λ t. let q : bytes_eq a b ≡ true = ap (bytes_eq a) (equal b a t) ∙ itself a in absurd cc))
-]
+use Rattle.known_classes.specs.NameTables.{Table, PutsAt}
+use Rattle.known_classes.proofs.TableLemmas.{swap}
+use Rattle.class_summary.specs.UnitTables.{numbered}
 
 numbered-snoc : {A : Type 0} (f : ℕ → A) (k n : ℕ) → numbered f k n ++ f (k + n) ∷ [] ≡ numbered f k (suc n)
 numbered-snoc {A} f k zero = ap (λ (j : ℕ). f j ∷ []) (add-zero k)
@@ -163,40 +156,6 @@ empty_at [] k t name h e = absurd (cc)
 empty_at (x ∷ ts) zero t name h e = let q : x ≡ t = cc in ap (λ (y : Table). y name) (sym q) ∙ h.0 name
 empty_at (x ∷ ts) (suc k) t name h e = empty_at ts k t name h.1 e
 
-set-here : {A : Type 0} (xs : List A) (i : ℕ) (y : A) → i < length xs → slice_get (set xs i y) i ≡ Some y
-set-here [] i y l = absurd (omega arith)
-set-here (x ∷ xs) zero y l = refl
-set-here (x ∷ xs) (suc i) y l = set-here xs i y (omega arith)
-
-set-else : {A : Type 0} (xs : List A) (i k : ℕ) (y : A) → i ≢ k → slice_get (set xs i y) k ≡ slice_get xs k
-set-else [] i k y h = refl
-set-else (x ∷ xs) zero zero y h = absurd (h refl)
-set-else (x ∷ xs) zero (suc k) y h = refl
-set-else (x ∷ xs) (suc i) zero y h = refl
-set-else (x ∷ xs) (suc i) (suc k) y h = set-else xs i k y (λ e. h (ap suc e))
-
-pub map-set : {A B : Type 0} (f : A → B) (xs : List A) (i : ℕ) (y : A) → map f (set xs i y) ≡ set (map f xs) i (f y)
-map-set f [] i y = refl
-map-set f (x ∷ xs) zero y = refl
-map-set {A} {B} f (x ∷ xs) (suc i) y = ap (λ (r : List B). f x ∷ r) (map-set f xs i y)
-
-pub on_ok : {A E : Type 0} (r : Result A E) (P Q : Type 0) → OnOk r P → (P → Q) → OnOk r Q
-on_ok (Ok x) P Q h f = f h
-on_ok (Err e) P Q h f = tt
-
--- one of the tables has a number more
-pub puts_at : (place : ℕ) (text : List ℕ) (number : ℕ) (old new : List Table) (before after : Table) → slice_get old place ≡ Some before → place < length old → new ≡ set old place after → ((name : List ℕ) → after name ≡ (if bytes_eq text name then Some number else before name)) → PutsAt place text number old new
-puts_at place text number old new before after b l s p k t e =
-    elim (eqb_tells place k) [
-      | inl h ↦
-          let at : slice_get new k ≡ Some after = ap (λ (r : List Table). slice_get r k) s ∙ (ap (slice_get (set old place after)) (sym h.1) ∙ set-here old place after l) in
-          let q : after ≡ t = let w : Some after ≡ Some t = sym at ∙ e in cc in
-          (before, ap (slice_get old) (sym h.1) ∙ b, λ other. ap (λ (f : Table). f other) (sym q) ∙ (p other ∙ ap (λ (y : Bool). if y then Some number else before other) (swap text other ∙ sym (ap (λ (y : Bool). y && bytes_eq other text) h.0))))
-      | inr h ↦
-          let at : slice_get old k ≡ Some t = sym (ap (λ (r : List Table). slice_get r k) s ∙ set-else old place k after h.1) ∙ e in
-          (t, at, λ other. sym (ap (λ (y : Bool). if y then Some number else t other) (ap (λ (y : Bool). y && bytes_eq other text) h.0)))
-    ]
-
 -- the tables of the classes from this number on give their members
 pub record AreMembersFrom (cs : List SourceClass) (left : ℕ) (tables : List Table) : Type 0 where
   pub within : left ≤ length cs
@@ -220,7 +179,7 @@ pub members_put : (cs : List SourceClass) (left k : ℕ) (c : SourceClass) (oute
 members_put cs left k c outer text old new e at o t p h = record {
   within = omega (arith, h.within);
   each = λ i table name g.
-      let q = p i table g in
+      let q = p.each i table g in
       let b : (outer == i && bytes_eq name text) ≡ is_member (Some i) name c = ap (λ (y : List ℕ). outer == i && bytes_eq name y) t ∙ sym (ap (λ (y : Option ℕ). same_number y (Some i) && bytes_eq name c.name) o) in
       q.2 name ∙ (ap (λ (y : Bool). if y then Some k else q.0 name) b ∙ member-down (Some i) name cs left k c (q.0 name) e (omega (arith, h.within)) at (h.each i q.0 name q.1));
 }

@@ -1,7 +1,8 @@
 -- What stands in the tables of a unit's names.
-use Rattle.std.specs.Prelude.{◌≡◌, ℕ, zero, suc, ◌==◌, ◌&&◌, if◌then◌else◌, List, [], ◌∷◌, slice_get, bytes_eq, Option, Some, None}
+use Rattle.std.specs.Prelude.{◌≡◌, ℕ, zero, suc, List, [], ◌∷◌, slice_get, Some, None}
 use Rattle.java_units.specs.declared.types.SourceClass.{SourceClass}
 use Rattle.java_units.specs.declared.types.Unit as unit
+use Rattle.known_classes.specs.NameTables.{Table}
 use Rattle.class_summary.specs.Names.{member_named, own_by_canonical}
 
 -- A text's package, imports and classes.
@@ -12,10 +13,6 @@ SourceUnit = unit.Unit
 abbrev pub numbered : {A : Type 0} → (ℕ → A) → ℕ → ℕ → List A
 numbered f k zero = []
 numbered f k (suc n) = f k ∷ numbered f (suc k) n
-
--- A table of numbers by names.
-abbrev pub Table : Type 0
-Table = List ℕ → Option ℕ
 
 -- The table gives the first class of the text with a canonical name.
 abbrev pub GivesCalled : unit.Unit → Table → Type 0
@@ -28,9 +25,3 @@ GivesTop cs table = (name : List ℕ) → table name ≡ member_named None name 
 -- The table of each class gives its members by their names.
 abbrev pub GiveMembers : List SourceClass → List Table → Type 0
 GiveMembers cs tables = (i : ℕ) (table : Table) (name : List ℕ) → slice_get tables i ≡ Some table → table name ≡ member_named (Some i) name cs
-
--- The tables as before, with a number at a name of the table at this place.
-abbrev pub PutsAt : ℕ → List ℕ → ℕ → List Table → List Table → Type 0
-PutsAt place name number old new =
-    (k : ℕ) (after : Table) → slice_get new k ≡ Some after →
-    (before : Table) × (slice_get old k ≡ Some before) × ((other : List ℕ) → after other ≡ (if place == k && bytes_eq other name then Some number else before other))

@@ -2,12 +2,13 @@ ghost use Rattle.std.specs.Prelude.{◌≡◌, ◌&&◌, ◌==◌, if◌then◌e
 ghost use Rattle.std.specs.BTreeMap.{get_by_text};
 ghost use Rattle.class_summary.specs.Sources.{name_at, internal_name, canonical_name};
 ghost use Rattle.class_summary.specs.Names.{own_by_canonical, member_named, enclosing};
-ghost use Rattle.class_summary.specs.UnitTables.{numbered, Table, GivesCalled, GivesTop, GiveMembers, PutsAt};
+ghost use Rattle.class_summary.specs.UnitTables.{numbered, GivesCalled, GivesTop, GiveMembers};
+ghost use Rattle.known_classes.specs.NameTables.{Table};
 
 use crate::paths::{canonical_name, internal_name};
 use crate::rules::is_member;
 use java_units::{Import, SourceClass, Unit};
-use known_classes::put;
+use known_classes::{put, put_at};
 use lists::{Copies, Items, Text};
 use std::alloc::{AllocError, Global};
 use std::collections::BTreeMap;
@@ -90,22 +91,6 @@ fn empty_tables(alloc: Global, count: usize) -> Result<Vec<BTreeMap<String, usiz
         tables.push(BTreeMap::new(alloc))?;
     }
     Ok(tables)
-}
-
-/// Gives a name a number in the table at this place, where there is one.
-fn put_at(
-    alloc: Global,
-    tables: &mut Vec<BTreeMap<String, usize>>,
-    place: usize,
-    name: &str,
-    number: usize,
-) -> Result<(), AllocError>
-    ensures { OnOk result (PutsAt place name.now number (map get_by_text tables.old.items) (map get_by_text tables.new.items)) }
-{
-    if place >= tables.len() {
-        return Ok(());
-    }
-    put(alloc, &mut tables[place], name, number)
 }
 
 /// The members of each class by their names, found from the last to the first.
