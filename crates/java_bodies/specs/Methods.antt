@@ -1,5 +1,5 @@
 -- The method in whose body a hole stands.
-use Rattle.std.specs.Prelude.{ℕ, zero, suc, ◌+◌, Bool, true, false, ◌&&◌, ◌||◌, ◌==◌, nat_lt, List, [], ◌∷◌, drop, length, count_by, Option, Some, None}
+use Rattle.std.specs.Prelude.{ℕ, suc, Bool, false, ◌&&◌, ◌||◌, ◌==◌, nat_lt, List, [], ◌∷◌, drop, length, count_by, Option, Some, None}
 use Rattle.std.specs.List.{position_from}
 use Rattle.java_units.specs.Signs.{Sign}
 use Rattle.java_units.specs.Members.{held_len}

@@ -1,5 +1,5 @@
 -- The variables in the scope of a hole (JLS 6.3, 14.4).
-use Rattle.std.specs.Prelude.{ℕ, zero, suc, ◌-◌, Bool, true, false, ◌&&◌, ◌||◌, not, List, [], ◌∷◌, ◌++◌, take, drop, length, map, if◌then◌else◌, codes, bytes_eq, Option, Some, None}
+use Rattle.std.specs.Prelude.{ℕ, zero, suc, ◌-◌, Bool, not, List, [], ◌∷◌, ◌++◌, take, drop, length, map, if◌then◌else◌, codes, bytes_eq, Option, Some, None}
 use Rattle.std.specs.List.{flat_map, list_any}
 use Rattle.java_units.specs.Signs.{Sign}
 use Rattle.java_units.specs.Forms.{begins}

@@ -1,5 +1,5 @@
 -- What holds of the hole at each place of each text.
-use Rattle.std.specs.Prelude.{◌≡◌, ℕ, ◌+◌, ◌≤◌, List, length, count_by, bytes_eq, Option, Some}
+use Rattle.std.specs.Prelude.{◌≡◌, ℕ, ◌+◌, ◌≤◌, List, length, count_by, bytes_eq, Some}
 use Rattle.std.specs.Str.{IsCharBoundary}
 use Rattle.java_tokens.specs.declared.token.Token.{Token}
 use Rattle.java_units.specs.declared.types.Unit as unit

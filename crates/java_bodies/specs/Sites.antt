@@ -1,5 +1,5 @@
 -- Holes in a source text.
-use Rattle.std.specs.Prelude.{ℕ, suc, Bool, ◌==◌, bit_and, List, take, drop, length, slice_get, if◌then◌else◌, Option, Some, None}
+use Rattle.std.specs.Prelude.{ℕ, Bool, ◌==◌, bit_and, List, take, drop, length, slice_get, if◌then◌else◌, Option, Some, None}
 use Rattle.java_tokens.specs.declared.token.Token.{Token}
 use Rattle.java_units.specs.Signs.{Sign, signs_of}
 use Rattle.java_units.specs.declared.types.TypeText.{TypeText}

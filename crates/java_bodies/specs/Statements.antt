@@ -1,5 +1,5 @@
 -- Statements of a body, and the one in which the hole stands.
-use Rattle.std.specs.Prelude.{ℕ, zero, suc, ◌+◌, Bool, true, false, ◌&&◌, not, ◌==◌, List, [], ◌∷◌, take, drop, length, if◌then◌else◌, codes}
+use Rattle.std.specs.Prelude.{ℕ, zero, suc, ◌+◌, Bool, true, ◌&&◌, not, ◌==◌, List, [], ◌∷◌, take, drop, length, if◌then◌else◌, codes}
 use Rattle.std.specs.List.{after_last}
 use Rattle.java_units.specs.Signs.{Sign, has}
 use Rattle.java_units.specs.Forms.{begins, begins_name, begins_any, ahead_len, type_len, dims_len}

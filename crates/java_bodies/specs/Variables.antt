@@ -1,5 +1,5 @@
 -- Variables, and what declares them.
-use Rattle.std.specs.Prelude.{ℕ, zero, suc, ◌+◌, ◌-◌, Bool, true, false, ◌&&◌, ◌||◌, not, ◌==◌, List, [], ◌∷◌, ◌++◌, take, drop, length, map, if◌then◌else◌, codes, bytes_eq, Option, Some, None}
+use Rattle.std.specs.Prelude.{ℕ, ◌-◌, Bool, false, ◌&&◌, not, ◌==◌, List, [], ◌∷◌, take, drop, length, map, if◌then◌else◌, codes, bytes_eq, Option, Some, None}
 use Rattle.java_units.specs.Signs.{Sign}
 use Rattle.java_units.specs.Forms.{begins, begins_name, type_len, span, more}
 use Rattle.java_units.specs.Values.{first_text, type_text, fields_of}

@@ -1,5 +1,5 @@
 -- The type that is asked for at a hole.
-use Rattle.std.specs.Prelude.{ℕ, ◌+◌, ◌/◌, Bool, List, [], ◌∷◌, drop, if◌then◌else◌, bytes_eq, Option, Some, None}
+use Rattle.std.specs.Prelude.{ℕ, ◌/◌, List, [], ◌∷◌, drop, if◌then◌else◌, bytes_eq, Option, Some, None}
 use Rattle.std.specs.List.{list_any}
 use Rattle.java_units.specs.Signs.{Sign}
 use Rattle.java_units.specs.Forms.{dims_len}

@@ -1,4 +1,4 @@
-ghost use Rattle.std.specs.Prelude.{◌≡◌, ◌<◌, ◌≤◌, length};
+ghost use Rattle.std.specs.Prelude.{◌≡◌, ◌<◌};
 ghost use Rattle.std.specs.List.{position_from};
 ghost use Rattle.java_units.specs.Signs.{seen};
 ghost use Rattle.java_bodies.specs.Methods.{signs_before, signs_from, is_unclosed, holds, holds_hole, method_at};
@@ -40,34 +40,34 @@ fn is_unclosed(number: usize, lexemes: &[Lexeme<'_>]) -> bool
     held_len(from) == tail(from, 1).len()
 }
 
-/// The tokens of a text: how many stand before a hole, how many there are, and those that count.
+/// A text split at a hole: how many tokens stand before it, how many there are, and those that count.
 #[derive(Clone, Copy)]
-pub struct Around<'a, 'b> {
+pub struct Split<'a, 'b> {
     pub passed: usize,
     pub count: usize,
     pub lexemes: &'b [Lexeme<'a>],
 }
 
 /// Whether the hole stands in the block that these tokens spell.
-fn holds(around: &Around<'_, '_>, body: Option<(u32, u32)>) -> bool
-    ensures { result ≡ holds around.now.passed around.now.count (seen around.now.lexemes.now) body }
+fn holds(split: &Split<'_, '_>, body: Option<(u32, u32)>) -> bool
+    ensures { result ≡ holds split.now.passed split.now.count (seen split.now.lexemes.now) body }
 {
     let Some((first, end)) = body else {
         return false;
     };
     let (first, end) = (first as usize, end as usize);
-    if first >= around.passed {
+    if first >= split.passed {
         return false;
     }
-    around.passed < end || end == around.count && is_unclosed(first, around.lexemes)
+    split.passed < end || end == split.count && is_unclosed(first, split.lexemes)
 }
 
 /// The first of these methods in whose body the hole stands.
-fn method_in(around: &Around<'_, '_>, methods: &[SourceMethod]) -> Option<usize>
-    ensures { result ≡ position_from (holds_hole around.now.passed around.now.count (seen around.now.lexemes.now)) 0 methods.now }
+fn method_in(split: &Split<'_, '_>, methods: &[SourceMethod]) -> Option<usize>
+    ensures { result ≡ position_from (holds_hole split.now.passed split.now.count (seen split.now.lexemes.now)) 0 methods.now }
 {
     for i in 0..methods.len() {
-        if holds(around, methods[i].body) {
+        if holds(split, methods[i].body) {
             return Some(i);
         }
     }
@@ -75,11 +75,11 @@ fn method_in(around: &Around<'_, '_>, methods: &[SourceMethod]) -> Option<usize>
 }
 
 /// The method in whose body the hole stands.
-pub fn method_at(around: &Around<'_, '_>, classes: &[SourceClass]) -> Option<MethodPlace>
-    ensures { result ≡ method_at around.now.passed around.now.count (seen around.now.lexemes.now) classes.now }
+pub fn method_at(split: &Split<'_, '_>, classes: &[SourceClass]) -> Option<MethodPlace>
+    ensures { result ≡ method_at split.now.passed split.now.count (seen split.now.lexemes.now) classes.now }
 {
     for class in 0..classes.len() {
-        if let Some(method) = method_in(around, classes[class].methods.as_slice()) {
+        if let Some(method) = method_in(split, classes[class].methods.as_slice()) {
             return Some(MethodPlace { class, method });
         }
     }

@@ -1,5 +1,5 @@
 ghost use Rattle.std.specs.Prelude.{◌≡◌, IfSome};
-ghost use Rattle.java_tokens.specs.Tokens.{AreWithin, IsWithin};
+ghost use Rattle.java_tokens.specs.Tokens.{IsWithin};
 ghost use Rattle.java_units.specs.Signs.{is_word};
 ghost use Rattle.java_bodies.specs.Places.{touches, touched, is_line_comment, may_end, is_white, is_free, prefix_start, passed};
 

@@ -1,5 +1,4 @@
 ghost use Rattle.std.specs.Prelude.{◌≡◌, ◌++◌, ◌<◌, map, IfOk, OnOk, length};
-ghost use Rattle.java_units.specs.Signs.{seen};
 ghost use Rattle.java_bodies.specs.Variables.{of_param};
 ghost use Rattle.java_bodies.specs.Openers.{gathered};
 ghost use Rattle.java_bodies.specs.Statements.{own_statement};

@@ -3,11 +3,11 @@ ghost use Rattle.std.specs.Str.{IsCharBoundary};
 ghost use Rattle.java_tokens.specs.Tokens.{AreTokensOf};
 ghost use Rattle.java_units.specs.Signs.{seen};
 ghost use Rattle.java_units.specs.Units.{IsUnit};
-ghost use Rattle.java_bodies.specs.Sites.{sight_in, body_signs, is_static, site_by, in_body, in_method, in_classes, hole_behind, hole_of};
+ghost use Rattle.java_bodies.specs.Sites.{sight_in, body_signs, is_static, site_by, in_body, in_method, hole_behind, hole_of};
 
 use crate::blocks::is_in_blocks;
 use crate::body::Body;
-use crate::methods::{Around, MethodPlace, method_at, signs_before, signs_from};
+use crate::methods::{MethodPlace, Split, method_at, signs_before, signs_from};
 use crate::names::{Names, names_of};
 use crate::places::{is_free, passed, prefix_start, touched};
 use crate::scope::variables_of;
@@ -81,13 +81,13 @@ fn sight_in(
 #[tactic(auto, unfolding(crate::specs::Sites::body_signs))]
 fn body_of<'a, 'b>(
     alloc: Global,
-    around: &Around<'a, 'b>,
+    split: &Split<'a, 'b>,
     number: usize,
 ) -> Result<Body<'a, 'b>, AllocError>
-    ensures { IfOk result (λ b. b ≡ body_signs around.now.passed (seen around.now.lexemes.now) number) }
+    ensures { IfOk result (λ b. b ≡ body_signs split.now.passed (seen split.now.lexemes.now) number) }
 {
-    let whole = tail(signs_from(number, around.lexemes), 1);
-    Body::new(alloc, whole, signs_before(around.passed, whole))
+    let whole = tail(signs_from(number, split.lexemes), 1);
+    Body::new(alloc, whole, signs_before(split.passed, whole))
 }
 
 /// Whether the flags have STATIC.
@@ -125,18 +125,18 @@ fn site_by(
 /// The hole in a method.
 fn in_method(
     alloc: Global,
-    around: &Around<'_, '_>,
+    split: &Split<'_, '_>,
     prefix: (u32, u32),
     place: MethodPlace,
     class: &SourceClass,
     method: &SourceMethod,
 ) -> Result<Option<HoleSite>, AllocError>
-    ensures { IfOk result (λ site. site ≡ in_body around.now.passed (seen around.now.lexemes.now) prefix place class.now method.now method.now.body) }
+    ensures { IfOk result (λ site. site ≡ in_body split.now.passed (seen split.now.lexemes.now) prefix place class.now method.now method.now.body) }
 {
     let Some((first, _)) = method.body else {
         return Ok(None);
     };
-    let body = body_of(alloc, around, first as usize)?;
+    let body = body_of(alloc, split, first as usize)?;
     let seen = sight_in(alloc, class, method, &body)?;
     site_by(place, is_static(method.flags), prefix, seen)
 }
@@ -145,13 +145,13 @@ fn in_method(
 #[tactic(auto, unfolding(crate::specs::Sites::hole_behind))]
 fn hole_behind(
     alloc: Global,
-    around: &Around<'_, '_>,
+    split: &Split<'_, '_>,
     prefix: (u32, u32),
     classes: &[SourceClass],
 ) -> Result<Option<HoleSite>, AllocError>
-    ensures { IfOk result (λ site. site ≡ hole_behind around.now.passed around.now.count (seen around.now.lexemes.now) prefix classes.now) }
+    ensures { IfOk result (λ site. site ≡ hole_behind split.now.passed split.now.count (seen split.now.lexemes.now) prefix classes.now) }
 {
-    let Some(place) = method_at(around, classes) else {
+    let Some(place) = method_at(split, classes) else {
         return Ok(None);
     };
     let Some(class) = classes.get(place.class) else {
@@ -160,7 +160,7 @@ fn hole_behind(
     let Some(method) = class.methods.get(place.method) else {
         return Ok(None);
     };
-    in_method(alloc, around, prefix, place, class, method)
+    in_method(alloc, split, prefix, place, class, method)
 }
 
 /// The hole at a place of a text, which is counted in bytes and lies at a whole character; `tokens` and `unit`
@@ -185,10 +185,10 @@ pub fn hole_at(
     }
     let start = prefix_start(place, touched);
     let all = lexemes(alloc, text, tokens)?;
-    let around = Around {
+    let split = Split {
         passed: passed(tokens, start),
         count: tokens.len(),
         lexemes: all.as_slice(),
     };
-    hole_behind(alloc, &around, (start, place), unit.classes.as_slice())
+    hole_behind(alloc, &split, (start, place), unit.classes.as_slice())
 }

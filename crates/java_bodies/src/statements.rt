@@ -1,6 +1,6 @@
 ghost use Rattle.std.specs.Prelude.{◌≡◌, drop};
-ghost use Rattle.java_units.specs.Signs.{seen, sign};
-ghost use Rattle.java_bodies.specs.Statements.{separates, statement_len, statement, may_begin, own_statement, typed, named, valued, is_just, is_declaration, is_assignment, is_field_assignment, asked_by};
+ghost use Rattle.java_units.specs.Signs.{seen};
+ghost use Rattle.java_bodies.specs.Statements.{statement_len, statement, may_begin, own_statement, typed, named, valued, is_just, is_declaration, is_assignment, is_field_assignment, asked_by};
 
 use java_units::forms::{
     Lexeme, ahead_len, begins, begins_any, begins_name, dims_len, front, tail, type_len,

@@ -2,7 +2,7 @@
 use crate::{HoleSite, Local, hole_at};
 use java_tokens::tokens;
 use java_units::{TypeText, read_unit};
-use lists::{Items, Text};
+use lists::Text;
 use std::alloc::{AllocError, Global};
 use std::test::Fail;
 

@@ -1,4 +1,4 @@
-ghost use Rattle.std.specs.Prelude.{◌≡◌, ◌++◌, map, IfOk, OnOk};
+ghost use Rattle.std.specs.Prelude.{◌≡◌, map, IfOk};
 ghost use Rattle.java_units.specs.Signs.{seen};
 ghost use Rattle.java_bodies.specs.Variables.{is_var, usable, of_param, of_field, declared};
 

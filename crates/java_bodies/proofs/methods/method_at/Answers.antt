@@ -9,7 +9,7 @@ use Rattle.java_bodies.proofs.methods.method_at.Goals as goal
 pub returns-in-Some : goal.returns-in-Some
 unfolding method_at
 returns-in-Some c =
-    let a = c.args.around.now in
+    let a = c.args.split.now in
     let p = holds_hole a.passed a.count (seen a.lexemes.now) in
     let e : position_from p 0 c.index-classes-class.result.methods ≡ Some c.in-Some.method =
     ap (λ (x : SourceClass). position_from p 0 x.methods) c.index-classes-class.is ∙ sym (ap (position_from p 0) c.as_slice.ensures) ∙ sym c.method_in.ensures ∙ c.in-Some.is in
@@ -17,7 +17,7 @@ returns-in-Some c =
 
 pub loop-class-preserved : goal.loop-class-preserved
 loop-class-preserved c =
-    let a = c.args.around.now in
+    let a = c.args.split.now in
     let p = holds_hole a.passed a.count (seen a.lexemes.now) in
     let e : position_from p 0 c.index-classes-class.result.methods ≡ None =
     ap (λ (x : SourceClass). position_from p 0 x.methods) c.index-classes-class.is ∙ sym (ap (position_from p 0) c.as_slice.ensures) ∙ sym c.method_in.ensures ∙ c.in_default.is in
@@ -26,5 +26,5 @@ loop-class-preserved c =
 pub returns : goal.returns
 unfolding method_at
 returns c =
-    let a = c.args.around.now in
+    let a = c.args.split.now in
     method_end (holds_hole a.passed a.count (seen a.lexemes.now)) c.args.classes.now c.loop-class.class _ (search rules) c.loop-class.invariant

@@ -5,5 +5,5 @@ use Rattle.java_bodies.proofs.methods.method_at.Given as goal
 
 abbrev pub invariant-loop-class : goal.invariant-loop-class
 invariant-loop-class l =
-    let p = holds_hole l.around.passed l.around.count (seen l.around.lexemes.now) in
+    let p = holds_hole l.split.passed l.split.count (seen l.split.lexemes.now) in
     first_method p 0 l.classes ≡ first_method p l.class (drop l.class l.classes)
