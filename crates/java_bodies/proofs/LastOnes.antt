@@ -1,6 +1,6 @@
 -- Which of several variables of one name counts.
-use Rattle.std.proofs.Common.{◌≡◌, ◌∙◌, ap, sym, ℕ, zero, suc, ◌+◌, ◌<◌, ◌≤◌, slice_index_or, drop, arith, List, [], ◌∷◌, ◌++◌, refl, Bool, true, false, not, ◌||◌, length, rules, reverse, append_assoc, append-nil, bytes_eq, if◌then◌else◌}
-use Rattle.std.specs.List.{flat_map, list_any}
+use Rattle.std.proofs.Common.{◌≡◌, ◌∙◌, ap, sym, ℕ, zero, suc, ◌+◌, ◌<◌, ◌≤◌, slice_index_or, drop, arith, List, [], ◌∷◌, ◌++◌, refl, Bool, true, false, not, ◌||◌, length, reverse, append_assoc, append-nil, bytes_eq}
+use Rattle.std.specs.List.{flat_map}
 use Rattle.std.proofs.lemmas.List.{drop_all, reverse-append}
 use Rattle.java_bodies.proofs.Loops.{at_front}
 use Rattle.java_bodies.specs.Scopes.{is_named, last_ones, last_marks}

@@ -1,7 +1,7 @@
 -- Loops over lists, by what is left.
-use Rattle.std.proofs.Common.{◌≡◌, ◌∙◌, ◌==◌, ap, sym, ℕ, zero, suc, ◌+◌, ◌-◌, ◌<◌, ◌≤◌, slice_index_or, drop, take, map, find, arith, List, [], ◌∷◌, ◌++◌, refl, Bool, true, false, not, length, tests, rules, add-one, Option, Some, None, if◌then◌else◌, ◌&&◌, ◌||◌, bytes_eq, count_by, nat_lt, inl, inr, ◌⊎◌, IfSome}
-use Rattle.std.specs.List.{position_from, list_any, suffix_len, after_last}
-use Rattle.std.proofs.lemmas.List.{drop_more, drop_all, take_more}
+use Rattle.std.proofs.Common.{◌≡◌, ◌∙◌, ap, sym, ℕ, zero, suc, ◌+◌, ◌-◌, ◌<◌, ◌≤◌, slice_index_or, drop, map, find, arith, List, [], ◌∷◌, refl, Bool, true, false, not, length, add-one, Option, Some, None, if◌then◌else◌, ◌&&◌, ◌||◌, bytes_eq, count_by, nat_lt, inl, inr, IfSome}
+use Rattle.std.specs.List.{position_from, list_any, suffix_len}
+use Rattle.std.proofs.lemmas.List.{drop_more, drop_all}
 use Rattle.std.proofs.lemmas.List.Sums.{suffix_len_is, sum_by-cons}
 use Rattle.java_tokens.specs.declared.token.Token.{Token}
 use Rattle.java_tokens.specs.Tokens.{IsWithin, AreWithin}
@@ -10,7 +10,7 @@ use Rattle.java_units.specs.declared.types.SourceField.{SourceField}
 use Rattle.java_units.specs.declared.types.SourceMethod.{SourceMethod}
 use Rattle.java_units.specs.declared.types.SourceClass.{SourceClass}
 use Rattle.java_units.specs.declared.types.TypeText.{TypeText}
-use Rattle.java_units.specs.Signs.{Sign, sign, seen, has}
+use Rattle.java_units.specs.Signs.{Sign, sign, seen}
 use Rattle.java_units.specs.Forms.{begins_any}
 use Rattle.java_units.proofs.Walks.{seen-at, seen-length}
 use Rattle.std.proofs.lemmas.Bool.{cases_lt}

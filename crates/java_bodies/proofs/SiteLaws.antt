@@ -1,7 +1,6 @@
 -- What holds of the hole at each place of each text.
-use Rattle.std.proofs.Common.{◌≡◌, ◌∙◌, ◌==◌, ◌&&◌, ap, sym, subst, ℕ, zero, suc, ◌+◌, ◌<◌, ◌≤◌, arith, List, [], ◌∷◌, ◌++◌, refl, Bool, true, false, not, length, find, nat_lt, nat_le, slice_get, rules, tests, count_by, sum_by, bytes_eq, Option, Some, None, if◌then◌else◌, ◌||◌, ◌⊎◌, inl, inr}
-use Rattle.std.specs.List.{flat_map, list_any}
-use Rattle.std.specs.Str.{IsCharBoundary}
+use Rattle.std.proofs.Common.{◌≡◌, ◌∙◌, ◌==◌, ◌&&◌, ap, sym, subst, ℕ, ◌+◌, ◌<◌, ◌≤◌, arith, List, [], ◌∷◌, refl, Bool, true, false, length, find, nat_lt, nat_le, slice_get, rules, tests, count_by, bytes_eq, Option, Some, None, if◌then◌else◌, ◌||◌, ◌⊎◌, inl, inr}
+use Rattle.std.specs.List.{flat_map}
 use Rattle.std.proofs.lemmas.List.Sums.{sum_by-cons, sum_by-append}
 use Rattle.java_tokens.specs.declared.token.Token.{Token}
 use Rattle.java_units.specs.Signs.{Sign, is_word, signs_of}
@@ -16,7 +15,7 @@ use Rattle.java_bodies.specs.Statements.{own_statement}
 use Rattle.java_bodies.specs.Wanted.{wanted}
 use Rattle.java_bodies.specs.Places.{touches, touched, is_free, prefix_start, passed}
 use Rattle.java_bodies.specs.Methods.{method_at}
-use Rattle.java_bodies.specs.Sites.{sighted, sight_by, sight_in, body_signs, is_static, site_by, in_body, in_method, in_class, in_classes, hole_behind, hole_from, hole_of}
+use Rattle.java_bodies.specs.Sites.{sighted, sight_in, body_signs, is_static, site_by, in_body, in_method, in_class, in_classes, hole_behind, hole_of}
 use Rattle.java_bodies.specs.SiteLaws.{NamesStandOnce, PrefixEndsAtPlace}
 use Rattle.java_bodies.specs.declared.methods.MethodPlace.{MethodPlace}
 use Rattle.java_bodies.specs.declared.names.Names.{Names}

@@ -1,13 +1,12 @@
 -- Walks over the signs of a body, and the loops that gather.
-use Rattle.std.proofs.Common.{◌≡◌, ◌∙◌, ◌==◌, ◌&&◌, ap, sym, ℕ, zero, suc, ◌+◌, ◌-◌, ◌<◌, ◌≤◌, slice_index_or, drop, take, map, arith, List, [], ◌∷◌, ◌++◌, refl, Bool, true, false, length, tests, rules, subst, add-one, reverse, slice_get, Option, Some, None, if◌then◌else◌, ◌⊎◌, inl, inr, unwrap_or}
-use Rattle.std.proofs.lemmas.List.{drop_more, drop_all, take_more, length-drop, length-append, reverse-append, reverse-reverse}
-use Rattle.std.proofs.lemmas.Option.{slice_get-get_or}
+use Rattle.std.proofs.Common.{◌≡◌, ◌∙◌, ◌==◌, ap, sym, ℕ, zero, suc, ◌+◌, ◌<◌, ◌≤◌, slice_index_or, drop, arith, List, [], ◌∷◌, ◌++◌, refl, Bool, true, length, add-one, reverse, slice_get, Option, Some, ◌⊎◌, inl, inr, unwrap_or}
+use Rattle.std.proofs.lemmas.List.{drop_all, length-append, reverse-append}
 use Rattle.java_units.specs.declared.lexemes.Lexeme.{Lexeme}
 use Rattle.java_units.specs.Signs.{Sign, sign, seen}
 use Rattle.java_units.proofs.Walks.{seen-at, seen-length}
 use Rattle.java_bodies.specs.Marks.{mark_of}
 use Rattle.java_bodies.specs.Kept.{closed_before, unopened, keeps, kept_marks}
-use Rattle.java_bodies.specs.Openers.{outside, past_round, open_after, open_after_maybe, open_at, innermost, opener, gathered, opener_alone, openers}
+use Rattle.java_bodies.specs.Openers.{open_after, open_after_maybe, open_at, opener, gathered, opener_alone, openers}
 use Rattle.java_bodies.specs.declared.mark.Mark.{Mark}
 use Rattle.java_bodies.specs.declared.mark.Mark.TheVariants as mark
 use Rattle.java_bodies.specs.declared.mark.Brackets.{Brackets}

@@ -1,4 +1,4 @@
-use Rattle.std.proofs.Common.{ap, ◌≡◌, ◌∙◌}
+use Rattle.std.proofs.Common.{ap, ◌∙◌}
 use Rattle.java_bodies.specs.Blocks.{block_words, follows}
 use Rattle.java_bodies.proofs.blocks.follows_word.Goals as goal
 

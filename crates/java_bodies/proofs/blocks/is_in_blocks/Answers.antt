@@ -1,5 +1,4 @@
-use Rattle.std.proofs.Common.{rules, arith, ap, sym, ◌≡◌, ◌∙◌, ◌<◌, length, true, false}
-use Rattle.java_units.specs.Signs.{seen}
+use Rattle.std.proofs.Common.{arith, ap, sym, ◌≡◌, ◌∙◌, ◌<◌, length}
 use Rattle.java_units.proofs.Walks.{seen-length}
 use Rattle.java_bodies.specs.Blocks.{is_allowed_at, all_below, is_in_blocks}
 use Rattle.java_bodies.proofs.Loops.{all_none, all_on, all_stop}

@@ -1,4 +1,4 @@
-use Rattle.std.proofs.Common.{rules, arith, ap, subst, sym, ◌≡◌, ◌∙◌, ◌≤◌, ◌-◌, length, take, take_all, IfOk, List}
+use Rattle.std.proofs.Common.{arith, ap, subst, ◌≡◌, ◌∙◌, ◌≤◌, ◌-◌, length, take, take_all, IfOk, List}
 use Rattle.std.proofs.lemmas.List.{length-take}
 use Rattle.java_units.specs.Signs.{Sign, seen}
 use Rattle.java_units.proofs.Walks.{seen-length}

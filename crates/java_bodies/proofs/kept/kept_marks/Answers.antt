@@ -1,8 +1,8 @@
-use Rattle.std.proofs.Common.{rules, arith, subst, ap, sym, ◌≡◌, ◌∙◌, ◌+◌, ◌-◌, length, [], drop, reverse}
-use Rattle.std.proofs.lemmas.List.{length-drop, reverse-reverse}
+use Rattle.std.proofs.Common.{rules, arith, subst, ap, sym, ◌≡◌, ◌∙◌, ◌+◌, ◌-◌, length, drop}
+use Rattle.std.proofs.lemmas.List.{length-drop}
 use Rattle.java_units.specs.Signs.{seen}
 use Rattle.java_units.proofs.Walks.{seen-length}
-use Rattle.java_bodies.specs.Kept.{closed_before, unopened, kept_marks}
+use Rattle.java_bodies.specs.Kept.{closed_before, kept_marks}
 use Rattle.java_bodies.proofs.Loops.{no_lexeme}
 use Rattle.java_bodies.proofs.Walks.{IsMarked, marked_first, marked_on, unopened_few}
 use Rattle.java_bodies.proofs.kept.kept_marks.Goals as goal

@@ -1,4 +1,4 @@
-use Rattle.std.proofs.Common.{rules, arith, sym, ap, ◌≡◌, ◌∙◌, Some, None}
+use Rattle.std.proofs.Common.{rules, sym, ap, ◌≡◌, ◌∙◌, Some, None}
 use Rattle.std.specs.List.{position_from}
 use Rattle.java_units.specs.Signs.{seen}
 use Rattle.java_units.specs.declared.types.SourceClass.{SourceClass}

@@ -1,7 +1,7 @@
-use Rattle.std.proofs.Common.{rules, arith, ap, sym, ◌≡◌, ◌∙◌, Bool, true, false}
+use Rattle.std.proofs.Common.{rules, ap, sym, ◌∙◌}
 use Rattle.java_units.specs.Signs.{seen}
 use Rattle.java_units.specs.declared.types.SourceMethod.{SourceMethod}
-use Rattle.java_bodies.specs.Methods.{holds, holds_hole}
+use Rattle.java_bodies.specs.Methods.{holds_hole}
 use Rattle.java_bodies.proofs.Loops.{position_hit, position_on, position_end}
 use Rattle.java_bodies.proofs.methods.method_in.Goals as goal
 

@@ -1,4 +1,4 @@
-use Rattle.std.proofs.Common.{rules, arith, sym, ap, ◌≡◌, ◌∙◌, ◌++◌, ◌≤◌, length, false, true, []}
+use Rattle.std.proofs.Common.{rules, arith, sym, ap, ◌∙◌, ◌++◌, ◌≤◌, length, false}
 use Rattle.std.specs.List.{flat_map}
 use Rattle.java_bodies.specs.Scopes.{hidden_of, hiddens_of, last_ones}
 use Rattle.java_bodies.proofs.LastOnes.{last_marks-length, ones_skip, ones_take, ones_end}

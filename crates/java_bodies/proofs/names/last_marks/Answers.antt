@@ -1,4 +1,4 @@
-use Rattle.std.proofs.Common.{rules, arith, subst, ap, sym, ◌≡◌, ◌∙◌, ◌+◌, ◌-◌, ◌<◌, length, [], drop, reverse, not, List, ℕ, bytes_eq, ◌||◌}
+use Rattle.std.proofs.Common.{rules, arith, subst, ap, ◌≡◌, ◌∙◌, ◌+◌, ◌-◌, length, drop, not, List, ℕ, bytes_eq, ◌||◌}
 use Rattle.std.specs.BTreeSet.{contains_text}
 use Rattle.java_bodies.specs.Scopes.{last_marks}
 use Rattle.java_bodies.proofs.LastOnes.{IsMet, met_first, met_on}

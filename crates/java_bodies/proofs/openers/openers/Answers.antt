@@ -1,4 +1,4 @@
-use Rattle.std.proofs.Common.{rules, arith, ap, sym, ◌≡◌, ◌∙◌, ◌++◌, ◌∷◌, [], length, reverse, ◌<◌}
+use Rattle.std.proofs.Common.{rules, arith, ap, sym, ◌≡◌, ◌∙◌, length, reverse, ◌<◌}
 use Rattle.java_units.specs.Signs.{seen}
 use Rattle.java_units.proofs.Walks.{seen-length}
 use Rattle.java_bodies.specs.Openers.{openers, opener, opener_alone, gathered, open_at, open_after, innermost}

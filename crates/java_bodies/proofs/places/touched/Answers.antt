@@ -1,4 +1,4 @@
-use Rattle.std.proofs.Common.{rules, arith, sym, ◌∙◌}
+use Rattle.std.proofs.Common.{rules, sym, ◌∙◌}
 use Rattle.java_bodies.specs.Places.{touches, touched}
 use Rattle.java_bodies.proofs.Loops.{find_hit, find_on, find_end}
 use Rattle.java_bodies.proofs.places.touched.Goals as goal

@@ -1,5 +1,4 @@
-use Rattle.std.proofs.Common.{rules, arith, ap, sym, ◌≡◌, ◌∙◌, ◌++◌, ◌<◌, length, append_assoc, append-nil}
-use Rattle.java_units.specs.Signs.{seen}
+use Rattle.std.proofs.Common.{arith, ap, sym, ◌≡◌, ◌∙◌, ◌++◌, length, append_assoc, append-nil}
 use Rattle.java_units.proofs.Walks.{seen-length}
 use Rattle.java_bodies.specs.Openers.{gathered}
 use Rattle.java_bodies.specs.Scopes.{added_at}

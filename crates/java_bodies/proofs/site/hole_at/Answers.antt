@@ -1,4 +1,4 @@
-use Rattle.std.proofs.Common.{ap, sym, subst, Option, IfSome}
+use Rattle.std.proofs.Common.{sym, subst, Option, IfSome}
 use Rattle.java_tokens.specs.declared.token.Token.{Token}
 use Rattle.java_tokens.specs.Tokens.{IsWithin}
 use Rattle.java_tokens.proofs.Total.{all_within}

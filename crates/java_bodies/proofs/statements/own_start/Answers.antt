@@ -1,8 +1,8 @@
-use Rattle.std.proofs.Common.{rules, arith, ap, sym, ◌≡◌, ◌∙◌, ◌<◌, ◌-◌, drop, length, true, false}
+use Rattle.std.proofs.Common.{arith, ap, sym, ◌≡◌, ◌∙◌, ◌-◌, drop, length, true, false}
 use Rattle.java_units.specs.Signs.{seen}
 use Rattle.java_units.specs.Forms.{begins_any}
 use Rattle.java_units.proofs.Walks.{seen-length}
-use Rattle.java_bodies.specs.Statements.{separators, own_statement}
+use Rattle.java_bodies.specs.Statements.{separators}
 use Rattle.java_bodies.proofs.Loops.{plain_first, plain_on, plain_end}
 use Rattle.java_bodies.proofs.statements.own_start.Goals as goal
 

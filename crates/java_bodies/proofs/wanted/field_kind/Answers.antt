@@ -1,4 +1,4 @@
-use Rattle.std.proofs.Common.{rules, arith, sym, ap, ◌≡◌, ◌∙◌, Some, true, false, bytes_eq, List, ℕ}
+use Rattle.std.proofs.Common.{rules, sym, ap, ◌∙◌, Some, bytes_eq, List, ℕ}
 use Rattle.java_bodies.proofs.Loops.{field_hit, field_on, field_end}
 use Rattle.java_bodies.proofs.wanted.field_kind.Goals as goal
 

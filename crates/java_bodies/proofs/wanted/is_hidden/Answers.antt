@@ -1,4 +1,4 @@
-use Rattle.std.proofs.Common.{rules, arith, sym, ap, ◌≡◌, ◌∙◌, bytes_eq, List, ℕ}
+use Rattle.std.proofs.Common.{rules, sym, ap, ◌∙◌, bytes_eq, List, ℕ}
 use Rattle.java_bodies.proofs.Loops.{any_hit, any_on, any_end}
 use Rattle.java_bodies.proofs.wanted.is_hidden.Goals as goal
 

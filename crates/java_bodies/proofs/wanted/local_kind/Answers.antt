@@ -1,4 +1,4 @@
-use Rattle.std.proofs.Common.{rules, arith, sym, ap, ◌≡◌, ◌∙◌, subst, Option, IfOk, Some, true, false, bytes_eq, List, ℕ}
+use Rattle.std.proofs.Common.{rules, sym, ap, ◌≡◌, ◌∙◌, subst, Option, IfOk, Some, bytes_eq, List, ℕ}
 use Rattle.java_units.specs.declared.types.TypeText.{TypeText}
 use Rattle.java_bodies.proofs.Loops.{local_hit, local_on, local_end}
 use Rattle.java_bodies.proofs.wanted.local_kind.Goals as goal

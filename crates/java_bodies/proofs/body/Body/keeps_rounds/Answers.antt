@@ -1,4 +1,4 @@
-use Rattle.std.proofs.Common.{ap, true, ◌≡◌, ◌∙◌, drop, slice_get, unwrap_or}
+use Rattle.std.proofs.Common.{ap, true, ◌∙◌, drop, slice_get, unwrap_or}
 use Rattle.java_units.specs.Signs.{seen}
 use Rattle.java_bodies.specs.Bodies.{BodySigns}
 use Rattle.java_bodies.specs.Kept.{keeps}

@@ -1,7 +1,7 @@
-use Rattle.std.proofs.Common.{arith, ap, sym, ◌≡◌, ◌∙◌, ◌<◌, drop, length, slice_get, Some}
+use Rattle.std.proofs.Common.{arith, ap, sym, ◌≡◌, ◌∙◌, ◌<◌, length, slice_get, Some}
 use Rattle.java_units.specs.Signs.{seen}
 use Rattle.java_bodies.specs.Bodies.{BodySigns}
-use Rattle.java_bodies.specs.Openers.{openers, opener}
+use Rattle.java_bodies.specs.Openers.{opener}
 use Rattle.java_bodies.proofs.Walks.{openers_long, opener_get}
 use Rattle.java_bodies.proofs.body.Body.opener.Goals as goal
 
