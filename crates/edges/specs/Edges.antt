@@ -1,5 +1,5 @@
 -- Edges by state: each is a way to a term of just the state's type, by a variable that is bound there, or by a
--- declaration or a pair whose wants are met at other states (the derivation graph of PLDI 2013, section 5.3).
+-- declaration or a pair whose wants are met at other states (after PLDI 2013, section 4).
 use Rattle.std.specs.Prelude.{◌≡◌, ◌⊎◌, ℕ, ◌+◌, ◌<◌, ◌≤◌, true, List, [], ◌++◌, length, map, slice_get, slice_index_or, Option, Some, None}
 use Rattle.succinct.specs.Compression.{Compression, Source, sources, need_of}
 use Rattle.succinct.specs.Sets.{has}
