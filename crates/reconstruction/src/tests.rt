@@ -1,6 +1,5 @@
 use crate::Rebuild;
 use lists::{Items, Text};
-use plain_listing::Plain;
 use std::alloc::{AllocError, Global};
 use terms::{Arg, Decl, Env, EnvFault, Form, Level, Levels, Parts, Term, TermArg};
 
@@ -179,20 +178,11 @@ fn is_spent(search: &Rebuild, case: &Case<'_>) -> bool {
         && search.queued_items() == 0
 }
 
+/// Whether the search gives just these levels, and has popped no more than it may.
 fn rebuilt_levels(alloc: Global, case: &Case<'_>) -> Result<bool, EnvFault> {
     let mut search = Rebuild::over(alloc, env(alloc, case)?)?;
     let all = gives_all(alloc, &mut search, case.levels)?;
     Ok(all && is_spent(&search, case) && search.env().parts().goal == case.goal)
-}
-
-fn plain_levels(alloc: Global, case: &Case<'_>) -> Result<bool, EnvFault> {
-    let mut search = Plain::over(alloc, env(alloc, case)?)?;
-    Ok(gives_all(alloc, &mut search, case.levels)?)
-}
-
-/// Both searches give just these levels.
-fn has_levels(alloc: Global, case: &Case<'_>) -> Result<bool, EnvFault> {
-    Ok(rebuilt_levels(alloc, case)? && plain_levels(alloc, case)?)
 }
 
 /// A declaration without arguments.
@@ -227,14 +217,14 @@ fn each_coercion_weighs_ten(rt: HostRuntime) -> Result<(), EnvFault> {
         levels: &[(15, &[&[1]]), (45, &[&[3, 1]]), (75, &[&[3, 3, 1]])],
         pops: 10,
     };
-    assert!(rt; has_levels(rt.alloc(), &case)?);
+    assert!(rt; rebuilt_levels(rt.alloc(), &case)?);
     let short = Case {
         limit: 74,
         levels: &[(15, &[&[1]]), (45, &[&[3, 1]])],
         pops: 6,
         ..case
     };
-    assert!(rt; has_levels(rt.alloc(), &short)?);
+    assert!(rt; rebuilt_levels(rt.alloc(), &short)?);
     Ok(())
 }
 
@@ -256,14 +246,14 @@ fn a_binder_and_its_use_weigh_one(rt: HostRuntime) -> Result<(), EnvFault> {
         levels: &[(12, &[&[3, 0]]), (16, &[&[3, 1]])],
         pops: 7,
     };
-    assert!(rt; has_levels(rt.alloc(), &case)?);
+    assert!(rt; rebuilt_levels(rt.alloc(), &case)?);
     let flat = Case {
         depth: 0,
         levels: &[],
         pops: 1,
         ..case
     };
-    assert!(rt; has_levels(rt.alloc(), &flat)?);
+    assert!(rt; rebuilt_levels(rt.alloc(), &flat)?);
     Ok(())
 }
 
@@ -300,7 +290,7 @@ fn levels_come_whole_and_in_order(rt: HostRuntime) -> Result<(), EnvFault> {
         pops: 1,
     };
     for case in [no_term, two_names, no_end] {
-        assert!(rt; has_levels(rt.alloc(), &case)?);
+        assert!(rt; rebuilt_levels(rt.alloc(), &case)?);
     }
     Ok(())
 }
@@ -323,7 +313,7 @@ fn seven_terms_of_two_calls(rt: HostRuntime) -> Result<(), EnvFault> {
         ],
         pops: 29,
     };
-    assert!(rt; has_levels(rt.alloc(), &case)?);
+    assert!(rt; rebuilt_levels(rt.alloc(), &case)?);
     Ok(())
 }
 
