@@ -35,3 +35,4 @@ pub mod Partials
 pub mod Remaining
 pub mod Giving
 pub mod Tallies
+pub mod Running

@@ -1,11 +1,11 @@
 -- What a search says of its partial terms.
-use Rattle.std.proofs.Common.{◌≡◌, ◌≢◌, inl, inr, ℕ, ◌+◌, ◌<◌, ◌≤◌, max, true, false, nat_le, ◌&&◌, ◌==◌, List, [], ◌∷◌, ◌++◌, length, map, Option, Some, None, All, refl, sym, ap, subst, ◌∙◌, arith}
+use Rattle.std.proofs.Common.{◌≡◌, ◌≢◌, inl, inr, ℕ, ◌≤◌, max, true, nat_le, ◌&&◌, ◌==◌, List, [], ◌∷◌, ◌++◌, length, map, Option, Some, None, All, refl, sym, ap, subst, ◌∙◌, arith}
 use Rattle.std.proofs.lemmas.Bool.{and_parts, and_from, false≢true, eq-eqb, cases_lt, le-leb, lt-leb, leb-true}
 use Rattle.std.proofs.lemmas.List.Elements.{All-nil, All-weaker}
 use Rattle.terms.specs.Code.{prefix_code}
 use Rattle.terms.specs.Count.{once_if}
 use Rattle.terms.specs.Expr.{Expr}
-use Rattle.terms.specs.Listing.{Skipped, level_of}
+use Rattle.terms.specs.Listing.{Skipped}
 use Rattle.terms.specs.Place.{goal_place, fits_place, weigh, IsInhabitant, total_of}
 use Rattle.terms.specs.declared.parts.Parts.{Parts}
 use Rattle.terms.proofs.Forests.{whole}

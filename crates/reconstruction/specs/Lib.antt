@@ -13,4 +13,6 @@ pub mod Built
 pub mod Rebuilding
 pub mod Partial
 pub mod Tallied
+pub mod Pending
+pub mod Running
 pub mod Made

@@ -4,19 +4,18 @@
 // `patterns`, `least_weights` and `weight_queue`.
 #![tactic(auto)]
 
+mod agenda;
 mod building;
 mod chains;
 mod growing;
 mod heads;
 mod item;
 mod lightest;
-mod making_level;
 mod moves;
 mod moving;
 mod rebuild;
 mod spot;
 mod starting;
-mod stepping;
 mod tables;
 mod variables;
 

@@ -1,17 +1,18 @@
-ghost use Rattle.std.specs.Prelude.{◌≡◌, ◌⊎◌, ◌+◌, ◌≤◌, ◌++◌, All, List, length, IfOk, IfSome, IfNone, OnErr};
+ghost use Rattle.std.specs.Prelude.{◌≡◌, ◌⊎◌, ◌+◌, ◌<◌, ◌≤◌, ◌++◌, false, All, List, length, IfOk, OnOk, IfSome, IfNone, OnErr};
 ghost use Rattle.terms.specs.Expr.{Expr};
 ghost use Rattle.terms.specs.Listing.{AreFew, IsNextLevel, IsNextWeight, Skipped};
 ghost use Rattle.reconstruction.specs.Partial.{AreDivided, IsCode, least_completion, waiting};
 ghost use Rattle.reconstruction.specs.Rebuilding.{AreGiven};
 ghost use Rattle.reconstruction.specs.Search.{fronts};
 
+use crate::agenda::Agenda;
 use crate::building::terms_of;
 use crate::chains::Chains;
-use crate::item::{Arena, Item};
-use crate::making_level::{make_level, next_weight};
+use crate::item::{Arena, Item, Parent};
 use crate::moves::tables_of;
-use crate::starting::begin;
+use crate::starting::{begin, least_at};
 use crate::tables::Tables;
+use crate::variables::grow;
 use std::alloc::{AllocError, Global};
 use std::marker::Model;
 use terms::{Env, Level, Levels};
@@ -23,11 +24,10 @@ use weight_queue::WeightQueue;
 pub struct Rebuild {
     tables: Tables,
     arena: Arena,
-    queue: WeightQueue<Item>,
-    /// The item that was popped last, where it doesn't belong to the levels given.
-    held: Option<(u32, Item)>,
+    /// The partial terms that are still to be looked at; one is held where it doesn't belong to the levels given.
+    agenda: Agenda,
     /// Room for the items that grow from one, before they go into the queue.
-    aside: Vec<(u32, Item)>,
+    children: Vec<(u32, Item)>,
     /// The whole fronts of the level that was begun.
     found: Vec<u32>,
     /// The weight of the level that was begun last, or 0.
@@ -37,24 +37,23 @@ pub struct Rebuild {
 }
 
 impl Model for Rebuild {
-    ghost use Rattle.reconstruction.specs.Levelled.{AreComplete, IsAt, IsLeastHeld, with_held};
-    ghost use Rattle.reconstruction.specs.Rebuilding.{Rebuilding, IsOn, held_shown};
+    ghost use Rattle.reconstruction.specs.Rebuilding.{Rebuilding, held_shown};
+    ghost use Rattle.reconstruction.specs.Running.{IsRunning};
     ghost use Rattle.reconstruction.specs.Tabled.{front_of, seen};
-    ghost use Rattle.reconstruction.specs.Tallied.{AreTallied};
-    ghost use Rattle.std.specs.Prelude.{map, max};
+    ghost use Rattle.std.specs.Prelude.{map};
 
     ghost Value = { Rebuilding };
 
     ghost view = { λ r. record {
       progress = record { parts = r.tables.env; from = r.from };
       reached = r.level;
-      pops = r.queue.pops;
-      queue = seen r.arena r.queue.items;
-      held = held_shown r.arena r.held;
+      pops = r.agenda.pops;
+      queue = seen r.arena r.agenda.queue;
+      held = held_shown r.arena r.agenda.held;
       level = map (front_of r.arena) r.found.items;
     } };
 
-    ghost invariant = { λ r. AreComplete r.tables × IsAt r.tables r.arena (max r.from r.level) (with_held r.held r.queue.items) r.found.items × IsLeastHeld r.held r.queue.items × IsOn r.tables r.from r.level r.found.items × AreTallied r.tables r.arena r.level r.held r.queue.items r.queue.pops };
+    ghost invariant = { λ r. IsRunning r.tables r.arena r.from r.level r.agenda r.found.items };
 }
 
 impl Rebuild {
@@ -73,13 +72,86 @@ impl Rebuild {
         Ok(Rebuild {
             tables,
             arena,
-            queue,
-            held: None,
-            aside: Vec::new(alloc),
+            agenda: Agenda::new(queue),
+            children: Vec::new(alloc),
             found: Vec::new(alloc),
             level: 0,
             from: 0,
         })
+    }
+
+    /// Begins the next level, or goes on with the one that was begun: its weight, `None` where nothing is left.
+    fn begin_level(&mut self) -> Option<u32>
+        ensures next { IfSome result (λ k. IsNextWeight self.old.progress.parts self.old.progress.from k × (self.new.reached ≡ k)) }
+        ensures none_left { IfNone result (
+            Skipped self.old.progress.parts self.old.progress.from (self.old.progress.parts.limit + 1)
+            × (self.new.reached ≡ self.old.reached)) }
+        ensures same { self.new.progress ≡ self.old.progress }
+        ensures pops_rise { self.old.pops ≤ self.new.pops }
+    {
+        let found = self.found.as_slice();
+        match self.agenda.next_weight(found, self.level) {
+            Some(weight) => {
+                self.level = weight;
+                Some(weight)
+            }
+            None => None,
+        }
+    }
+
+    /// Takes the next item of the level that was begun: a whole front goes to those found, another one gives way to
+    /// what grows from it. Whether there was such an item; after want of memory the search stands where it stood.
+    fn step(&mut self) -> Result<bool, AllocError>
+        requires begun { self.old.progress.from ≤ self.old.reached }
+        ensures same { self.new.progress ≡ self.old.progress }
+        ensures reached { self.new.reached ≡ self.old.reached }
+        ensures whole { IfOk result (λ more. more ≡ false → All (λ q. self.new.reached < q.0) (waiting self.new)) }
+        ensures pops_rise { self.old.pops ≤ self.new.pops }
+    {
+        let (key, item) = match self.agenda.next() {
+            Some(next) => next,
+            None => return Ok(false),
+        };
+        if key > self.level {
+            return Ok(false);
+        }
+        match self.arena.stacks.first(item.stack) {
+            None => {
+                self.found.push(item.front)?;
+                self.agenda.drop_held();
+                Ok(true)
+            }
+            Some((spot, rest)) => {
+                let base = key - least_at(&self.tables, spot);
+                let front = item.front;
+                let parent = Parent {
+                    front,
+                    base,
+                    spot,
+                    rest,
+                };
+                self.children.clear();
+                grow(&self.tables, &mut self.arena, &mut self.children, parent)?;
+                self.agenda.replace_held(&mut self.children)?;
+                Ok(true)
+            }
+        }
+    }
+
+    /// Makes the level that was begun. What was found of it before stays, so that it goes on after want of memory.
+    fn make_level(&mut self) -> Result<(), AllocError>
+        requires begun { self.old.progress.from ≤ self.old.reached }
+        ensures same { self.new.progress ≡ self.old.progress }
+        ensures reached { self.new.reached ≡ self.old.reached }
+        ensures whole { OnOk result (All (λ q. self.new.reached < q.0) (waiting self.new)) }
+        ensures pops_rise { self.old.pops ≤ self.new.pops }
+    {
+        for _turn in 0..u64::MAX {
+            if !self.step()? {
+                return Ok(());
+            }
+        }
+        Err(AllocError)
     }
 
     /// The next level, as `next_level` gives it. What is reached is its weight; after want of memory it is the
@@ -97,22 +169,11 @@ impl Rebuild {
         ensures not_further { IfOk result (λ found. IfNone found (self.new.reached ≡ self.old.reached)) }
         ensures being_made { OnErr result (IsNextWeight self.old.progress.parts self.old.progress.from self.new.reached) }
     {
-        let found = self.found.as_slice();
-        let next = next_weight(&mut self.queue, &mut self.held, found, self.level);
-        let weight = match next {
+        let weight = match self.begin_level() {
             Some(weight) => weight,
             None => return Ok(None),
         };
-        self.level = weight;
-        make_level(
-            &self.tables,
-            &mut self.arena,
-            &mut self.queue,
-            &mut self.held,
-            &mut self.aside,
-            &mut self.found,
-            weight,
-        )?;
+        self.make_level()?;
         let fronts = self.found.as_slice();
         let terms = terms_of(alloc, &self.tables, &self.arena, fronts)?;
         self.found.clear();
@@ -131,7 +192,7 @@ impl Rebuild {
         ensures few { AreFew self.now.progress.parts self.now.reached result }
         ensures many { (es : List Expr) → AreGiven self.now.progress es → (length es ≤ result) ⊎ (result ≡ 18446744073709551615) }
     {
-        self.queue.pops()
+        self.agenda.pops()
     }
 
     /// How many partial terms the queue holds. Each of them, and the one that is held beside it, has a completion,
@@ -144,7 +205,7 @@ impl Rebuild {
         ensures found { All (IsCode self.now.progress.parts self.now.reached) self.now.level }
         ensures divided { AreDivided self.now.progress (fronts (waiting self.now) ++ self.now.level) }
     {
-        self.queue.len()
+        self.agenda.queued()
     }
 }
 

@@ -2,13 +2,27 @@
 
 ghost use Rattle.std.specs.Prelude.{◌≡◌, [], ◌∷◌, OnOk};
 ghost use Rattle.reconstruction.specs.Levelled.{AreComplete, IsAt};
+ghost use Rattle.reconstruction.specs.Spots.{IsSpot};
+ghost use Rattle.reconstruction.specs.Tabled.{place_of, least_of};
 
 use crate::item::{Arena, Item};
 use crate::spot::Spot;
-use crate::stepping::least_at;
 use crate::tables::Tables;
 use std::alloc::AllocError;
 use weight_queue::WeightQueue;
+
+/// The least weight at a spot, above the limit where no term within it fits.
+pub fn least_at(tables: &Tables, spot: Spot) -> u32
+    requires complete { AreComplete tables.now }
+    requires spot { IsSpot tables.now.env tables.now.patterns spot }
+    ensures value { result ≡ least_of tables.now (place_of tables.now spot) }
+{
+    let limit = tables.env.parts().limit;
+    match tables.least.least(spot.state) {
+        Some(weight) => weight,
+        None => limit + 1,
+    }
+}
 
 /// Begins a search: with the empty front, where a term within the limit fits the goal, else with nothing.
 pub fn begin(

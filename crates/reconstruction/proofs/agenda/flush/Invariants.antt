@@ -1,6 +1,6 @@
 use Rattle.std.proofs.Common.{◌≡◌, ◌≤◌, ◌++◌, vec_len}
 use Rattle.std.specs.List.Sorted.{IsPermutation}
-use Rattle.reconstruction.proofs.stepping.flush.Given as goal
+use Rattle.reconstruction.proofs.agenda.flush.Given as goal
 
 abbrev pub invariant-loop-key : goal.invariant-loop-key
 invariant-loop-key l = record {

@@ -1,7 +1,7 @@
 use Rattle.std.proofs.Common.{◌+◌, ◌∙◌, Some, None, sym, ap, arith}
 use Rattle.terms.proofs.Valid.{valid-limit}
 use Rattle.reconstruction.proofs.Seeking.{spot-least}
-use Rattle.reconstruction.proofs.stepping.least_at.Goals as goal
+use Rattle.reconstruction.proofs.starting.least_at.Goals as goal
 
 pub overflow_add-result : goal.overflow_add-result
 overflow_add-result c = (let low = valid-limit c.parts.result.now c.parts.ensures.valid in omega (arith, low.1))

@@ -1,6 +1,6 @@
 use Rattle.std.proofs.Common.{◌∙◌, arith}
 use Rattle.reconstruction.proofs.Seeking.{one_moved}
-use Rattle.reconstruction.proofs.stepping.flush.Goals as goal
+use Rattle.reconstruction.proofs.agenda.flush.Goals as goal
 
 pub loop-key-preserved : goal.loop-key-preserved
 loop-key-preserved c = record {
