@@ -8,7 +8,7 @@ use Rattle.terms.specs.Reading.{read}
 use Rattle.terms.specs.declared.parts.Parts.{Parts}
 use Rattle.reconstruction.specs.Fronts.{reading}
 use Rattle.reconstruction.specs.Search.{IsSearch}
-use Rattle.reconstruction.specs.Spots.{IsKept, IsSpot}
+use Rattle.reconstruction.specs.Spots.{IsSpot}
 use Rattle.reconstruction.specs.Tabled.{place_of, places_of, least_of, AreSpots, backwards, front_of, stack_of, IsHeld, seen}
 use Rattle.reconstruction.specs.Levelled.{AreComplete, IsAt}
 use Rattle.reconstruction.specs.declared.item.Item.{Item}
@@ -16,7 +16,7 @@ use Rattle.reconstruction.specs.declared.item.Arena.{Arena}
 use Rattle.reconstruction.specs.declared.spot.Spot.{Spot}
 use Rattle.reconstruction.specs.declared.tables.Tables.{Tables}
 use Rattle.reconstruction.proofs.Making.{moved_at}
-use Rattle.reconstruction.proofs.Starts.{first_search, empty_search}
+use Rattle.reconstruction.proofs.Starts.{first_search}
 
 abbrev pub first_spot_of : Spot
 first_spot_of = record { row = 0; state = 0 }
@@ -24,14 +24,6 @@ first_spot_of = record { row = 0; state = 0 }
 reading-none : (g : Parts) (root : Place) → reading g root [] ≡ Some (record { weight = 0; open_places = root ∷ [] })
 unfolding reading read
 reading-none g root = refl
-
--- nothing, where no term is within the limit
-pub begun_none : (t : Tables) (a : Arena) (key : ℕ) (items : List (ℕ × Item)) → AreComplete t → key ≡ least_of t (place_of t first_spot_of) → t.env.limit < key → items ≡ [] → IsAt t a 0 items []
-begun_none t a key items ready is past empty = subst (λ (l : List (ℕ × Item)). IsAt t a 0 l []) (sym empty) (record {
-  all = All-nil (λ (q : ℕ × Item). IsHeld t a q.0 q.1);
-  inside = All-nil (λ x. x < length a.fronts);
-  search = empty_search t.env t.env.limit (IsKept t.env t.patterns) (least_of t) (goal_place t.env) ready.least ready.root (omega (arith, is, ap (least_of t) ready.start_is, past));
-})
 
 -- the empty front
 pub begun_one : (t : Tables) (a : Arena) (key : ℕ) (i : Item) (old new : List (ℕ × Item)) → AreComplete t → key ≡ least_of t (place_of t first_spot_of) → key ≤ t.env.limit → a.fronts ≡ [] ∷ [] → i.front ≡ 0 → i.stack < length a.stacks → get_or a.stacks i.stack [] ≡ first_spot_of ∷ []

@@ -23,7 +23,7 @@ use Rattle.reconstruction.specs.declared.spot.Spot.{Spot}
 use Rattle.reconstruction.specs.declared.tables.Tables.{Tables}
 use Rattle.reconstruction.proofs.Children.{after, next_reading, no_push}
 use Rattle.reconstruction.proofs.Growths.{all-grown-refl, grew-none, grew-one}
-use Rattle.reconstruction.proofs.Steps.{grew-as}
+use Rattle.reconstruction.proofs.Ways.{grew-as}
 
 joined-one : (row : List ℕ) → joined (row ∷ []) ≡ row
 unfolding joined

@@ -13,7 +13,8 @@ use Rattle.reconstruction.specs.Leasts.{key}
 use Rattle.reconstruction.specs.Fronts.{reading, key_within}
 use Rattle.reconstruction.specs.Search.{key_of}
 use Rattle.reconstruction.specs.Spots.{IsSpot}
-use Rattle.reconstruction.specs.Tabled.{place_of, places_of, least_of, AreSpots, backwards, front_of, stack_of, IsParent, IsCapped, IsTurn, child, may, Pushes}
+use Rattle.reconstruction.specs.Tabled.{place_of, places_of, least_of, AreSpots, backwards, front_of, stack_of, IsParent, IsTurn, child, may, Pushes}
+use Rattle.reconstruction.specs.Totals.{IsCapped}
 use Rattle.reconstruction.specs.declared.item.Item.{Item}
 use Rattle.reconstruction.specs.declared.item.Arena.{Arena}
 use Rattle.reconstruction.specs.declared.item.Parent.{Parent}

@@ -14,12 +14,17 @@ use Rattle.terms.specs.declared.parts.Form.TheVariants as form
 use Rattle.terms.specs.declared.parts.Parts.{Parts}
 use Rattle.terms.proofs.Pairs.{or_then-none, unless-none}
 use Rattle.terms.proofs.Standing.{count-append}
-use Rattle.least_weights.proofs.Sought.{some_eq}
-use Rattle.reconstruction.specs.Moves.{exact_numbers}
+use Rattle.edges.proofs.Options.{some_eq}
+use Rattle.reconstruction.specs.Ways.{often}
 use Rattle.reconstruction.specs.Variables.{variables}
-use Rattle.reconstruction.specs.Made.{often, is_pair_of, is_lower}
-use Rattle.reconstruction.specs.declared.tables.Move.{Move}
-use Rattle.reconstruction.specs.declared.tables.Move.TheVariants.{Head, Lambda, Below}
+
+abbrev pub is_pair_of : ℕ → ℕ → Option (ℕ × ℕ) → Bool
+is_pair_of a b None = false
+is_pair_of a b (Some p) = (p.0 == a) && (p.1 == b)
+
+-- whether the source is the pair of these types
+abbrev pub is_lower : Parts → ℕ → ℕ → ℕ → Bool
+is_lower g goal a n = nat_le (length g.decls) n && is_pair_of a goal (slice_get g.pairs (n - length g.decls))
 
 -- the first variables, each once
 variables-more_often : (b x : ℕ) → often x (variables (suc b)) ≡ often x (variables b) + once_if ((2 * b) == x)
@@ -62,14 +67,6 @@ variables-within (suc b) m h = go (cases_lt m b) (variables-within b m)
         let z : once_if ((2 * b) == (2 * m)) ≡ 0 = ap once_if (ne_eqb (2 * b) (2 * m) (λ q. absurd (omega (arith, q, low)))) in
         let r = later low in
         omega (arith, s, z, r)
-
--- heads are odd
-pub heads-odd : (m : ℕ) (ms : List Move) → often (2 * m) (exact_numbers ms) ≡ 0
-unfolding exact_numbers
-heads-odd m [] = refl
-heads-odd m (Head k w ts ∷ ms) = (let z : once_if ((2 * k + 1) == (2 * m)) ≡ 0 = ap once_if (ne_eqb (2 * k + 1) (2 * m) (λ e. absurd (omega (arith, e)))) in let r = heads-odd m ms in omega (arith, z, r))
-heads-odd m (Lambda k w t ∷ ms) = (let z : once_if ((2 * k + 1) == (2 * m)) ≡ 0 = ap once_if (ne_eqb (2 * k + 1) (2 * m) (λ e. absurd (omega (arith, e)))) in let r = heads-odd m ms in omega (arith, z, r))
-heads-odd m (Below t ∷ ms) = heads-odd m ms
 
 -- a pair that stood before is not in the rest
 any-front : (q : ℕ × ℕ → Bool) (xs : List (ℕ × ℕ)) (y : ℕ × ℕ) → list_any q xs ≡ true → list_any q (xs ++ y ∷ []) ≡ true

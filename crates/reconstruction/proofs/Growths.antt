@@ -8,7 +8,7 @@ use Rattle.terms.specs.Place.{Place, goal_place}
 use Rattle.terms.specs.declared.parts.Parts.{Parts}
 use Rattle.reconstruction.specs.Fronts.{reading}
 use Rattle.reconstruction.specs.Search.{key_of, children}
-use Rattle.reconstruction.specs.Tabled.{place_of, places_of, least_of, AreSpots, backwards, front_of, stack_of, IsHeld, AreHeld, IsParent, AreGrown, child, may, PushesIf, Pushes, seen, picked, Grew}
+use Rattle.reconstruction.specs.Tabled.{places_of, least_of, AreSpots, backwards, front_of, stack_of, IsHeld, AreHeld, IsParent, AreGrown, child, may, PushesIf, Pushes, seen, picked, Grew}
 use Rattle.reconstruction.specs.declared.item.Item.{Item}
 use Rattle.reconstruction.specs.declared.item.Arena.{Arena}
 use Rattle.reconstruction.specs.declared.item.Parent.{Parent}
@@ -42,24 +42,6 @@ held-grown t a b s k i h =
 
 pub are-held-grown : (t : Tables) (a b : Arena) → AreGrown a b → (items : List (ℕ × Item)) → AreHeld t a items → AreHeld t b items
 are-held-grown t a b s items all = All-weaker (λ (q : ℕ × Item). IsHeld t a q.0 q.1) (λ (q : ℕ × Item). IsHeld t b q.0 q.1) (λ q h. held-grown t a b s q.0 q.1 h) items all
-
-pub parent-grown : (t : Tables) (a b : Arena) (p : Parent) → AreGrown a b → IsParent t a p → IsParent t b p
-parent-grown t a b p s h =
-    let front : front_of a p.front ≡ front_of b p.front = ap backwards (sym (s.fronts.same p.front h.front_in)) in
-    let rest : stack_of a p.rest ≡ stack_of b p.rest = sym (s.stacks.same p.rest h.rest_in) in
-    let f_in = h.front_in in
-    let s_in = h.rest_in in
-    let f_long = s.fronts.longer in
-    let s_long = s.stacks.longer in
-    record {
-      front_in = omega (arith, f_in, f_long);
-      rest_in = omega (arith, s_in, s_long);
-      first = h.first;
-      others = subst (AreSpots t) rest h.others;
-      weight = h.weight;
-      is = ap (reading t.env (goal_place t.env)) (sym front) ∙ h.is ∙ ap (λ ps. Some (record { weight = h.weight; open_places = place_of t p.spot ∷ places_of t ps })) rest;
-      base = h.base ∙ ap (λ ps. h.weight + total (least_of t) (places_of t ps)) rest;
-    }
 
 -- a parent's front stays
 pub front-same : (t : Tables) (a b : Arena) (p : Parent) → AreGrown a b → IsParent t a p → front_of b p.front ≡ front_of a p.front

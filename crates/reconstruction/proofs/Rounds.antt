@@ -1,7 +1,7 @@
 -- From one level of a search to the next.
 use Rattle.std.proofs.Common.{◌≡◌, ◌≢◌, inl, inr, ℕ, ◌+◌, ◌<◌, ◌≤◌, max, true, ◌==◌, List, [], ◌∷◌, length, map, Option, Some, None, All, refl, sym, ap, subst, ◌∙◌, arith}
 use Rattle.std.proofs.lemmas.Bool.{and_from, eq-eqb, cases_lt}
-use Rattle.std.proofs.lemmas.List.Elements.{All-head, All-tail, All-weaker}
+use Rattle.std.proofs.lemmas.List.Elements.{All-head, All-tail}
 use Rattle.std.specs.List.Sorted.{IsPermutation}
 use Rattle.terms.specs.Count.{count, once_if, expr_eq}
 use Rattle.terms.specs.Expr.{Expr}
@@ -16,7 +16,7 @@ use Rattle.terms.proofs.Valid.{valid-limit}
 use Rattle.reconstruction.specs.Fronts.{reading}
 use Rattle.reconstruction.specs.Tabled.{front_of}
 use Rattle.reconstruction.specs.Levelled.{AreComplete, IsAt, IsLeastHeld, with_held}
-use Rattle.reconstruction.specs.Built.{IsEnded, IsTermOf, AreTermsOf}
+use Rattle.reconstruction.specs.Built.{IsTermOf, AreTermsOf}
 use Rattle.reconstruction.specs.Rebuilding.{IsOn, HoldsKey, IsBegun}
 use Rattle.reconstruction.specs.declared.item.Arena.{Arena}
 use Rattle.reconstruction.specs.declared.item.Item.{Item}
@@ -33,10 +33,6 @@ skipped_through g a b c first then w low high e = elim (cases_lt w b) [
   | inl below ↦ first w low below e
   | inr above ↦ then w above high e
 ]
-
--- the whole fronts of a level are ended
-pub are_ended : (t : Tables) (a : Arena) (k : ℕ) (items : List (ℕ × Item)) (found : List ℕ) → IsAt t a k items found → All (IsEnded t.env) (map (front_of a) found)
-are_ended t a k items found h = All-weaker (λ (f : List ℕ). reading t.env (goal_place t.env) f ≡ whole k) (IsEnded t.env) (λ f is. record { weight = k; is = is }) (map (front_of a) found) h.search.ended
 
 -- a term that is read at a weight has that weight
 term_weighs : (g : Parts) (k : ℕ) (f : List ℕ) (e : Expr) → reading g (goal_place g) f ≡ whole k → IsTermOf g f e → weigh g (goal_place g) e ≡ k

@@ -1,5 +1,5 @@
 -- Facts for one step of the search.
-use Rattle.std.proofs.Common.{◌≡◌, ℕ, List, [], ◌∷◌, ◌++◌, get_or, Option, None, Result, Ok, Err, OnErr, sym, ap, subst, ◌∙◌, append_assoc}
+use Rattle.std.proofs.Common.{◌≡◌, ℕ, List, [], ◌∷◌, ◌++◌, get_or, Option, None, sym, ap, subst, ◌∙◌, append_assoc}
 use Rattle.std.specs.List.Sorted.{IsPermutation}
 use Rattle.std.proofs.lemmas.List.Sorted.{IsPermutation-trans, IsPermutation-append_right}
 use Rattle.least_weights.specs.LeastWeight.{place_at}
@@ -34,11 +34,3 @@ head_held t a k i items all = All-head (λ (x : ℕ × Item). IsHeld t a x.0 x.1
 -- the first open place of an item is a spot
 pub first_spot : (t : Tables) (a : Arena) (k : ℕ) (p : Spot) (r : ℕ) (i : Item) → IsHeld t a k i → stack_of a i.stack ≡ p ∷ stack_of a r → IsSpot t.env t.patterns p
 first_spot t a k p r i h first = All-head (IsSpot t.env t.patterns) p (stack_of a r) (subst (AreSpots t) first h.spots)
-
-pub on_err_of : {X E : Type 0} (P : Type 0) (r : Result X E) → P → OnErr r P
-on_err_of P (Ok x) h = tt
-on_err_of P (Err e) h = h
-
-pub on_err_by : {X E : Type 0} (P Q : Type 0) (r : Result X E) → (P → Q) → OnErr r P → OnErr r Q
-on_err_by P Q (Ok x) f h = tt
-on_err_by P Q (Err e) f h = f h

@@ -22,14 +22,6 @@ first_search g limit least root l = record {
   divided = λ e fit m. omega (arith, ap once_if (le-leb 0 (weigh g root e) (omega arith)));
 }
 
--- where the root has no term within the limit, nothing is left from the start
-pub empty_search : (g : Parts) (limit : ℕ) (Kept : Place → Type 0) (least : Place → ℕ) (root : Place) → AreLeast g limit Kept least → Kept root → limit < least root → IsSearch g limit least root 0 [] []
-empty_search g limit Kept least root s kept l = record {
-  items = All-nil (λ (q : ℕ × List ℕ). IsItem g limit least root q.0 q.1);
-  ended = All-nil (λ (f : List ℕ). reading g root f ≡ whole 0);
-  divided = λ e fit m. absurd (let low : least root ≤ weigh g root e = s.low root kept e fit m in omega arith);
-}
-
 -- below the least key there is no term
 pub skipped : (g : Parts) (limit : ℕ) (Kept : Place → Type 0) (least : Place → ℕ) (root : Place) → AreLeast g limit Kept least → Kept root → (from k : ℕ) (queue : Queue) → IsSearch g limit least root from queue [] → All (λ q. k ≤ q.0) queue
     → (e : Expr) → fits_place g root e ≡ true → weigh g root e ≤ limit → from ≤ weigh g root e → weigh g root e < k → ⊥

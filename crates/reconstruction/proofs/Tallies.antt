@@ -1,5 +1,5 @@
 -- The pops of a search, step by step.
-use Rattle.std.proofs.Common.{◌≡◌, ◌⊎◌, inl, inr, ℕ, ◌+◌, ◌≤◌, min, nat_le, true, List, [], ◌∷◌, ◌++◌, length, map, Option, Some, None, IfSome, IfNone, All, refl, sym, ap, subst, ◌∙◌, arith}
+use Rattle.std.proofs.Common.{◌≡◌, ◌⊎◌, inl, inr, ℕ, ◌+◌, ◌≤◌, min, nat_le, true, List, [], ◌∷◌, ◌++◌, length, map, Option, Some, None, All, refl, sym, subst, arith}
 use Rattle.std.proofs.lemmas.Bool.{and_from, le-leb, cases_lt}
 use Rattle.std.proofs.lemmas.List.Elements.{All-nil, All-cons, All-head, All-append, All-weaker}
 use Rattle.std.specs.List.Sorted.{IsPermutation}
@@ -8,7 +8,6 @@ use Rattle.terms.specs.Code.{prefix_code}
 use Rattle.terms.specs.Count.{count, expr_eq, Stands, total}
 use Rattle.terms.specs.Expr.{Expr}
 use Rattle.terms.specs.Place.{goal_place, fits_place, weigh, IsInhabitant, total_of}
-use Rattle.weight_queue.specs.Queued.{one_more_pop}
 use Rattle.reconstruction.specs.Fronts.{begins}
 use Rattle.reconstruction.specs.Levelled.{AreComplete, IsAt, with_held}
 use Rattle.reconstruction.specs.Popped.{HasCompletion, IsPopped, NoneLost}
@@ -24,7 +23,7 @@ use Rattle.reconstruction.proofs.Growths.{seen-grown}
 use Rattle.reconstruction.proofs.Levels.{fronts-children, fronts-append}
 use Rattle.reconstruction.proofs.Making.{key_from, grown_seen}
 use Rattle.reconstruction.proofs.Popping.{popped_more, popped_grown, pops_bound}
-use Rattle.reconstruction.proofs.Remaining.{none_lost_moved, none_lost_kept, none_lost_first, given_fit, given_popped, few_codes}
+use Rattle.reconstruction.proofs.Remaining.{none_lost_moved, none_lost_first, given_fit, given_popped, few_codes}
 
 -- the items in another order
 pub popped_moved : (t : Tables) (a : Arena) (w : ℕ) (popped : List (List ℕ)) (old new : List (ℕ × Item)) → IsPermutation old new → IsPopped t.env (goal_place t.env) w popped (fronts (seen a old)) → IsPopped t.env (goal_place t.env) w popped (fronts (seen a new))
@@ -78,14 +77,6 @@ popped_grow t a b from k i ns rest none aside new found popped ready h l empty g
       apart = All-permutation P (fronts (grows ++ seen a rest)) (fronts (seen b new)) moved both;
     }
 
--- the count when an item is popped to be held
-pub counted_held : (h r : Option (ℕ × Item)) (n old new : ℕ) → h ≡ None → IfSome r (λ p. new ≡ one_more_pop old) → IfNone r (new ≡ old) → old ≡ capped (n + held_many h) → new ≡ capped (n + held_many r)
-counted_held h r n old new none more same is = go r more same (is ∙ ap (λ x. capped (n + held_many x)) none)
-  where
-    go : (r : Option (ℕ × Item)) → IfSome r (λ p. new ≡ one_more_pop old) → IfNone r (new ≡ old) → old ≡ capped (n + 0) → new ≡ capped (n + held_many r)
-    go None m s e = s ∙ e
-    go (Some p) m s e = omega (arith, m, e)
-
 -- a tally when an item may have been popped to be held
 pub tally_held : (t : Tables) (a : Arena) (w : ℕ) (h r : Option (ℕ × Item)) (old new : List (ℕ × Item)) (pops now : ℕ) → IsPermutation (with_held h old) (with_held r new) → ((n : ℕ) → pops ≡ capped (n + held_many h) → now ≡ capped (n + held_many r)) → AreTallied t a w h old pops → AreTallied t a w r new now
 tally_held t a w h r old new pops now p counts y = record {
@@ -109,19 +100,6 @@ tally_stepped t a b w h q old new pops now is same step keep y =
       are = step here.popped here.are;
       none_lost = keep here.popped here.none_lost;
     }
-
--- a growth that found no memory
-pub tally_again : (t : Tables) (a b : Arena) (w : ℕ) (h : Option (ℕ × Item)) (q : ℕ × Item) (old new : List (ℕ × Item)) (pops now : ℕ) → h ≡ Some q → now ≡ pops → new ≡ old → AreGrown a b → AreHeld t a (q ∷ old) → AreTallied t a w h old pops → AreTallied t b w h new now
-tally_again t a b w h q old new pops now is same items s all y =
-    let here : AreTallied t a w (Some q) old pops = subst (λ (x : Option (ℕ × Item)). AreTallied t a w x old pops) is y in
-    let counted = here.counted in
-    let made : AreTallied t b w (Some q) old now = record {
-      popped = here.popped;
-      counted = same ∙ counted;
-      are = popped_kept t a b w here.popped (q ∷ old) s all here.are;
-      none_lost = none_lost_kept t a b here.popped (q ∷ old) s all here.none_lost;
-    } in
-    subst (λ (x : Option (ℕ × Item)). AreTallied t b w x new now) (sym is) (subst (λ (l : List (ℕ × Item)). AreTallied t b w (Some q) l now) (sym items) made)
 
 -- at first nothing was popped
 none_apart : (qs : List (List ℕ)) → All (λ q. count (begins q) [] ≡ 0) qs

@@ -1,26 +1,26 @@
--- The moves that are made at a state are turns at each of its spots.
-use Rattle.std.proofs.Common.{◌≡◌, inl, ℕ, suc, ◌+◌, ◌*◌, ◌<◌, ◌≤◌, true, ◌&&◌, ◌==◌, List, [], ◌∷◌, ◌++◌, length, slice_get, Some, All, refl, sym, ap, subst, ◌∙◌, arith}
+-- The edges of a state are turns at each of its spots.
+use Rattle.std.proofs.Common.{◌≡◌, ◌⊎◌, inl, inr, ℕ, suc, ◌+◌, ◌*◌, ◌<◌, ◌≤◌, true, ◌&&◌, ◌==◌, List, [], ◌∷◌, ◌++◌, length, get_or, slice_get, Some, refl, sym, ap, subst, ◌∙◌, arith}
 use Rattle.std.proofs.lemmas.Bool.{and_from, false≢true, or_right}
-use Rattle.std.proofs.lemmas.List.Elements.{All-nil, All-cons, All-weaker}
+use Rattle.std.proofs.lemmas.List.Elements.{All-nil, All-cons}
 use Rattle.std.proofs.lemmas.Option.{slice_get_within}
 use Rattle.terms.specs.Count.{total}
 use Rattle.terms.specs.Faults.{IsValid, HasLengths, are_plain}
 use Rattle.terms.specs.Place.{Place}
 use Rattle.terms.specs.Reading.{has_room, places, binders, some_when, declared_at, turn_by, turn}
-use Rattle.terms.specs.Typing.{is_below, is_pair}
+use Rattle.terms.specs.Typing.{args_wanted, is_below, is_pair}
 use Rattle.terms.specs.Weights.{step}
 use Rattle.terms.specs.declared.parts.Arg.{Arg}
 use Rattle.terms.specs.declared.parts.Arg.TheVariants.{Plain, Fun}
 use Rattle.terms.specs.declared.parts.Decl.{Decl}
 use Rattle.terms.specs.declared.parts.Parts.{Parts}
 use Rattle.terms.proofs.Halves.{symbol-odd}
-use Rattle.terms.proofs.Valid.{valid-depth, valid-limit, valid-pair, below-itself}
+use Rattle.terms.proofs.Valid.{valid-decl, valid-depth, valid-limit, valid-pair, below-itself}
 use Rattle.succinct.specs.Compression.{Compression, need_of}
 use Rattle.patterns.specs.Patterned.{Patterned, ArePatterns, state_sought, sought_from}
 use Rattle.patterns.specs.States.{left_at, place_in, place_sought, place_of}
 use Rattle.patterns.specs.declared.state.State.{State}
 use Rattle.patterns.proofs.Mets.{place_of-get}
-use Rattle.least_weights.specs.Edges.{IsTail, AreTails}
+use Rattle.edges.specs.Edges.{Edge, IsTail, AreTails}
 use Rattle.least_weights.specs.LeastWeight.{AreLeastWeights, place_at}
 use Rattle.least_weights.proofs.Joins.{pair-get}
 use Rattle.least_weights.proofs.Lows.{split-tails, no-tails, step-same, step-apart}
@@ -28,14 +28,14 @@ use Rattle.least_weights.proofs.Sought.{IsAt, plain-at, fun-at}
 use Rattle.reconstruction.specs.Spots.{row_of_args, row_of_decl, rows_at, at_state, IsSpot}
 use Rattle.reconstruction.specs.Tabled as tabled
 use Rattle.reconstruction.specs.Tabled.{places_of, least_of, AreSpots, IsTurn, spots_under}
-use Rattle.reconstruction.specs.Moves.{moves_at, IsExactMove, IsAnyMove}
-use Rattle.reconstruction.specs.Made.{number_of, least_total, IsHead, IsMoveOf}
+use Rattle.reconstruction.specs.Totals.{IsCapped, AreTotals, number_of, least_total, row_by, row_under}
+use Rattle.reconstruction.specs.Ways.{Turns, IsHeadBy, IsHeadOf, IsWayBy, IsWayOf}
 use Rattle.reconstruction.specs.declared.spot.Spot.{Spot}
-use Rattle.reconstruction.specs.declared.tables.Move.{Move}
-use Rattle.reconstruction.specs.declared.tables.Move.TheVariants.{Head, Lambda, Below}
 use Rattle.reconstruction.specs.declared.tables.Tables.{Tables}
+use Rattle.reconstruction.proofs.Evens.{args-shape}
 use Rattle.reconstruction.proofs.Weights.{least-is}
 use Rattle.reconstruction.proofs.Opens.{plain-set}
+use Rattle.reconstruction.proofs.Edged.{AtDecl, EdgeCase}
 
 -- places as spots, with their least weights together
 pub record Opened (t : Tables) (ps : List Place) (spots : List Spot) (sum : ℕ) : Type 0 where
@@ -85,6 +85,22 @@ value-state g c d made i s b t is tail =
     ap (λ o. sought_from d o tail.need) is ∙ ap (λ o. place_sought d.space d.states s o) w.1 ∙ ap (λ o. place_in d.states w.0.goal o) (plain-set d.space s.set w.0 w.2.lambda) in
     let found = place_of-get d.states (record { set = s.set; goal = w.0.goal }) t (sym chain ∙ tail.to) in
     subst (λ x. slice_get d.states t ≡ Some (record { set = s.set; goal = x })) w.2.goal found
+
+single : (ts : List ℕ) → length ts ≡ 1 → (b : ℕ) × (ts ≡ b ∷ [])
+single [] h = absurd (omega (arith, h))
+single (b ∷ []) h = (b, refl)
+single (b ∷ x ∷ ts) h = absurd (omega (arith, h))
+
+-- values leave the row as it is
+plain-row : (args : List Arg) (row k : ℕ) → are_plain args ≡ true → row_by args row k ≡ row
+plain-row [] row k h = refl
+plain-row (Plain b ∷ []) row k h = refl
+plain-row (Plain b ∷ a ∷ more) row k h = refl
+plain-row (Fun ps r ∷ more) row k h = absurd (false≢true h)
+
+more_capped : (limit w real extra both : ℕ) → IsCapped limit w real → both ≡ real + extra → IsCapped limit (w + extra) both
+more_capped limit w real extra both (inl same) sum = inl (omega (arith, same, sum))
+more_capped limit w real extra both (inr past) sum = (let a = past.0 in let b = past.1 in inr (omega (arith, a), omega (arith, b, sum)))
 
 -- the place of a lambda's body, and that there is room for it
 pub record BodyOpened (t : Tables) (k left : ℕ) (ctx : List (List ℕ)) (args : List Arg) (body : ℕ) : Type 0 where
@@ -148,28 +164,26 @@ module _ (t : Tables) (c : Compression) (valid : IsValid t.env) (lengths : HasLe
       }
 
   -- a head whose wants are spots is a turn
-  pub opened-turn : (i row left b goal k w extra : ℕ) (ts : List ℕ) (spots : List Spot) → (h : IsHead t.env c t.patterns t.least i goal k w ts) → has_room left h.decl.args ≡ true → Opened t (places (rows_at t.env row) left h.decl.args) spots (least_total t.env.limit t.least ts) → is_below t.env goal b ≡ true → step (Some goal) b ≡ extra → IsTurn t (record { ctx = rows_at t.env row; left = left; wanted = b }) (2 * k + 1) (w + extra) spots
+  opened-turn : (i row left b goal k w extra : ℕ) (ts : List ℕ) (spots : List Spot) (decl : Decl) → slice_get t.env.decls k ≡ Some decl → decl.result ≡ goal → IsCapped t.env.limit w (decl.weight + binders decl.args + least_total t.env.limit t.least ts) → has_room left decl.args ≡ true → Opened t (places (rows_at t.env row) left decl.args) spots (least_total t.env.limit t.least ts) → is_below t.env goal b ≡ true → step (Some goal) b ≡ extra → IsTurn t (record { ctx = rows_at t.env row; left = left; wanted = b }) (2 * k + 1) (w + extra) spots
   unfolding turn
-  opened-turn i row left b goal k w extra ts spots h room o below weighs =
-      let decl = h.decl in
+  opened-turn i row left b goal k w extra ts spots decl found gives total_is room o below weighs =
       let ctx = rows_at t.env row in
       let q : Place = record { ctx = ctx; left = left; wanted = b } in
       let weight = decl.weight + binders decl.args + step (Some decl.result) b in
-      let tests : is_below t.env decl.result b && has_room left decl.args ≡ true = and_from (is_below t.env decl.result b) (has_room left decl.args) (ap (λ x. is_below t.env x b) h.gives ∙ below) room in
-      let more : step (Some decl.result) b ≡ extra = ap (λ x. step (Some x) b) h.gives ∙ weighs in
+      let tests : is_below t.env decl.result b && has_room left decl.args ≡ true = and_from (is_below t.env decl.result b) (has_room left decl.args) (ap (λ x. is_below t.env x b) gives ∙ below) room in
+      let more : step (Some decl.result) b ≡ extra = ap (λ x. step (Some x) b) gives ∙ weighs in
       let all : total (least_of t) (places_of t spots) ≡ least_total t.env.limit t.least ts = ap (total (least_of t)) (sym o.places) ∙ o.least in
-      let sum = h.weighs in
       record {
         weight = weight;
-        is = ap (turn_by t.env q) (symbol-odd k) ∙ ap (declared_at t.env q) h.is ∙ ap (λ x. some_when x (record { weight = weight; open_places = places ctx left decl.args })) tests ∙ ap (λ l. Some (record { weight = weight; open_places = l })) o.places;
+        is = ap (turn_by t.env q) (symbol-odd k) ∙ ap (declared_at t.env q) found ∙ ap (λ x. some_when x (record { weight = weight; open_places = places ctx left decl.args })) tests ∙ ap (λ l. Some (record { weight = weight; open_places = l })) o.places;
         opened = o.opened;
-        capped = inl (omega (arith, sum, more, all));
+        capped = more_capped t.env.limit w (decl.weight + binders decl.args + least_total t.env.limit t.least ts) extra (weight + total (least_of t) (places_of t spots)) total_is (omega (arith, more, all));
       }
 
   small-number : (k : ℕ) (decl : Decl) → slice_get t.env.decls k ≡ Some decl → k < 2147483648
   small-number k decl is = (let low = slice_get_within t.env.decls k decl is in let few = lengths.decls in omega (arith, low, few))
 
-  small-weight : (w : ℕ) → w ≤ t.env.limit → w ≤ 10001
+  small-weight : (w : ℕ) → w ≤ t.env.limit + 1 → w ≤ 10001
   small-weight w h = (let l = valid-limit t.env valid in let top = l.1 in omega (arith, h, top))
 
   -- the spot's place, written out
@@ -179,42 +193,59 @@ module _ (t : Tables) (c : Compression) (valid : IsValid t.env) (lengths : HasLe
   pub spot-at : (p : Spot) (s : IsSpot t.env t.patterns p) → IsAt t.patterns t.env.depth p.state (rows_at t.env p.row) (left_at t.patterns.space s.state.set) s.state.goal
   spot-at p s = record { state = s.state; is = s.is; types = s.types; left_is = refl; goal = refl; rows = s.depth }
 
-  -- a move that gives just a type is a turn where that type may stand
-  pub exact-move : (p : Spot) (s : IsSpot t.env t.patterns p) (i goal extra n : ℕ) (m : Move) → IsAt t.patterns t.env.depth i (rows_at t.env p.row) (left_at t.patterns.space s.state.set) goal → is_below t.env goal s.state.goal ≡ true → step (Some goal) s.state.goal ≡ extra → IsMoveOf t.env c t.patterns t.least i goal n m → IsExactMove t p extra m
-  exact-move p s i goal extra n (Head k w ts) at below weighs (same, plain) =
-      let left = left_at t.patterns.space s.state.set in
-      let o = plain-opened i p.row left goal at plain.head.decl.args ts plain.plain plain.head.tails in
-      let turn_is = opened-turn i p.row left s.state.goal goal k w extra ts (spots_under p.row ts) plain.head (plain-room left plain.head.decl.args plain.plain) o below weighs in
-      record {
-        number = small-number k plain.head.decl plain.head.is;
-        small = small-weight w plain.head.within;
-        head = subst (λ q. IsTurn t q (2 * k + 1) (w + extra) (spots_under p.row ts)) (sym (spot-place p s)) turn_is;
+  -- a declaration's edge that gives just a type is a turn where that type may stand
+  decl-turn : (totals : AreTotals t.env.limit t.least t.edges t.totals) (p : Spot) (s : IsSpot t.env t.patterns p) (i goal extra m : ℕ) (e : Edge) (x : State) → slice_get t.edges m ≡ Some e → IsAt t.patterns t.env.depth i (rows_at t.env p.row) (left_at t.patterns.space s.state.set) goal → is_below t.env goal s.state.goal ≡ true → step (Some goal) s.state.goal ≡ extra → x.goal ≡ goal → (q : AtDecl t.env c t.patterns i x e) → Turns t p extra q.number (get_or t.totals m 0) (spots_under (row_under t.env p.row q.number) e.tails)
+  decl-turn totals p s i goal extra m e x there at below weighs same q = go (args-shape q.decl.form q.decl.args (valid-decl t.env valid q.number q.decl q.is).formed)
+    where
+      left : ℕ
+      left = left_at t.patterns.space s.state.set
+
+      w : ℕ
+      w = get_or t.totals m 0
+
+      sum : IsCapped t.env.limit w (q.decl.weight + binders q.decl.args + least_total t.env.limit t.least e.tails)
+      sum = subst (λ n. IsCapped t.env.limit w (n + least_total t.env.limit t.least e.tails)) q.weighs (totals.each m e there).capped
+
+      turned : (row : ℕ) → row_under t.env p.row q.number ≡ row → has_room left q.decl.args ≡ true → Opened t (places (rows_at t.env p.row) left q.decl.args) (spots_under row e.tails) (least_total t.env.limit t.least e.tails) → Turns t p extra q.number w (spots_under (row_under t.env p.row q.number) e.tails)
+      turned row is room o = record {
+        number = small-number q.number q.decl q.is;
+        small = small-weight w (totals.each m e there).small;
+        head = subst (λ r. IsTurn t (tabled.place_of t p) (2 * q.number + 1) (w + extra) (spots_under r e.tails)) (sym is) (subst (λ y. IsTurn t y (2 * q.number + 1) (w + extra) (spots_under row e.tails)) (sym (spot-place p s))
+            (opened-turn i p.row left s.state.goal goal q.number w extra e.tails (spots_under row e.tails) q.decl q.is (q.gives ∙ same) sum room o below weighs));
       }
-  exact-move p s i goal extra n (Lambda k w body) at below weighs (same, lambda) =
-      let left = left_at t.patterns.space s.state.set in
-      let h = lambda.head in
-      let o = lambda-opened i p.row left goal k body h.decl lambda.params lambda.body at h.is lambda.is h.tails in
-      let turn_is = opened-turn i p.row left s.state.goal goal k w extra (body ∷ []) (spots_under (k + 1) (body ∷ [])) h o.room o.opened below weighs in
-      record {
-        number = small-number k h.decl h.is;
-        small = small-weight w h.within;
-        head = subst (λ q. IsTurn t q (2 * k + 1) (w + extra) (spots_under (k + 1) (body ∷ []))) (sym (spot-place p s)) turn_is;
-      }
-  exact-move p s i goal extra n (Below lower) at below weighs h = tt
+
+      go : (are_plain q.decl.args ≡ true) ⊎ ((ps : List ℕ) × (r : ℕ) × (q.decl.args ≡ Fun ps r ∷ [])) → Turns t p extra q.number w (spots_under (row_under t.env p.row q.number) e.tails)
+      go (inl plain) = turned p.row (ap (λ o. row_by (args_wanted o) p.row q.number) q.is ∙ plain-row q.decl.args p.row q.number plain) (plain-room left q.decl.args plain) (plain-opened i p.row left goal at q.decl.args e.tails plain q.tails)
+      go (inr fun) =
+          let one = single e.tails (q.tails.as_many ∙ ap length fun.2) in
+          let tails : AreTails c t.patterns i q.decl.args (one.0 ∷ []) = subst (AreTails c t.patterns i q.decl.args) one.1 q.tails in
+          let o = lambda-opened i p.row left goal q.number one.0 q.decl fun.0 fun.1 at q.is fun.2 tails in
+          turned (q.number + 1) (ap (λ o. row_by (args_wanted o) p.row q.number) q.is ∙ ap (λ l. row_by l p.row q.number) fun.2) o.room (subst (λ l. Opened t (places (rows_at t.env p.row) left q.decl.args) (spots_under (q.number + 1) l) (least_total t.env.limit t.least l)) (sym one.1) o.opened)
+
+  -- the edge of a state is a head where its type may stand
+  pub head-of : (totals : AreTotals t.env.limit t.least t.edges t.totals) (p : Spot) (s : IsSpot t.env t.patterns p) (i goal extra m : ℕ) (e : Edge) (x : State) → slice_get t.edges m ≡ Some e → IsAt t.patterns t.env.depth i (rows_at t.env p.row) (left_at t.patterns.space s.state.set) goal → is_below t.env goal s.state.goal ≡ true → step (Some goal) s.state.goal ≡ extra → x.goal ≡ goal → EdgeCase t.env c t.patterns i x e → IsHeadOf t p extra m e
+  head-of totals p s i goal extra m e x there at below weighs same (inl v) = subst (λ o. IsHeadBy t p extra o (get_or t.totals m 0) e.tails) (sym v.declared) tt
+  head-of totals p s i goal extra m e x there at below weighs same (inr (inl q)) = subst (λ o. IsHeadBy t p extra o (get_or t.totals m 0) e.tails) (sym q.declared) (decl-turn totals p s i goal extra m e x there at below weighs same q)
+  head-of totals p s i goal extra m e x there at below weighs same (inr (inr q)) = subst (λ o. IsHeadBy t p extra o (get_or t.totals m 0) e.tails) (sym q.declared) tt
 
   pub pair-below : (a b : ℕ) → is_pair t.env.pairs a b ≡ true → is_below t.env a b ≡ true
   unfolding is_below
   pair-below a b h = or_right (a == b) (is_pair t.env.pairs a b) h
 
-  -- the moves of a state are turns at its spots, and under a coercion those of the lower state are
-  pub any-move : ((i : ℕ) (s : State) → slice_get t.patterns.states i ≡ Some s → All (λ m. (n : ℕ) × IsMoveOf t.env c t.patterns t.least i s.goal n m) (moves_at t i)) → (p : Spot) → IsSpot t.env t.patterns p → (n : ℕ) (m : Move) → (goal : ℕ) → (s : IsSpot t.env t.patterns p) → goal ≡ s.state.goal → IsMoveOf t.env c t.patterns t.least p.state goal n m → IsAnyMove t p m
-  any-move all p s0 n (Head k w ts) goal s same h = exact-move p s p.state s.state.goal 0 n (Head k w ts) (spot-at p s) (below-itself t.env s.state.goal) (step-same s.state.goal s.state.goal refl) (subst (λ x. IsMoveOf t.env c t.patterns t.least p.state x n (Head k w ts)) same h)
-  any-move all p s0 n (Lambda k w body) goal s same h = exact-move p s p.state s.state.goal 0 n (Lambda k w body) (spot-at p s) (below-itself t.env s.state.goal) (step-same s.state.goal s.state.goal refl) (subst (λ x. IsMoveOf t.env c t.patterns t.least p.state x n (Lambda k w body)) same h)
-  any-move all p s0 n (Below lower) goal s same h =
-      let left = left_at t.patterns.space s.state.set in
-      let at = plain-at c t.patterns t.env.depth made.wanted made.depth_is p.state lower (rows_at t.env p.row) left s.state.goal h.lower (spot-at p s) h.tail in
-      let there = value-state t.env c t.patterns made p.state s.state h.lower lower s.is h.tail in
-      let pair : is_pair t.env.pairs h.lower goal ≡ true = pair-get t.env.pairs h.place (h.lower, goal) h.is in
-      let pair_to : is_pair t.env.pairs h.lower s.state.goal ≡ true = subst (λ x. is_pair t.env.pairs h.lower x ≡ true) same pair in
-      let apart = (valid-pair t.env valid h.lower s.state.goal pair_to).2 in
-      All-weaker (λ m. (n : ℕ) × IsMoveOf t.env c t.patterns t.least lower h.lower n m) (IsExactMove t p 10) (λ m q. exact-move p s lower h.lower 10 q.0 m at (pair-below h.lower s.state.goal pair_to) (step-apart h.lower s.state.goal apart) q.1) (moves_at t lower) (all lower (record { set = s.state.set; goal = h.lower }) there)
+  -- the edges of a state are ways at its spots: under a coercion those of the lower state are heads
+  pub way-of : (cases : (i m : ℕ) (x : State) (e : Edge) → slice_get t.patterns.states i ≡ Some x → slice_get t.edges m ≡ Some e → e.state ≡ i → EdgeCase t.env c t.patterns i x e) (totals : AreTotals t.env.limit t.least t.edges t.totals) (p : Spot) (s : IsSpot t.env t.patterns p) (m : ℕ) (e : Edge) → slice_get t.edges m ≡ Some e → e.state ≡ p.state → IsWayOf t p m e
+  way-of cases totals p s m e there here = go (cases p.state m s.state e s.is there here)
+    where
+      own : EdgeCase t.env c t.patterns p.state s.state e → IsHeadOf t p 0 m e
+      own q = head-of totals p s p.state s.state.goal 0 m e s.state there (spot-at p s) (below-itself t.env s.state.goal) (step-same s.state.goal s.state.goal refl) refl q
+
+      go : EdgeCase t.env c t.patterns p.state s.state e → IsWayOf t p m e
+      go (inl v) = subst (IsWayBy t p m e) (sym v.lower) (own (inl v))
+      go (inr (inl q)) = subst (IsWayBy t p m e) (sym q.lower) (own (inr (inl q)))
+      go (inr (inr q)) =
+          let left = left_at t.patterns.space s.state.set in
+          let at = plain-at c t.patterns t.env.depth made.wanted made.depth_is p.state q.below (rows_at t.env p.row) left s.state.goal q.low (spot-at p s) q.tail in
+          let x = value-state t.env c t.patterns made p.state s.state q.low q.below s.is q.tail in
+          let pair : is_pair t.env.pairs q.low s.state.goal ≡ true = pair-get t.env.pairs q.place (q.low, s.state.goal) q.is in
+          let apart = (valid-pair t.env valid q.low s.state.goal pair).2 in
+          subst (IsWayBy t p m e) (sym q.lower) (λ n f at_f here_f. head-of totals p s q.below q.low 10 n f (record { set = s.state.set; goal = q.low }) at_f at (pair-below q.low s.state.goal pair) (step-apart q.low s.state.goal apart) refl (cases q.below n (record { set = s.state.set; goal = q.low }) f x at_f here_f))

@@ -6,7 +6,8 @@ pub mod Popped
 pub mod Chained
 pub mod Spots
 pub mod Tabled
-pub mod Moves
+pub mod Totals
+pub mod Ways
 pub mod Variables
 pub mod Levelled
 pub mod Built
@@ -15,4 +16,3 @@ pub mod Partial
 pub mod Tallied
 pub mod Pending
 pub mod Running
-pub mod Made

@@ -1,5 +1,5 @@
 -- What a search's tables say of places and of partial terms.
-use Rattle.std.specs.Prelude.{◌≡◌, ◌⊎◌, ℕ, ◌+◌, ◌<◌, ◌≤◌, Bool, true, false, cond, All, List, [], ◌∷◌, ◌++◌, length, get_or, map, Option, Some, IsPermutation}
+use Rattle.std.specs.Prelude.{◌≡◌, ℕ, ◌+◌, ◌<◌, ◌≤◌, Bool, true, false, cond, All, List, [], ◌∷◌, ◌++◌, length, get_or, map, Option, Some, IsPermutation}
 use Rattle.terms.specs.Count.{total}
 use Rattle.terms.specs.Place.{Place, goal_place}
 use Rattle.terms.specs.Reading.{Reading, turn}
@@ -7,6 +7,7 @@ use Rattle.reconstruction.specs.Fronts.{reading, key_within}
 use Rattle.reconstruction.specs.Search.{key_of, children}
 use Rattle.reconstruction.specs.Chained.{IsGrown}
 use Rattle.reconstruction.specs.Spots.{spot_place, IsSpot, least_at}
+use Rattle.reconstruction.specs.Totals.{IsCapped}
 use Rattle.reconstruction.specs.declared.item.Item.{Item}
 use Rattle.reconstruction.specs.declared.item.Arena.{Arena}
 use Rattle.reconstruction.specs.declared.item.Parent.{Parent}
@@ -65,10 +66,6 @@ pub record IsParent (t : Tables) (a : Arena) (p : Parent) : Type 0 where
 pub record AreGrown (old new : Arena) : Type 0 where
   pub fronts : IsGrown old.fronts new.fronts
   pub stacks : IsGrown old.stacks new.stacks
-
--- a number, or both it and what it stands for are above the limit
-abbrev pub IsCapped : ℕ → ℕ → ℕ → Type 0
-IsCapped limit shown real = (shown ≡ real) ⊎ ((limit < shown) × (limit < real))
 
 -- a head at a place, with the spots that it opens and the least total of what it heads
 pub record IsTurn (t : Tables) (p : Place) (n w : ℕ) (spots : List Spot) : Type 0 where

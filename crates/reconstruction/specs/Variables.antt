@@ -1,7 +1,7 @@
 -- The variables at a spot, and all numbers that a spot may add to a front.
 use Rattle.std.specs.Prelude.{ℕ, zero, suc, ◌*◌, List, [], ◌∷◌, ◌++◌, length}
 use Rattle.terms.specs.Typing.{joined}
-use Rattle.reconstruction.specs.Moves.{moves_at, all_numbers}
+use Rattle.reconstruction.specs.Ways.{ways_at}
 use Rattle.reconstruction.specs.Spots.{rows_at}
 use Rattle.reconstruction.specs.declared.spot.Spot.{Spot}
 use Rattle.reconstruction.specs.declared.tables.Tables.{Tables}
@@ -17,4 +17,4 @@ bound_at t p = length (joined (rows_at t.env p.row))
 
 -- the variables, and then the declarations
 abbrev pub numbers_at : Tables → Spot → List ℕ
-numbers_at t p = variables (bound_at t p) ++ all_numbers t (moves_at t p.state)
+numbers_at t p = variables (bound_at t p) ++ ways_at t.env t.edges p.state

@@ -45,7 +45,7 @@ fn take_args(
 }
 
 /// What a declaration wants.
-fn wanted_by(parts: &Parts, decl: u32) -> &[Arg]
+pub fn wanted_by(parts: &Parts, decl: u32) -> &[Arg]
     ensures value { result.now ≡ wanted_by parts.now decl }
 {
     match parts.decls.get(decl as usize) {

@@ -5,7 +5,7 @@ ghost use Rattle.reconstruction.specs.Chained.{IsGrown};
 ghost use Rattle.reconstruction.specs.Tabled.{spots_under, place_of, front_of, IsParent, IsTurn, AreGrown, Pushes};
 
 use crate::chains::Chains;
-use crate::item::{Arena, Item, Parent};
+use crate::item::{Arena, Head, Item, Parent};
 use crate::spot::Spot;
 use crate::tables::Tables;
 use std::alloc::AllocError;
@@ -32,32 +32,30 @@ fn keep_spots(
     Ok(at)
 }
 
-/// Adds the front with this number, if a term within the limit may come of it.
+/// Adds the front with the number of a head, which opens these states, if a term within the limit may come of it.
 pub fn grow_by(
     tables: &Tables,
     arena: &mut Arena,
-    aside: &mut Vec<(u32, Item)>,
+    children: &mut Vec<(u32, Item)>,
     parent: Parent,
-    number: u32,
-    total: u32,
-    row: u32,
+    head: Head,
     states: &[u32],
 ) -> Result<(), AllocError>
     requires parent { IsParent tables.now arena.old parent }
-    requires head { IsTurn tables.now (place_of tables.now parent.spot) number total (spots_under row states.now) }
-    ensures pushes { OnOk result (Pushes tables.now arena.new (front_of arena.old parent.front) number aside.old.items aside.new.items) }
+    requires head { IsTurn tables.now (place_of tables.now parent.spot) head.number head.total (spots_under head.row states.now) }
+    ensures pushes { OnOk result (Pushes tables.now arena.new (front_of arena.old parent.front) head.number children.old.items children.new.items) }
     ensures grown { AreGrown arena.old arena.new }
 {
     let limit = tables.env.parts().limit;
     if parent.base > limit {
         return Ok(());
     }
-    if total > limit - parent.base {
+    if head.total > limit - parent.base {
         return Ok(());
     }
-    let key = parent.base + total;
-    let stack = keep_spots(&mut arena.stacks, row, states, parent.rest)?;
-    let front = arena.fronts.cons(number, parent.front)?;
-    aside.push((key, Item { front, stack }))?;
+    let key = parent.base + head.total;
+    let stack = keep_spots(&mut arena.stacks, head.row, states, parent.rest)?;
+    let front = arena.fronts.cons(head.number, parent.front)?;
+    children.push((key, Item { front, stack }))?;
     Ok(())
 }

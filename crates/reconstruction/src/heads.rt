@@ -1,312 +1,239 @@
-// The move of a declaration or a pair at a state.
+// The partial terms that grow from one by the edges at a state.
 
-ghost use Rattle.std.specs.Prelude.{◌≡◌, ◌⊎◌, ◌+◌, ◌≤◌, ◌<◌, ℕ, true, [], ◌∷◌, length, slice_get, slice_index_or, Some, None, IfOk, IfSome, IfNone, IsTrue, MatchOption};
-ghost use Rattle.terms.specs.Faults.{are_plain};
-ghost use Rattle.terms.specs.Reading.{binders};
-ghost use Rattle.terms.specs.declared.parts.Arg.TheVariants.{Plain, Fun};
-ghost use Rattle.succinct.specs.Compression.{IsCompression, need_of};
-ghost use Rattle.succinct.specs.Sets.{has};
-ghost use Rattle.patterns.specs.Patterned.{state_sought};
-ghost use Rattle.least_weights.specs.Edges.{IsTail, AreTails, LacksTail};
-ghost use Rattle.reconstruction.specs.Made.{least_total, needs_of, IsHeavy, IsLeft, IsMoveOf};
+ghost use Rattle.std.specs.Prelude.{◌≡◌, ◌+◌, ◌*◌, ◌<◌, ◌≤◌, ◌∷◌, [], OnOk, slice_index_or, length};
+ghost use Rattle.terms.specs.Faults.{IsValid};
+ghost use Rattle.reconstruction.specs.Tabled.{front_of, place_of, spots_under, IsParent, IsTurn, AreHeld, AreGrown, Grew};
+ghost use Rattle.reconstruction.specs.Totals.{lower_in, row_by, row_under, AreTotals, AreLightest};
+ghost use Rattle.reconstruction.specs.Ways.{edge_at, head_numbers, heads_at, way_numbers, ways_at, IsHeadOf, AreHeadsAt, IsWayOf, AreWaysAt};
 
-use crate::tables::Move;
-use least_weights::Least;
-use lists::Items;
-use patterns::Patterns;
-use std::alloc::{AllocError, Global};
-use succinct::{Compressed, Need};
-use terms::{Arg, Decl, Env};
+use crate::building::wanted_by;
+use crate::growing::grow_by;
+use crate::item::{Arena, Head, Item, Parent};
+use crate::tables::Tables;
+use crate::totals::declared;
+use std::alloc::AllocError;
+use terms::{Arg, Parts};
 
-/// Whether the need of this number is a plain value of this type.
-fn is_plain_need(needs: &[Need], number: u32, wanted: u32) -> bool
-    ensures yes { IsTrue result → slice_get needs.now number ≡ Some (need_of (Plain wanted)) }
-    ensures no { slice_get needs.now number ≡ Some (need_of (Plain wanted)) → IsTrue result }
+/// What the head of a term within the limit may total with its coercion, at the most.
+fn room_of(tables: &Tables, parent: Parent) -> u32
+    ensures room { tables.now.env.limit ≤ parent.base + result }
 {
-    match needs.get(number as usize) {
-        Some(need) => {
-            if need.lambda {
-                return false;
-            }
-            if need.result != wanted {
-                return false;
-            }
-            need.params.as_slice().len() == 0
-        }
-        None => false,
-    }
+    tables.env.parts().limit.saturating_sub(parent.base)
 }
 
-/// The state in which a need is sought from a state, where it is a plain value of this type.
-fn plain_sought(
-    compressed: &Compressed,
-    patterns: &Patterns,
-    state: u32,
-    need: u32,
-    wanted: u32,
-) -> Option<u32>
-    ensures is { IfSome result (λ t. slice_get compressed.now.needs need ≡ Some (need_of (Plain wanted))) }
-    ensures to { IfSome result (λ t. state_sought patterns.now state need ≡ Some t) }
-    ensures none { IfNone result (slice_get compressed.now.needs need ≡ Some (need_of (Plain wanted)) → state_sought patterns.now state need ≡ None) }
+/// The row of the places that a declaration of these wants opens.
+fn row_by(args: &[Arg], row: u32, decl: u32) -> u32
+    requires number { decl < 2147483648 }
+    ensures value { result ≡ row_by args.now row decl }
 {
-    if !is_plain_need(compressed.needs(), need, wanted) {
-        return None;
-    }
-    patterns.need_state(state, need)
-}
-
-/// The state in which a plain value is sought from a state, by the first need of the list that has one.
-fn plain_state(
-    compressed: &Compressed,
-    patterns: &Patterns,
-    state: u32,
-    needs: &[u32],
-    wanted: u32,
-) -> Option<u32>
-    ensures some { IfSome result (λ t. (n : ℕ) × (slice_get compressed.now.needs n ≡ Some (need_of (Plain wanted))) × (state_sought patterns.now state n ≡ Some t)) }
-    ensures none { IfNone result ((n : ℕ) → has n needs.now ≡ true → slice_get compressed.now.needs n ≡ Some (need_of (Plain wanted)) → state_sought patterns.now state n ≡ None) }
-{
-    for need in needs {
-        let found = plain_sought(compressed, patterns, state, *need, wanted);
-        if found.is_some() {
-            return found;
-        }
-    }
-    None
-}
-
-/// The state in which a want is sought, which is a plain value.
-fn plain_tail(
-    compressed: &Compressed,
-    patterns: &Patterns,
-    state: u32,
-    needs: &[u32],
-    arg: &Arg,
-) -> Option<u32>
-    requires plain { are_plain (arg.now ∷ []) ≡ true }
-    ensures some { IfSome result (λ t. IsTail compressed.now patterns.now state arg.now t) }
-    ensures none { IfNone result ((n : ℕ) → has n needs.now ≡ true → slice_get compressed.now.needs n ≡ Some (need_of arg.now) → state_sought patterns.now state n ≡ None) }
-{
-    match arg {
-        Arg::Plain(wanted) => plain_state(compressed, patterns, state, needs, *wanted),
-        Arg::Fun(_, _) => None,
-    }
-}
-
-/// The states in which plain values are sought, in their order; none where one of them is sought nowhere.
-fn plain_states(
-    alloc: Global,
-    compressed: &Compressed,
-    patterns: &Patterns,
-    state: u32,
-    needs: &[u32],
-    args: &[Arg],
-) -> Result<Option<Items<u32>>, AllocError>
-    requires plain { are_plain args.now ≡ true }
-    ensures some { IfOk result (λ o. IfSome o (λ states. AreTails compressed.now patterns.now state args.now states)) }
-    ensures none { IfOk result (λ o. IfNone o (LacksTail compressed.now patterns.now state needs.now args.now)) }
-{
-    let mut states = Items::new(alloc);
-    for arg in args {
-        match plain_tail(compressed, patterns, state, needs, arg) {
-            Some(found) => states.push(found)?,
-            None => return Ok(None),
-        }
-    }
-    Ok(Some(states))
-}
-
-/// The least weight at a state, none also where there is no such state.
-fn least_of(patterns: &Patterns, least: &Least, state: u32) -> Option<u32>
-    requires as_many { length least.now ≡ length patterns.now.states }
-    ensures value { result ≡ slice_index_or least.now state None }
-{
-    if state as usize >= patterns.states().len() {
-        return None;
-    }
-    least.least(state)
-}
-
-/// A weight with the least weights at some states, none where that is above the limit.
-fn with_least(
-    patterns: &Patterns,
-    least: &Least,
-    limit: u32,
-    weight: u32,
-    states: &[u32],
-) -> Option<u32>
-    requires as_many { length least.now ≡ length patterns.now.states }
-    ensures value { MatchOption result (limit < weight + least_total limit least.now states.now) (λ w. (w ≡ weight + least_total limit least.now states.now) × (w ≤ limit)) }
-{
-    if weight > limit {
-        return None;
-    }
-    let mut sum = weight;
-    for state in states {
-        let more = match least_of(patterns, least, *state) {
-            Some(more) => more,
-            None => return None,
-        };
-        if more > limit - sum {
-            return None;
-        }
-        sum += more;
-    }
-    Some(sum)
-}
-
-/// The move of a declaration that wants values alone.
-fn plain_move(
-    alloc: Global,
-    env: &Env,
-    compressed: &Compressed,
-    patterns: &Patterns,
-    least: &Least,
-    state: u32,
-    needs: &[u32],
-    number: u32,
-    decl: &Decl,
-) -> Result<Option<Move>, AllocError>
-    requires decl { slice_get env.now.decls number ≡ Some decl.now }
-    requires plain { are_plain decl.now.args ≡ true }
-    requires as_many { length least.now ≡ length patterns.now.states }
-    ensures some { IfOk result (λ o. IfSome o (IsMoveOf env.now compressed.now patterns.now least.now state decl.now.result number)) }
-    ensures none { IfOk result (λ o. IfNone o (LacksTail compressed.now patterns.now state needs.now decl.now.args ⊎ IsHeavy env.now compressed.now patterns.now least.now state decl.now)) }
-{
-    let limit = env.parts().limit;
-    let args = decl.args.as_slice();
-    let states = match plain_states(alloc, compressed, patterns, state, needs, args)? {
-        Some(states) => states,
-        None => return Ok(None),
-    };
-    match with_least(patterns, least, limit, decl.weight, states.as_slice()) {
-        Some(total) => Ok(Some(Move::Head(number, total, states))),
-        None => Ok(None),
-    }
-}
-
-/// The move of a declaration that wants just a lambda, whose need is the only one of the list.
-fn lambda_move(
-    env: &Env,
-    compressed: &Compressed,
-    patterns: &Patterns,
-    least: &Least,
-    state: u32,
-    needs: &[u32],
-    number: u32,
-    decl: &Decl,
-    params: &[u32],
-) -> Option<Move>
-    requires decl { slice_get env.now.decls number ≡ Some decl.now }
-    requires wants { (body : ℕ) × (n : ℕ) × (decl.now.args ≡ Fun params.now body ∷ []) × (needs.now ≡ n ∷ []) × (slice_get compressed.now.needs n ≡ Some (need_of (Fun params.now body))) }
-    requires as_many { length least.now ≡ length patterns.now.states }
-    ensures some { IfSome result (IsMoveOf env.now compressed.now patterns.now least.now state decl.now.result number) }
-    ensures none { IfNone result (LacksTail compressed.now patterns.now state needs.now decl.now.args ⊎ IsHeavy env.now compressed.now patterns.now least.now state decl.now) }
-{
-    let _ = compressed.needs();
-    let limit = env.parts().limit;
-    let body = match patterns.need_state(state, needs[0]) {
-        Some(body) => body,
-        None => return None,
-    };
-    let binders = params.len();
-    if decl.weight > limit {
-        return None;
-    }
-    if binders > (limit - decl.weight) as usize {
-        return None;
-    }
-    let weight = decl.weight + binders as u32;
-    match with_least(patterns, least, limit, weight, &[body]) {
-        Some(total) => Some(Move::Lambda(number, total, body)),
-        None => None,
-    }
-}
-
-/// The move of a declaration, none where it can't be used.
-fn declared_move(
-    alloc: Global,
-    env: &Env,
-    compressed: &Compressed,
-    patterns: &Patterns,
-    least: &Least,
-    state: u32,
-    needs: &[u32],
-    number: u32,
-    decl: &Decl,
-) -> Result<Option<Move>, AllocError>
-    requires compressed { IsCompression env.now compressed.now }
-    requires decl { slice_get env.now.decls number ≡ Some decl.now }
-    requires needs { needs.now ≡ needs_of compressed.now number }
-    requires as_many { length least.now ≡ length patterns.now.states }
-    ensures some { IfOk result (λ o. IfSome o (IsMoveOf env.now compressed.now patterns.now least.now state decl.now.result number)) }
-    ensures none { IfOk result (λ o. IfNone o (LacksTail compressed.now patterns.now state needs.now decl.now.args ⊎ IsHeavy env.now compressed.now patterns.now least.now state decl.now)) }
-{
-    let _ = env.parts();
-    let args = decl.args.as_slice();
     if args.len() != 1 {
-        return plain_move(
-            alloc, env, compressed, patterns, least, state, needs, number, decl,
-        );
+        return row;
     }
     match &args[0] {
-        Arg::Fun(params, _) => Ok(lambda_move(
-            env,
-            compressed,
-            patterns,
-            least,
-            state,
-            needs,
-            number,
-            decl,
-            params.as_slice(),
-        )),
-        Arg::Plain(_) => plain_move(
-            alloc, env, compressed, patterns, least, state, needs, number, decl,
-        ),
+        Arg::Fun(_, _) => decl + 1,
+        Arg::Plain(_) => row,
     }
 }
 
-/// The move of a source at a state where this type is wanted, none where it can't be used. The pairs are
-/// numbered after the declarations.
-pub fn source_move(
-    alloc: Global,
-    env: &Env,
-    compressed: &Compressed,
-    patterns: &Patterns,
-    least: &Least,
-    state: u32,
-    goal: u32,
-    needs: &[u32],
-    number: u32,
-) -> Result<Option<Move>, AllocError>
-    requires compressed { IsCompression env.now compressed.now }
-    requires needs { needs.now ≡ needs_of compressed.now number }
-    requires as_many { length least.now ≡ length patterns.now.states }
-    ensures some { IfOk result (λ o. IfSome o (IsMoveOf env.now compressed.now patterns.now least.now state goal number)) }
-    ensures none { IfOk result (λ o. IfNone o (IsLeft env.now compressed.now patterns.now least.now state goal number)) }
+/// The row of the places that a declaration opens: its own where it wants a lambda, else that around it.
+fn row_under(parts: &Parts, row: u32, decl: u32) -> u32
+    requires number { decl < 2147483648 }
+    ensures value { result ≡ row_under parts.now row decl }
 {
-    let parts = env.parts();
-    let decls = parts.decls.as_slice();
-    let place = number as usize;
-    if place < decls.len() {
-        let decl = &decls[place];
-        if decl.result != goal {
-            return Ok(None);
-        }
-        return declared_move(
-            alloc, env, compressed, patterns, least, state, needs, number, decl,
-        );
-    }
-    let pair = match parts.pairs.as_slice().get(place - decls.len()) {
-        Some(found) => *found,
-        None => return Ok(None),
+    row_by(wanted_by(parts, decl), row, decl)
+}
+
+/// The state of the lower type, where a source is a pair.
+fn lower(parts: &Parts, source: Option<u32>, tails: &[u32]) -> Option<u32>
+    ensures value { result ≡ lower_in parts.now source tails.now }
+{
+    let number = match source {
+        Some(number) => number,
+        None => return None,
     };
-    if pair.1 != goal {
-        return Ok(None);
+    if (number as usize) < parts.decls.len() {
+        return None;
     }
-    match plain_state(compressed, patterns, state, needs, pair.0) {
-        Some(lower) => Ok(Some(Move::Below(lower))),
-        None => Ok(None),
+    if tails.is_empty() {
+        return None;
     }
+    Some(tails[0])
+}
+
+/// The state of the lower type, where an edge is a coercion.
+fn lower_of(tables: &Tables, edge: u32) -> Option<u32>
+    requires in_range { edge < length tables.now.edges }
+    ensures value { result ≡ lower_in tables.now.env (edge_at tables.now.edges edge).source (edge_at tables.now.edges edge).tails }
+{
+    lower(
+        tables.env.parts(),
+        tables.edges.source(edge),
+        tables.edges.tails(edge),
+    )
+}
+
+/// The total of an edge.
+fn total_at(tables: &Tables, edge: u32) -> u32
+    ensures value { result ≡ slice_index_or tables.now.totals edge 0 }
+{
+    match tables.totals.as_slice().get(edge as usize) {
+        Some(total) => *total,
+        None => 0,
+    }
+}
+
+/// Adds what grows by a declaration of this total, whose wants are sought in these states.
+fn grow_decl(
+    tables: &Tables,
+    arena: &mut Arena,
+    children: &mut Vec<(u32, Item)>,
+    parent: Parent,
+    decl: u32,
+    total: u32,
+    tails: &[u32],
+) -> Result<(), AllocError>
+    requires parent { IsParent tables.now arena.old parent }
+    requires children { AreHeld tables.now arena.old children.old.items }
+    requires number { decl < 2147483648 }
+    requires turn { IsTurn tables.now (place_of tables.now parent.spot) (2 * decl + 1) total (spots_under (row_under tables.now.env parent.spot.row decl) tails.now) }
+    ensures grew { OnOk result (Grew tables.now arena.old arena.new (front_of arena.old parent.front) ((2 * decl + 1) ∷ []) children.old.items children.new.items) }
+    ensures grown { AreGrown arena.old arena.new }
+{
+    let head = Head {
+        number: 2 * decl + 1,
+        total,
+        row: row_under(tables.env.parts(), parent.spot.row, decl),
+    };
+    grow_by(tables, arena, children, parent, head, tails)
+}
+
+/// Adds what grows by the declaration of an edge; a coercion adds nothing. Most heads are above the room, and are
+/// passed at once.
+#[inline(always)]
+fn grow_head(
+    tables: &Tables,
+    arena: &mut Arena,
+    children: &mut Vec<(u32, Item)>,
+    parent: Parent,
+    room: u32,
+    step: u32,
+    edge: u32,
+) -> Result<(), AllocError>
+    requires parent { IsParent tables.now arena.old parent }
+    requires children { AreHeld tables.now arena.old children.old.items }
+    requires room { tables.now.env.limit ≤ parent.base + room }
+    requires step { step ≤ 10 }
+    requires in_range { edge < length tables.now.edges }
+    requires totals { AreTotals tables.now.env.limit tables.now.least tables.now.edges tables.now.totals }
+    requires valid { IsValid tables.now.env }
+    requires turn { IsHeadOf tables.now parent.spot step edge (edge_at tables.now.edges edge) }
+    ensures grew { OnOk result (Grew tables.now arena.old arena.new (front_of arena.old parent.front) (head_numbers tables.now.env (edge_at tables.now.edges edge)) children.old.items children.new.items) }
+    ensures grown { AreGrown arena.old arena.new }
+{
+    let total = total_at(tables, edge) + step;
+    if total > room {
+        return Ok(());
+    }
+    match declared(tables.env.parts(), tables.edges.source(edge)) {
+        Some(decl) => grow_decl(
+            tables,
+            arena,
+            children,
+            parent,
+            decl,
+            total,
+            tables.edges.tails(edge),
+        ),
+        None => Ok(()),
+    }
+}
+
+/// Adds what grows by the declarations that give just the type of a state.
+fn grow_heads(
+    tables: &Tables,
+    arena: &mut Arena,
+    children: &mut Vec<(u32, Item)>,
+    parent: Parent,
+    step: u32,
+    state: u32,
+) -> Result<(), AllocError>
+    requires parent { IsParent tables.now arena.old parent }
+    requires children { AreHeld tables.now arena.old children.old.items }
+    requires totals { AreTotals tables.now.env.limit tables.now.least tables.now.edges tables.now.totals }
+    requires valid { IsValid tables.now.env }
+    requires step { step ≤ 10 }
+    requires turns { AreHeadsAt tables.now parent.spot step state }
+    ensures grew { OnOk result (Grew tables.now arena.old arena.new (front_of arena.old parent.front) (heads_at tables.now.env tables.now.edges state) children.old.items children.new.items) }
+    ensures grown { AreGrown arena.old arena.new }
+{
+    let room = room_of(tables, parent);
+    let run = tables.edges.of_state(state);
+    for edge in run.start..run.end {
+        grow_head(tables, arena, children, parent, room, step, edge)?;
+    }
+    Ok(())
+}
+
+/// A total that no declaration's edge at a state is below.
+fn lightest_at(tables: &Tables, state: u32) -> u32
+    ensures value { result ≡ slice_index_or tables.now.lightest state 0 }
+{
+    match tables.lightest.as_slice().get(state as usize) {
+        Some(total) => *total,
+        None => 0,
+    }
+}
+
+/// Adds what grows by an edge, under a coercion where it is one. Where the heads of the lower type are all above
+/// the room, they are passed as a whole.
+fn grow_edge(
+    tables: &Tables,
+    arena: &mut Arena,
+    children: &mut Vec<(u32, Item)>,
+    parent: Parent,
+    edge: u32,
+) -> Result<(), AllocError>
+    requires parent { IsParent tables.now arena.old parent }
+    requires children { AreHeld tables.now arena.old children.old.items }
+    requires totals { AreTotals tables.now.env.limit tables.now.least tables.now.edges tables.now.totals }
+    requires valid { IsValid tables.now.env }
+    requires light { AreLightest tables.now.env tables.now.edges tables.now.totals tables.now.lightest }
+    requires in_range { edge < length tables.now.edges }
+    requires way { IsWayOf tables.now parent.spot edge (edge_at tables.now.edges edge) }
+    ensures grew { OnOk result (Grew tables.now arena.old arena.new (front_of arena.old parent.front) (way_numbers tables.now.env tables.now.edges (edge_at tables.now.edges edge)) children.old.items children.new.items) }
+    ensures grown { AreGrown arena.old arena.new }
+{
+    let room = room_of(tables, parent);
+    match lower_of(tables, edge) {
+        Some(lower) => {
+            if lightest_at(tables, lower).saturating_add(10) > room {
+                return Ok(());
+            }
+            grow_heads(tables, arena, children, parent, 10, lower)
+        }
+        None => grow_head(tables, arena, children, parent, room, 0, edge),
+    }
+}
+
+/// Adds what grows by the edges of the parent's first place.
+pub fn grow_edges(
+    tables: &Tables,
+    arena: &mut Arena,
+    children: &mut Vec<(u32, Item)>,
+    parent: Parent,
+) -> Result<(), AllocError>
+    requires parent { IsParent tables.now arena.old parent }
+    requires children { AreHeld tables.now arena.old children.old.items }
+    requires totals { AreTotals tables.now.env.limit tables.now.least tables.now.edges tables.now.totals }
+    requires valid { IsValid tables.now.env }
+    requires light { AreLightest tables.now.env tables.now.edges tables.now.totals tables.now.lightest }
+    requires ways { AreWaysAt tables.now parent.spot parent.spot.state }
+    ensures grew { OnOk result (Grew tables.now arena.old arena.new (front_of arena.old parent.front) (ways_at tables.now.env tables.now.edges parent.spot.state) children.old.items children.new.items) }
+    ensures grown { AreGrown arena.old arena.new }
+{
+    let run = tables.edges.of_state(parent.spot.state);
+    for edge in run.start..run.end {
+        grow_edge(tables, arena, children, parent, edge)?;
+    }
+    Ok(())
 }

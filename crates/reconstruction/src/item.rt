@@ -24,3 +24,12 @@ pub struct Parent {
     pub spot: Spot,
     pub rest: u32,
 }
+
+/// A head that may fill an open place: its number in a front, what it totals there with the least weights of the
+/// places that it opens, and the row of those.
+#[derive(Clone, Copy, Debug)]
+pub struct Head {
+    pub number: u32,
+    pub total: u32,
+    pub row: u32,
+}

@@ -1,22 +1,21 @@
 // The search that rebuilds the terms of a goal in the order of their weights. A partial term is a front of a
 // prefix code; a queue holds each under the least total of its completions. The main definition is
 // `IsSearch`: each term that is still to come completes exactly one front. It stands on `terms`, `succinct`,
-// `patterns`, `least_weights` and `weight_queue`.
+// `patterns`, `edges`, `least_weights` and `weight_queue`.
 #![tactic(auto)]
 
 mod agenda;
 mod building;
 mod chains;
+mod derived;
 mod growing;
 mod heads;
 mod item;
-mod lightest;
-mod moves;
-mod moving;
 mod rebuild;
 mod spot;
 mod starting;
 mod tables;
+mod totals;
 mod variables;
 
 pub use rebuild::Rebuild;

@@ -1,16 +1,18 @@
 // The partial terms that grow from one by a variable, and all that grow from it.
 
 ghost use Rattle.std.specs.Prelude.{◌≡◌, ◌+◌, ◌*◌, ◌<◌, ◌≤◌, [], ◌∷◌, All, OnOk, slice_get, Some};
+ghost use Rattle.terms.specs.Faults.{IsValid};
 ghost use Rattle.terms.specs.Typing.{joined};
 ghost use Rattle.terms.specs.Weights.{step};
 ghost use Rattle.reconstruction.specs.Spots.{row_of_args, rows_at};
 ghost use Rattle.reconstruction.specs.Tabled.{place_of, front_of, IsParent, AreHeld, AreGrown, Grew};
-ghost use Rattle.reconstruction.specs.Moves.{moves_at, IsAnyMove, AreLightest};
+ghost use Rattle.reconstruction.specs.Totals.{AreTotals, AreLightest};
+ghost use Rattle.reconstruction.specs.Ways.{AreWaysAt};
 ghost use Rattle.reconstruction.specs.Variables.{variables, bound_at, numbers_at};
 
 use crate::growing::grow_by;
-use crate::item::{Arena, Item, Parent};
-use crate::moving::grow_moves;
+use crate::heads::grow_edges;
+use crate::item::{Arena, Head, Item, Parent};
 use crate::spot::Spot;
 use crate::tables::Tables;
 use std::alloc::AllocError;
@@ -64,16 +66,16 @@ fn with_step(from: u32, to: u32) -> u32
 fn grow_variable(
     tables: &Tables,
     arena: &mut Arena,
-    aside: &mut Vec<(u32, Item)>,
+    children: &mut Vec<(u32, Item)>,
     parent: Parent,
     number: u32,
     bound: u32,
 ) -> Result<(), AllocError>
     requires parent { IsParent tables.now arena.old parent }
-    requires aside { AreHeld tables.now arena.old aside.old.items }
+    requires children { AreHeld tables.now arena.old children.old.items }
     requires small { number < 2147483648 }
     requires bound { slice_get (joined (rows_at tables.now.env parent.spot.row)) number ≡ Some bound }
-    ensures grew { OnOk result (Grew tables.now arena.old arena.new (front_of arena.old parent.front) ((2 * number) ∷ []) aside.old.items aside.new.items) }
+    ensures grew { OnOk result (Grew tables.now arena.old arena.new (front_of arena.old parent.front) ((2 * number) ∷ []) children.old.items children.new.items) }
     ensures grown { AreGrown arena.old arena.new }
 {
     let goal = goal_at(tables, parent.spot);
@@ -81,19 +83,24 @@ fn grow_variable(
         return Ok(());
     }
     let total = with_step(bound, goal);
-    grow_by(tables, arena, aside, parent, 2 * number, total, 0, &[])
+    let head = Head {
+        number: 2 * number,
+        total,
+        row: 0,
+    };
+    grow_by(tables, arena, children, parent, head, &[])
 }
 
 /// Adds what grows by the variables.
 fn grow_variables(
     tables: &Tables,
     arena: &mut Arena,
-    aside: &mut Vec<(u32, Item)>,
+    children: &mut Vec<(u32, Item)>,
     parent: Parent,
 ) -> Result<(), AllocError>
     requires parent { IsParent tables.now arena.old parent }
-    requires aside { AreHeld tables.now arena.old aside.old.items }
-    ensures grew { OnOk result (Grew tables.now arena.old arena.new (front_of arena.old parent.front) (variables (bound_at tables.now parent.spot)) aside.old.items aside.new.items) }
+    requires children { AreHeld tables.now arena.old children.old.items }
+    ensures grew { OnOk result (Grew tables.now arena.old arena.new (front_of arena.old parent.front) (variables (bound_at tables.now parent.spot)) children.old.items children.new.items) }
     ensures grown { AreGrown arena.old arena.new }
 {
     let types = types_at(tables, parent.spot.row);
@@ -102,7 +109,7 @@ fn grow_variables(
     }
     for number in 0..types.len() {
         let bound = types[number];
-        grow_variable(tables, arena, aside, parent, number as u32, bound)?;
+        grow_variable(tables, arena, children, parent, number as u32, bound)?;
     }
     Ok(())
 }
@@ -111,16 +118,18 @@ fn grow_variables(
 pub fn grow(
     tables: &Tables,
     arena: &mut Arena,
-    aside: &mut Vec<(u32, Item)>,
+    children: &mut Vec<(u32, Item)>,
     parent: Parent,
 ) -> Result<(), AllocError>
     requires parent { IsParent tables.now arena.old parent }
-    requires aside { AreHeld tables.now arena.old aside.old.items }
-    requires turns { All (IsAnyMove tables.now parent.spot) (moves_at tables.now parent.spot.state) }
-    requires light { AreLightest tables.now.moves tables.now.lightest }
-    ensures grew { OnOk result (Grew tables.now arena.old arena.new (front_of arena.old parent.front) (numbers_at tables.now parent.spot) aside.old.items aside.new.items) }
+    requires children { AreHeld tables.now arena.old children.old.items }
+    requires totals { AreTotals tables.now.env.limit tables.now.least tables.now.edges tables.now.totals }
+    requires valid { IsValid tables.now.env }
+    requires light { AreLightest tables.now.env tables.now.edges tables.now.totals tables.now.lightest }
+    requires ways { AreWaysAt tables.now parent.spot parent.spot.state }
+    ensures grew { OnOk result (Grew tables.now arena.old arena.new (front_of arena.old parent.front) (numbers_at tables.now parent.spot) children.old.items children.new.items) }
     ensures grown { AreGrown arena.old arena.new }
 {
-    grow_variables(tables, arena, aside, parent)?;
-    grow_moves(tables, arena, aside, parent)
+    grow_variables(tables, arena, children, parent)?;
+    grow_edges(tables, arena, children, parent)
 }

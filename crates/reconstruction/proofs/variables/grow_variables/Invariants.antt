@@ -3,4 +3,4 @@ use Rattle.reconstruction.specs.Variables.{variables}
 use Rattle.reconstruction.proofs.variables.grow_variables.Given as goal
 
 abbrev pub invariant-loop-number : goal.invariant-loop-number
-invariant-loop-number l = Grew l.initial.tables l.fn.arena l.arena (front_of l.fn.arena l.initial.parent.front) (variables l.number) l.fn.aside.items l.aside.items
+invariant-loop-number l = Grew l.initial.tables l.fn.arena l.arena (front_of l.fn.arena l.initial.parent.front) (variables l.number) l.fn.children.items l.children.items

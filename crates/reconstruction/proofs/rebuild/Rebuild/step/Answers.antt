@@ -65,12 +65,12 @@ grow-requires-clause-parent c =
     let low = first_below r.tables r.arena c.in-Some.next.0 c.in-Some-first.spot c.in-Some-first.rest c.in-Some.next.1 held c.in-Some-first.ensures.some in
     parent_of r.tables r.arena c.in-Some.next.0 c.in-Some-first.spot c.in-Some-first.rest (c.in-Some.next.0 - c.least_at.result) c.in-Some.next.1 held c.in-Some-first.ensures.some c.in-Some-first.ensures.within (omega (arith, low, c.least_at.ensures.value))
 
-pub grow-requires-clause-turns : goal.grow-requires-clause-turns
-grow-requires-clause-turns c =
+pub grow-requires-clause-ways : goal.grow-requires-clause-ways
+grow-requires-clause-ways c =
     let r = c.self.inside in
     let run : IsRunning r.tables r.arena r.from r.level c.next.new.self r.found.items = running_next r.tables r.arena r.from r.level _ _ r.found.items c.self.invariant c.next.ensures.moved c.next.ensures.counted in
     let held : IsHeld r.tables r.arena c.in-Some.next.0 c.in-Some.next.1 = item_held r.tables r.arena r.from r.level c.in-Some.next.0 c.in-Some.next.1 c.next.new.self r.found.items run c.in-Some.ensures.held in
-    c.self.invariant.complete.moves c.in-Some-first.spot (first_spot r.tables r.arena c.in-Some.next.0 c.in-Some-first.spot c.in-Some-first.rest c.in-Some.next.1 held c.in-Some-first.ensures.some)
+    c.self.invariant.complete.ways c.in-Some-first.spot (first_spot r.tables r.arena c.in-Some.next.0 c.in-Some-first.spot c.in-Some-first.rest c.in-Some.next.1 held c.in-Some-first.ensures.some)
 
 pub invariant_of-self-in_err-grow-in-Some-first : goal.invariant_of-self-in_err-grow-in-Some-first
 invariant_of-self-in_err-grow-in-Some-first c =
@@ -91,5 +91,5 @@ invariant_of-self-in-Some-first c =
     let P : Rebuilding → Type 0 = λ v. v.progress.from ≤ v.reached in
     let begun : r.from ≤ r.level = subst P (sym c.self.view_is) c.requires.begun in
     let run : IsRunning r.tables r.arena r.from r.level c.next.new.self r.found.items = running_next r.tables r.arena r.from r.level _ _ r.found.items c.self.invariant c.next.ensures.moved c.next.ensures.counted in
-    running_grown r.tables r.arena c.grow.new.arena r.from r.level c.in-Some.next.0 c.in-Some-first.rest c.in-Some-first.spot c.in-Some.next.1 c.next.new.self c.replace_held.new.self c.clear.new.self.items c.grow.new.aside.items r.found.items run begun c.in-Some.ensures.held (omega (arith, c.if-key-self.false)) c.in-Some-first.ensures.some
+    running_grown r.tables r.arena c.grow.new.arena r.from r.level c.in-Some.next.0 c.in-Some-first.rest c.in-Some-first.spot c.in-Some.next.1 c.next.new.self c.replace_held.new.self c.clear.new.self.items c.grow.new.children.items r.found.items run begun c.in-Some.ensures.held (omega (arith, c.if-key-self.false)) c.in-Some-first.ensures.some
     c.clear.ensures.items c.in_ok-grow-in-Some-first.ensures.grew c.in_ok-replace_held-in-Some-first.ensures.moved c.in_ok-replace_held-in-Some-first.ensures.taken c.replace_held.ensures.pops

@@ -1,0 +1,5 @@
+use Rattle.terms.proofs.Valid.{valid-depth}
+use Rattle.reconstruction.proofs.derived.patterns_for.Goals as goal
+
+pub derive-requires : goal.derive-requires
+derive-requires c = record { in_range = valid-depth c.parts-parts.result.now c.parts-parts.ensures.valid }

@@ -1,5 +1,0 @@
-use Rattle.terms.proofs.Valid.{valid-depth}
-use Rattle.reconstruction.proofs.moves.patterns_for.Goals as goal
-
-pub derive-requires : goal.derive-requires
-derive-requires c = record { in_range = valid-depth c.parts-parts.result.now c.parts-parts.ensures.valid }
