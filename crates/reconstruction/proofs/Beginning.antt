@@ -6,8 +6,8 @@ use Rattle.terms.specs.Count.{total}
 use Rattle.terms.specs.Place.{Place, goal_place}
 use Rattle.terms.specs.Reading.{read}
 use Rattle.terms.specs.declared.parts.Parts.{Parts}
-use Rattle.reconstruction.specs.Fronts.{reading}
-use Rattle.reconstruction.specs.Search.{IsSearch}
+use Rattle.partial_terms.specs.Fronts.{reading}
+use Rattle.partial_terms.specs.Search.{IsSearch}
 use Rattle.reconstruction.specs.Spots.{IsSpot}
 use Rattle.reconstruction.specs.Tabled.{place_of, places_of, least_of, AreSpots, backwards, front_of, stack_of, IsHeld, seen}
 use Rattle.reconstruction.specs.Levelled.{AreComplete, IsAt}
@@ -16,7 +16,7 @@ use Rattle.reconstruction.specs.declared.item.Arena.{Arena}
 use Rattle.reconstruction.specs.declared.spot.Spot.{Spot}
 use Rattle.reconstruction.specs.declared.tables.Tables.{Tables}
 use Rattle.reconstruction.proofs.Making.{moved_at}
-use Rattle.reconstruction.proofs.Starts.{first_search}
+use Rattle.partial_terms.proofs.Starts.{first_search}
 
 abbrev pub first_spot_of : Spot
 first_spot_of = record { row = 0; state = 0 }

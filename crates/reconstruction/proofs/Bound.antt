@@ -12,7 +12,7 @@ use Rattle.terms.specs.declared.parts.Decl.{Decl}
 use Rattle.terms.specs.declared.parts.Parts.{Parts}
 use Rattle.terms.proofs.Halves.{symbol-even}
 use Rattle.patterns.specs.declared.state.State.{State}
-use Rattle.reconstruction.specs.Fronts.{key_within}
+use Rattle.partial_terms.specs.Fronts.{key_within}
 use Rattle.reconstruction.specs.Spots.{row_of_args, row_of_decl, rows_at, at_state, IsSpot}
 use Rattle.reconstruction.specs.Tabled.{place_of, places_of, least_of, front_of, stack_of, AreHeld, IsParent, IsTurn, may, Grew}
 use Rattle.reconstruction.specs.Variables.{variables}

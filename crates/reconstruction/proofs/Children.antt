@@ -9,9 +9,9 @@ use Rattle.terms.specs.Place.{Place, goal_place}
 use Rattle.terms.specs.Reading.{Reading, turn, and_then, read}
 use Rattle.terms.specs.declared.parts.Parts.{Parts}
 use Rattle.terms.proofs.Sums.{total-append}
-use Rattle.reconstruction.specs.Leasts.{key}
-use Rattle.reconstruction.specs.Fronts.{reading, key_within}
-use Rattle.reconstruction.specs.Search.{key_of}
+use Rattle.partial_terms.specs.Leasts.{key}
+use Rattle.partial_terms.specs.Fronts.{reading, key_within}
+use Rattle.partial_terms.specs.Search.{key_of}
 use Rattle.reconstruction.specs.Spots.{IsSpot}
 use Rattle.reconstruction.specs.Tabled.{place_of, places_of, least_of, AreSpots, backwards, front_of, stack_of, IsParent, IsTurn, child, may, Pushes}
 use Rattle.reconstruction.specs.Totals.{IsCapped}
@@ -20,7 +20,7 @@ use Rattle.reconstruction.specs.declared.item.Arena.{Arena}
 use Rattle.reconstruction.specs.declared.item.Parent.{Parent}
 use Rattle.reconstruction.specs.declared.spot.Spot.{Spot}
 use Rattle.reconstruction.specs.declared.tables.Tables.{Tables}
-use Rattle.reconstruction.proofs.Division.{read-append}
+use Rattle.partial_terms.proofs.Division.{read-append}
 
 -- a turn over the weight so far and the other places
 abbrev pub after : ℕ → List Place → Reading → Option Reading

@@ -6,14 +6,14 @@ use Rattle.std.proofs.lemmas.List.Sorted.{All-permutation, IsPermutation-map, Is
 use Rattle.terms.specs.Count.{total}
 use Rattle.terms.specs.Place.{Place, goal_place}
 use Rattle.terms.specs.declared.parts.Parts.{Parts}
-use Rattle.reconstruction.specs.Fronts.{reading}
-use Rattle.reconstruction.specs.Search.{key_of, children}
+use Rattle.partial_terms.specs.Fronts.{reading}
+use Rattle.partial_terms.specs.Search.{key_of, children}
 use Rattle.reconstruction.specs.Tabled.{places_of, least_of, AreSpots, backwards, front_of, stack_of, IsHeld, AreHeld, IsParent, AreGrown, child, may, PushesIf, Pushes, seen, picked, Grew}
 use Rattle.reconstruction.specs.declared.item.Item.{Item}
 use Rattle.reconstruction.specs.declared.item.Arena.{Arena}
 use Rattle.reconstruction.specs.declared.item.Parent.{Parent}
 use Rattle.reconstruction.specs.declared.tables.Tables.{Tables}
-use Rattle.reconstruction.proofs.Chaining.{grown-refl, grown-trans}
+use Rattle.partial_terms.proofs.Chaining.{grown-refl, grown-trans}
 
 pub all-grown-refl : (a : Arena) → AreGrown a a
 all-grown-refl a = record { fronts = grown-refl a.fronts; stacks = grown-refl a.stacks }

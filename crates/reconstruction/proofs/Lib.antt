@@ -1,10 +1,3 @@
-pub mod Chaining
-pub mod Keys
-pub mod Division
-pub mod Pops
-pub mod Levels
-pub mod Popping
-pub mod Starts
 pub mod Weights
 pub mod Opens
 pub mod Children
@@ -22,7 +15,6 @@ pub mod Turned
 pub mod Complete
 pub mod Turning
 pub mod Beginning
-pub mod Folds
 pub mod Stacks
 pub mod Unstacking
 pub mod Rounds

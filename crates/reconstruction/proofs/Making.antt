@@ -10,9 +10,9 @@ use Rattle.terms.specs.Place.{Place, goal_place, weigh}
 use Rattle.terms.specs.Reading.{Reading, turn, and_then}
 use Rattle.terms.proofs.Standing.{count-permutation}
 use Rattle.terms.proofs.Sums.{total-append}
-use Rattle.reconstruction.specs.Leasts.{key}
-use Rattle.reconstruction.specs.Fronts.{begins, reading, IsItem, key_within, IsGrowth}
-use Rattle.reconstruction.specs.Search.{IsSearch, fronts, children}
+use Rattle.partial_terms.specs.Leasts.{key}
+use Rattle.partial_terms.specs.Fronts.{begins, reading, IsItem, key_within, IsGrowth}
+use Rattle.partial_terms.specs.Search.{IsSearch, fronts, children}
 use Rattle.reconstruction.specs.Spots.{IsKept, IsSpot}
 use Rattle.reconstruction.specs.Tabled.{place_of, places_of, least_of, AreSpots, backwards, front_of, stack_of, IsHeld, AreHeld, IsParent, AreGrown, child, may, seen, picked, Grew}
 use Rattle.reconstruction.specs.Variables.{numbers_at}
@@ -21,8 +21,8 @@ use Rattle.reconstruction.specs.declared.item.Item.{Item}
 use Rattle.reconstruction.specs.declared.item.Arena.{Arena}
 use Rattle.reconstruction.specs.declared.spot.Spot.{Spot}
 use Rattle.reconstruction.specs.declared.tables.Tables.{Tables}
-use Rattle.reconstruction.proofs.Levels.{taken, grown}
-use Rattle.reconstruction.proofs.Popping.{completed}
+use Rattle.partial_terms.proofs.Levels.{taken, grown}
+use Rattle.partial_terms.proofs.Popping.{completed}
 use Rattle.reconstruction.proofs.Children.{after, next_reading}
 use Rattle.reconstruction.proofs.Growths.{are-held-grown, seen-grown}
 

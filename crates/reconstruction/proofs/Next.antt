@@ -7,16 +7,16 @@ use Rattle.terms.specs.Count.{count, once_if, expr_eq}
 use Rattle.terms.specs.Listing.{level_of, Skipped}
 use Rattle.terms.specs.Place.{goal_place, fits_place, weigh}
 use Rattle.terms.proofs.Inhabitants.{level-within, level-none}
-use Rattle.reconstruction.specs.Fronts.{IsItem}
+use Rattle.partial_terms.specs.Fronts.{IsItem}
 use Rattle.reconstruction.specs.Spots.{IsKept}
 use Rattle.reconstruction.specs.Tabled.{least_of, front_of, seen}
 use Rattle.reconstruction.specs.Levelled.{AreComplete, IsAt}
 use Rattle.reconstruction.specs.declared.item.Item.{Item}
 use Rattle.reconstruction.specs.declared.item.Arena.{Arena}
 use Rattle.reconstruction.specs.declared.tables.Tables.{Tables}
-use Rattle.reconstruction.proofs.Levels.{AreTerms, level_exact, next_search}
-use Rattle.reconstruction.proofs.Popping.{completed}
-use Rattle.reconstruction.proofs.Starts.{skipped, skip_search}
+use Rattle.partial_terms.proofs.Levels.{AreTerms, level_exact, next_search}
+use Rattle.partial_terms.proofs.Popping.{completed}
+use Rattle.partial_terms.proofs.Starts.{skipped, skip_search}
 
 -- what holds of the keys of some items holds of what is seen of them
 keys-seen : (a : Arena) (P : ℕ → Type 0) (items : List (ℕ × Item)) → All (λ q. P q.0) items → All (λ q. P q.0) (seen a items)

@@ -25,7 +25,7 @@ use Rattle.patterns.specs.declared.wanted.Wanted.{Wanted}
 use Rattle.patterns.proofs.Contexts.{set_of-more}
 use Rattle.patterns.proofs.Mets.{in_ends}
 use Rattle.patterns.proofs.Tables.{remap}
-use Rattle.reconstruction.specs.Leasts.{AllPlaces}
+use Rattle.partial_terms.specs.Leasts.{AllPlaces}
 use Rattle.reconstruction.specs.Spots.{IsKept}
 use Rattle.reconstruction.proofs.Weights.{some_of, none_of}
 

@@ -10,19 +10,19 @@ use Rattle.terms.specs.Place.{goal_place, fits_place, weigh, IsInhabitant, total
 use Rattle.terms.specs.declared.parts.Parts.{Parts}
 use Rattle.terms.proofs.Forests.{whole}
 use Rattle.terms.proofs.Standing.{count-append}
-use Rattle.reconstruction.specs.Fronts.{begins, reading, IsItem}
+use Rattle.partial_terms.specs.Fronts.{begins, reading, IsItem}
 use Rattle.reconstruction.specs.Levelled.{AreComplete, IsAt, with_held}
 use Rattle.reconstruction.specs.Partial.{AreDivided, IsCode, least_completion, waiting_with}
 use Rattle.reconstruction.specs.Rebuilding.{IsOn, held_shown}
-use Rattle.reconstruction.specs.Search.{fronts}
+use Rattle.partial_terms.specs.Search.{fronts}
 use Rattle.reconstruction.specs.Spots.{IsKept}
 use Rattle.reconstruction.specs.Tabled.{front_of, least_of, seen}
 use Rattle.reconstruction.specs.declared.item.Item.{Item}
 use Rattle.reconstruction.specs.declared.item.Arena.{Arena}
 use Rattle.reconstruction.specs.declared.tables.Tables.{Tables}
-use Rattle.reconstruction.proofs.Division.{Rest, rest_of, key-below, code-whole}
-use Rattle.reconstruction.proofs.Keys.{OneTerm}
-use Rattle.reconstruction.proofs.Popping.{completed}
+use Rattle.partial_terms.proofs.Division.{Rest, rest_of, key-below, code-whole}
+use Rattle.partial_terms.proofs.Keys.{OneTerm}
+use Rattle.partial_terms.proofs.Popping.{completed}
 use Rattle.reconstruction.proofs.Rounds.{one_whole}
 
 -- no completion is lighter than the key

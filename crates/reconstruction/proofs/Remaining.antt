@@ -12,21 +12,21 @@ use Rattle.terms.specs.Reading.{and_then, read}
 use Rattle.terms.specs.declared.parts.Parts.{Parts}
 use Rattle.terms.proofs.Forests.{whole}
 use Rattle.terms.proofs.Standing.{count-permutation, expr_eq-refl}
-use Rattle.reconstruction.specs.Fronts.{begins, same, reading}
+use Rattle.partial_terms.specs.Fronts.{begins, same, reading}
 use Rattle.reconstruction.specs.Levelled.{IsAt}
-use Rattle.reconstruction.specs.Popped.{NoneLost}
-use Rattle.reconstruction.specs.Search.{times_completed, fronts}
+use Rattle.partial_terms.specs.Popped.{NoneLost}
+use Rattle.partial_terms.specs.Search.{times_completed, fronts}
 use Rattle.reconstruction.specs.Tabled.{places_of, front_of, stack_of, seen, IsHeld, AreHeld, AreGrown}
 use Rattle.reconstruction.specs.declared.item.Arena.{Arena}
 use Rattle.reconstruction.specs.declared.item.Item.{Item}
 use Rattle.reconstruction.specs.declared.tables.Tables.{Tables}
-use Rattle.reconstruction.proofs.Division.{Rest, rest_of, read-append, code-whole}
+use Rattle.partial_terms.proofs.Division.{Rest, rest_of, read-append, code-whole}
 use Rattle.reconstruction.proofs.Growths.{seen-grown}
-use Rattle.reconstruction.proofs.Keys.{read-end}
-use Rattle.reconstruction.proofs.Levels.{eq-begins}
+use Rattle.partial_terms.proofs.Keys.{read-end}
+use Rattle.partial_terms.proofs.Levels.{eq-begins}
 use Rattle.reconstruction.proofs.Making.{same_fronts}
-use Rattle.reconstruction.proofs.Popping.{same-true, same-begins}
-use Rattle.reconstruction.proofs.Pops.{swapped, total-below}
+use Rattle.partial_terms.proofs.Popping.{same-true, same-begins}
+use Rattle.partial_terms.proofs.Pops.{swapped, total-below}
 
 -- an inhabitant fits the goal within the limit
 fits : (g : Parts) (e : Expr) → IsInhabitant g e → fits_place g (goal_place g) e ≡ true

@@ -13,17 +13,17 @@ use Rattle.terms.specs.declared.term.Term.{Term}
 use Rattle.terms.proofs.Forests.{whole}
 use Rattle.terms.proofs.Inhabitants.{level-within}
 use Rattle.terms.proofs.Valid.{valid-limit}
-use Rattle.reconstruction.specs.Fronts.{reading}
+use Rattle.partial_terms.specs.Fronts.{reading}
 use Rattle.reconstruction.specs.Tabled.{front_of}
 use Rattle.reconstruction.specs.Levelled.{AreComplete, IsAt, IsLeastHeld, with_held}
-use Rattle.reconstruction.specs.Built.{IsTermOf, AreTermsOf}
+use Rattle.partial_terms.specs.Built.{IsTermOf, AreTermsOf}
 use Rattle.reconstruction.specs.Rebuilding.{IsOn, HoldsKey, IsBegun}
 use Rattle.reconstruction.specs.declared.item.Arena.{Arena}
 use Rattle.reconstruction.specs.declared.item.Item.{Item}
 use Rattle.reconstruction.specs.declared.tables.Tables.{Tables}
-use Rattle.reconstruction.proofs.Division.{code-whole}
-use Rattle.reconstruction.proofs.Keys.{weight_of, OneTerm, one_read}
-use Rattle.reconstruction.proofs.Levels.{AreTerms}
+use Rattle.partial_terms.proofs.Division.{code-whole}
+use Rattle.partial_terms.proofs.Keys.{weight_of, OneTerm, one_read}
+use Rattle.partial_terms.proofs.Levels.{AreTerms}
 use Rattle.reconstruction.proofs.Making.{moved_at}
 use Rattle.reconstruction.proofs.Next.{at_next, level_each}
 use Rattle.reconstruction.proofs.Turning.{Started, started, ended}

@@ -6,14 +6,14 @@ use Rattle.terms.specs.Listing.{Progress, IsNextLevel, IsNextWeight}
 use Rattle.terms.specs.Place.{goal_place}
 use Rattle.terms.specs.View.{expr}
 use Rattle.terms.specs.declared.term.Term.{Term}
-use Rattle.reconstruction.specs.Built.{AreTermsOf}
+use Rattle.partial_terms.specs.Built.{AreTermsOf}
 use Rattle.reconstruction.specs.Levelled.{AreComplete, IsAt, IsLeastHeld, with_held}
 use Rattle.reconstruction.specs.Partial.{waiting_with}
 use Rattle.reconstruction.specs.Pending.{Pending}
-use Rattle.reconstruction.specs.Popped.{IsPopped, NoneLost}
+use Rattle.partial_terms.specs.Popped.{IsPopped, NoneLost}
 use Rattle.reconstruction.specs.Rebuilding.{HoldsKey, IsBegun, held_shown}
 use Rattle.reconstruction.specs.Running.{IsRunning}
-use Rattle.reconstruction.specs.Search.{fronts}
+use Rattle.partial_terms.specs.Search.{fronts}
 use Rattle.reconstruction.specs.Tabled.{front_of, stack_of, seen, IsHeld, AreHeld, AreGrown, Grew}
 use Rattle.reconstruction.specs.Tallied.{capped, held_many, AreTallied}
 use Rattle.reconstruction.specs.Variables.{numbers_at}

@@ -10,7 +10,7 @@ use Rattle.terms.specs.declared.parts.Parts.{Parts}
 use Rattle.terms.specs.declared.term.Term.{Term}
 use Rattle.terms.specs.declared.term.TermArg.{TermArg}
 use Rattle.reconstruction.specs.Tabled.{backwards, front_of}
-use Rattle.reconstruction.specs.Built.{stacked, onto, placed, args_with, left_over, IsEnded, IsTermOf, AreTermsOf}
+use Rattle.partial_terms.specs.Built.{stacked, onto, placed, args_with, left_over, IsEnded, IsTermOf, AreTermsOf}
 use Rattle.reconstruction.specs.declared.item.Arena.{Arena}
 
 -- what is pushed comes first

@@ -8,11 +8,11 @@ use Rattle.terms.specs.Code.{prefix_code}
 use Rattle.terms.specs.Count.{count, expr_eq, Stands, total}
 use Rattle.terms.specs.Expr.{Expr}
 use Rattle.terms.specs.Place.{goal_place, fits_place, weigh, IsInhabitant, total_of}
-use Rattle.reconstruction.specs.Fronts.{begins}
+use Rattle.partial_terms.specs.Fronts.{begins}
 use Rattle.reconstruction.specs.Levelled.{AreComplete, IsAt, with_held}
-use Rattle.reconstruction.specs.Popped.{HasCompletion, IsPopped, NoneLost}
+use Rattle.partial_terms.specs.Popped.{HasCompletion, IsPopped, NoneLost}
 use Rattle.reconstruction.specs.Rebuilding.{AreGiven}
-use Rattle.reconstruction.specs.Search.{fronts, children}
+use Rattle.partial_terms.specs.Search.{fronts, children}
 use Rattle.reconstruction.specs.Spots.{IsKept}
 use Rattle.reconstruction.specs.Tabled.{least_of, front_of, may, picked, seen, AreHeld, AreGrown, Grew}
 use Rattle.reconstruction.specs.Tallied.{capped, held_many, AreTallied}
@@ -20,9 +20,9 @@ use Rattle.reconstruction.specs.declared.item.Item.{Item}
 use Rattle.reconstruction.specs.declared.item.Arena.{Arena}
 use Rattle.reconstruction.specs.declared.tables.Tables.{Tables}
 use Rattle.reconstruction.proofs.Growths.{seen-grown}
-use Rattle.reconstruction.proofs.Levels.{fronts-children, fronts-append}
+use Rattle.partial_terms.proofs.Levels.{fronts-children, fronts-append}
 use Rattle.reconstruction.proofs.Making.{key_from, grown_seen}
-use Rattle.reconstruction.proofs.Popping.{popped_more, popped_grown, pops_bound}
+use Rattle.partial_terms.proofs.Popping.{popped_more, popped_grown, pops_bound}
 use Rattle.reconstruction.proofs.Remaining.{none_lost_moved, none_lost_first, given_fit, given_popped, few_codes}
 
 -- the items in another order

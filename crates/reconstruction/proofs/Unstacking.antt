@@ -11,10 +11,10 @@ use Rattle.terms.proofs.Halves.{symbol-even, symbol-odd}
 use Rattle.reconstruction.specs.Spots.{IsKept}
 use Rattle.reconstruction.specs.Tabled.{least_of, front_of}
 use Rattle.reconstruction.specs.Levelled.{AreComplete}
-use Rattle.reconstruction.specs.Built.{stacked, args_with, left_over, wanted_by, applied_by, applied, takes_by, takes, IsEnded, IsRead, IsTermOf}
+use Rattle.partial_terms.specs.Built.{stacked, args_with, left_over, wanted_by, applied_by, applied, takes_by, takes, IsEnded, IsRead, IsTermOf}
 use Rattle.reconstruction.specs.declared.item.Arena.{Arena}
 use Rattle.reconstruction.specs.declared.tables.Tables.{Tables}
-use Rattle.reconstruction.proofs.Folds.{IsStepped, read_step, read_none, read_last, read_some}
+use Rattle.partial_terms.proofs.Folds.{IsStepped, read_step, read_none, read_last, read_some}
 use Rattle.reconstruction.proofs.Stacks.{stacked-push, length-stacked, front-last, front-none}
 
 -- at first nothing is read

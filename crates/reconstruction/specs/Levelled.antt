@@ -5,8 +5,8 @@ use Rattle.terms.specs.Faults.{IsValid}
 use Rattle.terms.specs.Place.{goal_place}
 use Rattle.terms.specs.Reading.{Reading, turn}
 use Rattle.least_weights.specs.LeastWeight.{AreLeastWeights}
-use Rattle.reconstruction.specs.Leasts.{AreLeast}
-use Rattle.reconstruction.specs.Search.{IsSearch}
+use Rattle.partial_terms.specs.Leasts.{AreLeast}
+use Rattle.partial_terms.specs.Search.{IsSearch}
 use Rattle.reconstruction.specs.Spots.{IsSpot, IsKept}
 use Rattle.reconstruction.specs.Tabled.{place_of, least_of, front_of, AreHeld, seen}
 use Rattle.reconstruction.specs.Totals.{AreTotals, AreLightest}

@@ -6,9 +6,9 @@ use Rattle.terms.specs.Expr.{Expr}
 use Rattle.terms.specs.Listing.{Progress}
 use Rattle.terms.specs.Place.{IsInhabitant, total_of}
 use Rattle.terms.specs.declared.parts.Parts.{Parts}
-use Rattle.reconstruction.specs.Fronts.{begins}
+use Rattle.partial_terms.specs.Fronts.{begins}
 use Rattle.reconstruction.specs.Rebuilding.{Rebuilding}
-use Rattle.reconstruction.specs.Search.{times_completed}
+use Rattle.partial_terms.specs.Search.{times_completed}
 
 -- the completions of a partial term: the inhabitants whose prefix code begins with it
 abbrev pub completions_of : Parts → List ℕ → Expr → Type 0

@@ -10,7 +10,7 @@ use Rattle.patterns.specs.Patterned.{Patterned}
 use Rattle.patterns.specs.States.{types_at, left_at}
 use Rattle.patterns.specs.declared.state.State.{State}
 use Rattle.least_weights.specs.LeastWeight.{place_at}
-use Rattle.reconstruction.specs.Fronts.{same}
+use Rattle.partial_terms.specs.Fronts.{same}
 use Rattle.reconstruction.specs.declared.spot.Spot.{Spot}
 
 -- the row of the lambda that is the only argument

@@ -3,9 +3,9 @@ use Rattle.std.specs.Prelude.{◌≡◌, ℕ, ◌+◌, ◌<◌, ◌≤◌, Bool,
 use Rattle.terms.specs.Count.{total}
 use Rattle.terms.specs.Place.{Place, goal_place}
 use Rattle.terms.specs.Reading.{Reading, turn}
-use Rattle.reconstruction.specs.Fronts.{reading, key_within}
-use Rattle.reconstruction.specs.Search.{key_of, children}
-use Rattle.reconstruction.specs.Chained.{IsGrown}
+use Rattle.partial_terms.specs.Fronts.{reading, key_within}
+use Rattle.partial_terms.specs.Search.{key_of, children}
+use Rattle.partial_terms.specs.Chained.{IsGrown}
 use Rattle.reconstruction.specs.Spots.{spot_place, IsSpot, least_at}
 use Rattle.reconstruction.specs.Totals.{IsCapped}
 use Rattle.reconstruction.specs.declared.item.Item.{Item}

@@ -2,8 +2,8 @@
 use Rattle.std.specs.Prelude.{◌≡◌, ℕ, ◌+◌, min, List, length, Option, None, Some}
 use Rattle.terms.specs.Place.{goal_place}
 use Rattle.reconstruction.specs.Levelled.{with_held}
-use Rattle.reconstruction.specs.Popped.{IsPopped, NoneLost}
-use Rattle.reconstruction.specs.Search.{fronts}
+use Rattle.partial_terms.specs.Popped.{IsPopped, NoneLost}
+use Rattle.partial_terms.specs.Search.{fronts}
 use Rattle.reconstruction.specs.Tabled.{seen}
 use Rattle.reconstruction.specs.declared.item.Item.{Item}
 use Rattle.reconstruction.specs.declared.item.Arena.{Arena}

@@ -3,7 +3,7 @@
 ghost use Rattle.std.specs.Prelude.{◌≡◌, ◌<◌, ◌≤◌, length, vec_len, map, All, IfOk, OnOk};
 ghost use Rattle.terms.specs.Expr.{Args};
 ghost use Rattle.terms.specs.View.{expr, arg, args_view};
-ghost use Rattle.reconstruction.specs.Built.{stacked, placed, args_with, left_over, wanted_by, applied, takes, IsEnded, IsTermOf, AreTermsOf};
+ghost use Rattle.partial_terms.specs.Built.{stacked, placed, args_with, left_over, wanted_by, applied, takes, IsEnded, IsTermOf, AreTermsOf};
 ghost use Rattle.reconstruction.specs.Levelled.{AreComplete};
 ghost use Rattle.reconstruction.specs.Tabled.{front_of};
 

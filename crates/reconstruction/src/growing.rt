@@ -1,13 +1,13 @@
 // One partial term more: a front with one number more, and the places that it opens.
 
 ghost use Rattle.std.specs.Prelude.{◌≡◌, ◌<◌, ◌≤◌, ◌++◌, [], length, get_or, IfOk, OnOk};
-ghost use Rattle.reconstruction.specs.Chained.{IsGrown};
+ghost use Rattle.partial_terms.specs.Chained.{IsGrown};
 ghost use Rattle.reconstruction.specs.Tabled.{spots_under, place_of, front_of, IsParent, IsTurn, AreGrown, Pushes};
 
-use crate::chains::Chains;
 use crate::item::{Arena, Head, Item, Parent};
 use crate::spot::Spot;
 use crate::tables::Tables;
+use partial_terms::Chains;
 use std::alloc::AllocError;
 
 /// Keeps the spots of these states under one row before a list of spots.

@@ -1,5 +1,5 @@
-use crate::chains::Chains;
 use crate::spot::Spot;
+use partial_terms::Chains;
 
 /// A partial term: the list of its front, the last number first, and the list of its open places.
 #[derive(Clone, Copy, Debug)]

@@ -3,16 +3,16 @@ ghost use Rattle.terms.specs.Expr.{Expr};
 ghost use Rattle.terms.specs.Listing.{AreFew, IsNextLevel, IsNextWeight, Skipped};
 ghost use Rattle.reconstruction.specs.Partial.{AreDivided, IsCode, least_completion, waiting};
 ghost use Rattle.reconstruction.specs.Rebuilding.{AreGiven};
-ghost use Rattle.reconstruction.specs.Search.{fronts};
+ghost use Rattle.partial_terms.specs.Search.{fronts};
 
 use crate::agenda::Agenda;
 use crate::building::terms_of;
-use crate::chains::Chains;
 use crate::derived::tables_of;
 use crate::item::{Arena, Item, Parent};
 use crate::starting::{begin, least_at};
 use crate::tables::Tables;
 use crate::variables::grow;
+use partial_terms::Chains;
 use std::alloc::{AllocError, Global};
 use std::marker::Model;
 use terms::{Env, Level, Levels};

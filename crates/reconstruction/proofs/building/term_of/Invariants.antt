@@ -1,6 +1,6 @@
 use Rattle.std.proofs.Common.{◌<◌, length, get_or, []}
 use Rattle.reconstruction.specs.Tabled.{front_of}
-use Rattle.reconstruction.specs.Built.{stacked, IsRead}
+use Rattle.partial_terms.specs.Built.{stacked, IsRead}
 use Rattle.reconstruction.proofs.building.term_of.Given as goal
 
 abbrev pub invariant-loop-number : goal.invariant-loop-number

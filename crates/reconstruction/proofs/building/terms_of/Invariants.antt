@@ -1,7 +1,7 @@
 use Rattle.std.proofs.Common.{take, map}
 use Rattle.terms.specs.View.{expr}
 use Rattle.reconstruction.specs.Tabled.{front_of}
-use Rattle.reconstruction.specs.Built.{AreTermsOf}
+use Rattle.partial_terms.specs.Built.{AreTermsOf}
 use Rattle.reconstruction.proofs.building.terms_of.Given as goal
 
 abbrev pub invariant-loop-number : goal.invariant-loop-number

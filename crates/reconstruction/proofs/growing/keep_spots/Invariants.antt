@@ -1,5 +1,5 @@
 use Rattle.std.proofs.Common.{◌≡◌, ◌≤◌, ◌<◌, ◌++◌, [], drop, length, get_or}
-use Rattle.reconstruction.specs.Chained.{IsGrown}
+use Rattle.partial_terms.specs.Chained.{IsGrown}
 use Rattle.reconstruction.specs.Tabled.{spots_under}
 use Rattle.reconstruction.proofs.growing.keep_spots.Given as goal
 

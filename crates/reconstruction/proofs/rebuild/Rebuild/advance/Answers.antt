@@ -1,7 +1,7 @@
 use Rattle.std.proofs.Common.{◌≡◌, ◌+◌, ◌<◌, ℕ, List, All, map, sym, ap, subst, ◌∙◌, arith}
 use Rattle.terms.specs.Listing.{Progress}
 use Rattle.terms.specs.View.{expr}
-use Rattle.reconstruction.specs.Built.{AreTermsOf}
+use Rattle.partial_terms.specs.Built.{AreTermsOf}
 use Rattle.reconstruction.specs.Levelled.{with_held}
 use Rattle.reconstruction.specs.Partial.{waiting}
 use Rattle.reconstruction.specs.Rebuilding.{Rebuilding}

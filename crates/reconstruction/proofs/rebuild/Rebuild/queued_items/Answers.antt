@@ -1,7 +1,7 @@
 use Rattle.std.proofs.Common.{◌++◌, ℕ, List, All, subst}
 use Rattle.reconstruction.specs.Partial.{AreDivided, IsCode, least_completion, waiting}
 use Rattle.reconstruction.specs.Rebuilding.{Rebuilding}
-use Rattle.reconstruction.specs.Search.{fronts}
+use Rattle.partial_terms.specs.Search.{fronts}
 use Rattle.reconstruction.proofs.Partials.{all_live, all_divided, all_codes}
 use Rattle.reconstruction.proofs.rebuild.Rebuild.queued_items.Goals as goal
 

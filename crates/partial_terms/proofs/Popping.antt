@@ -10,15 +10,15 @@ use Rattle.terms.specs.Code.{prefix_code}
 use Rattle.terms.specs.Count.{once_if, count, expr_eq, total}
 use Rattle.terms.specs.Place.{Place, fits_place, weigh}
 use Rattle.terms.specs.Reading.{Reading, and_then, read}
-use Rattle.reconstruction.specs.Leasts.{AreLeast}
-use Rattle.reconstruction.specs.Fronts.{begins, same, reading, IsItem}
-use Rattle.reconstruction.specs.Search.{Queue, times_completed, fronts, IsSearch}
-use Rattle.reconstruction.specs.Popped.{HasCompletion, IsPopped}
+use Rattle.partial_terms.specs.Leasts.{AreLeast}
+use Rattle.partial_terms.specs.Fronts.{begins, same, reading, IsItem}
+use Rattle.partial_terms.specs.Search.{Queue, times_completed, fronts, IsSearch}
+use Rattle.partial_terms.specs.Popped.{HasCompletion, IsPopped}
 use Rattle.terms.proofs.Standing.{count-permutation, expr_eq-true}
 use Rattle.terms.proofs.Forests.{whole}
-use Rattle.reconstruction.proofs.Keys.{Reached, reached, OneTerm, one_read}
-use Rattle.reconstruction.proofs.Division.{begins-append, begins-shorter, read-append}
-use Rattle.reconstruction.proofs.Pops.{few_fronts, AllBegin, total-map}
+use Rattle.partial_terms.proofs.Keys.{Reached, reached, OneTerm, one_read}
+use Rattle.partial_terms.proofs.Division.{begins-append, begins-shorter, read-append}
+use Rattle.partial_terms.proofs.Pops.{few_fronts, AllBegin, total-map}
 
 -- no dead ends: each item has a completion of just its key
 pub completed : (g : Parts) (limit : ℕ) (Kept : Place → Type 0) (least : Place → ℕ) (root : Place) → AreLeast g limit Kept least → Kept root → (k : ℕ) (f : List ℕ) → IsItem g limit least root k f → (e : Expr) × (fits_place g root e ≡ true) × (weigh g root e ≡ k) × (begins f (prefix_code e) ≡ true)

@@ -7,11 +7,11 @@ use Rattle.terms.specs.declared.parts.Parts.{Parts}
 use Rattle.terms.specs.Count.{once_if}
 use Rattle.terms.specs.Place.{Place, fits_place, weigh}
 use Rattle.terms.specs.Reading.{read}
-use Rattle.reconstruction.specs.Leasts.{AreLeast}
-use Rattle.reconstruction.specs.Fronts.{reading, IsItem}
-use Rattle.reconstruction.specs.Search.{Queue, times_completed, fronts, IsSearch}
+use Rattle.partial_terms.specs.Leasts.{AreLeast}
+use Rattle.partial_terms.specs.Fronts.{reading, IsItem}
+use Rattle.partial_terms.specs.Search.{Queue, times_completed, fronts, IsSearch}
 use Rattle.terms.proofs.Forests.{whole}
-use Rattle.reconstruction.proofs.Levels.{none_held}
+use Rattle.partial_terms.proofs.Levels.{none_held}
 
 -- the whole search: the empty front alone
 pub first_search : (g : Parts) (limit : ℕ) (least : Place → ℕ) (root : Place) → least root ≤ limit → IsSearch g limit least root 0 ((least root, []) ∷ []) []

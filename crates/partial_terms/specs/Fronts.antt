@@ -3,7 +3,7 @@ use Rattle.std.specs.Prelude.{◌≡◌, ℕ, ◌≤◌, Bool, true, false, ◌&
 use Rattle.terms.specs.declared.parts.Parts.{Parts}
 use Rattle.terms.specs.Place.{Place}
 use Rattle.terms.specs.Reading.{Reading, read}
-use Rattle.reconstruction.specs.Leasts.{key}
+use Rattle.partial_terms.specs.Leasts.{key}
 use Rattle.terms.specs.Count.{once_if, count}
 
 -- the one list begins the other

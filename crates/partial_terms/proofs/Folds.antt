@@ -12,10 +12,10 @@ use Rattle.terms.specs.declared.parts.Arg.TheVariants.{Plain, Fun}
 use Rattle.terms.specs.declared.parts.Decl.{Decl}
 use Rattle.terms.specs.declared.parts.Parts.{Parts}
 use Rattle.terms.proofs.Halves.{number, number-symbol}
-use Rattle.reconstruction.specs.Fronts.{reading}
-use Rattle.reconstruction.specs.Leasts.{AreLeast, AllPlaces}
-use Rattle.reconstruction.specs.Built.{args_with, left_over, wanted_by, applied_by, applied, takes_by, takes, all_codes, IsEnded, IsRead, IsTermOf}
-use Rattle.reconstruction.proofs.Division.{read-append, read-kept}
+use Rattle.partial_terms.specs.Fronts.{reading}
+use Rattle.partial_terms.specs.Leasts.{AreLeast, AllPlaces}
+use Rattle.partial_terms.specs.Built.{args_with, left_over, wanted_by, applied_by, applied, takes_by, takes, all_codes, IsEnded, IsRead, IsTermOf}
+use Rattle.partial_terms.proofs.Division.{read-append, read-kept}
 
 -- the arguments of a head and what is left for the other places
 pub record ArgsTaken (g : Parts) (ctx : List (List ℕ)) (left : ℕ) (wanted : List Arg) (rest : List Place) (es : List Expr) : Type 0 where

@@ -1,7 +1,7 @@
 -- A table of links only grows.
 use Rattle.std.proofs.Common.{◌≡◌, ℕ, zero, suc, ◌+◌, ◌-◌, ◌<◌, List, [], ◌∷◌, ◌++◌, length, get_or, refl, sym, ap, ◌∙◌, arith, length-append}
-use Rattle.reconstruction.specs.Chained.{lists_from, lists_of, AreLinked, IsGrown}
-use Rattle.reconstruction.specs.declared.chains.Link.{Link}
+use Rattle.partial_terms.specs.Chained.{lists_from, lists_of, AreLinked, IsGrown}
+use Rattle.partial_terms.specs.declared.chains.Link.{Link}
 
 get_or-append : {T : Type 0} → (xs ys : List (List T)) (i : ℕ) → i < length xs → get_or (xs ++ ys) i [] ≡ get_or xs i []
 get_or-append [] ys i l = absurd (omega arith)

@@ -1,7 +1,7 @@
 // Lists that share their ends, kept in one growing table.
 
 ghost use Rattle.std.specs.Prelude.{◌≡◌, ◌<◌, [], ◌∷◌, length, get_or, IfOk, IfSome, IfNone};
-ghost use Rattle.reconstruction.specs.Chained.{IsGrown};
+ghost use Rattle.partial_terms.specs.Chained.{IsGrown};
 
 use std::alloc::{AllocError, Global};
 use std::marker::Model;
@@ -22,7 +22,7 @@ pub struct Chains<T> {
 
 impl<T> Model for Chains<T> {
     ghost use Rattle.std.specs.Prelude.{List};
-    ghost use Rattle.reconstruction.specs.Chained.{lists_of, AreLinked};
+    ghost use Rattle.partial_terms.specs.Chained.{lists_of, AreLinked};
 
     ghost Value = { List (List T) };
 

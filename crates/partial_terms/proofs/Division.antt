@@ -7,13 +7,13 @@ use Rattle.terms.specs.Code.{prefix_code}
 use Rattle.terms.specs.Count.{once_if, count}
 use Rattle.terms.specs.Place.{Place, fits_place, weigh}
 use Rattle.terms.specs.Reading.{Reading, turn, and_then, read}
-use Rattle.reconstruction.specs.Leasts.{AllPlaces, AreLeast, key}
-use Rattle.reconstruction.specs.Fronts.{begins, reading, key_within, IsGrowth}
+use Rattle.partial_terms.specs.Leasts.{AllPlaces, AreLeast, key}
+use Rattle.partial_terms.specs.Fronts.{begins, reading, key_within, IsGrowth}
 use Rattle.terms.proofs.Standing.{count-map}
 use Rattle.terms.proofs.Sums.{count-none}
 use Rattle.terms.proofs.Readings.{read-term}
 use Rattle.terms.proofs.Forests.{whole}
-use Rattle.reconstruction.proofs.Keys.{AllPlaces-append, key-low}
+use Rattle.partial_terms.proofs.Keys.{AllPlaces-append, key-low}
 
 -- what begins is followed by the rest
 pub record Rest (f c : List ℕ) : Type 0 where

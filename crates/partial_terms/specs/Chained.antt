@@ -1,6 +1,6 @@
 -- Lists that share their ends, as a table of links makes them.
 use Rattle.std.specs.Prelude.{◌≡◌, ℕ, ◌<◌, ◌≤◌, List, [], ◌∷◌, ◌++◌, length, get_or}
-use Rattle.reconstruction.specs.declared.chains.Link.{Link}
+use Rattle.partial_terms.specs.declared.chains.Link.{Link}
 
 -- the lists that are there, and then one for each link: its element before an earlier list
 unfoldable pub lists_from : {T : Type 0} → List (List T) → List (Link T) → List (List T)

@@ -12,14 +12,14 @@ use Rattle.terms.specs.Code.{prefix_code}
 use Rattle.terms.proofs.Standing.{expr_eq-refl, expr_eq-true, count-permutation}
 use Rattle.terms.specs.Count.{once_if, count, expr_eq, total}
 use Rattle.terms.specs.Reading.{Reading, and_then, read}
-use Rattle.reconstruction.specs.Leasts.{AreLeast, key}
-use Rattle.reconstruction.specs.Fronts.{begins, reading, IsItem, key_within, IsGrowth}
-use Rattle.reconstruction.specs.Search.{Queue, times_completed, fronts, key_of, children, IsSearch}
+use Rattle.partial_terms.specs.Leasts.{AreLeast, key}
+use Rattle.partial_terms.specs.Fronts.{begins, reading, IsItem, key_within, IsGrowth}
+use Rattle.partial_terms.specs.Search.{Queue, times_completed, fronts, key_of, children, IsSearch}
 use Rattle.terms.proofs.Standing.{count-append}
 use Rattle.terms.proofs.Forests.{whole}
-use Rattle.reconstruction.proofs.Keys.{read-end}
+use Rattle.partial_terms.proofs.Keys.{read-end}
 use Rattle.terms.proofs.Codes.{one_term}
-use Rattle.reconstruction.proofs.Division.{Rest, rest_of, begins-append, read-append, divides, key-below, code-whole}
+use Rattle.partial_terms.proofs.Division.{Rest, rest_of, begins-append, read-append, divides, key-below, code-whole}
 
 some_same : (a b : Reading) → Some a ≡ Some b → a ≡ b
 some_same a b h = cc

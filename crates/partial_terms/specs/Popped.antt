@@ -5,8 +5,8 @@ use Rattle.terms.specs.declared.parts.Parts.{Parts}
 use Rattle.terms.specs.Code.{prefix_code}
 use Rattle.terms.specs.Count.{count}
 use Rattle.terms.specs.Place.{Place, fits_place, weigh, IsInhabitant}
-use Rattle.reconstruction.specs.Fronts.{begins, same}
-use Rattle.reconstruction.specs.Search.{times_completed}
+use Rattle.partial_terms.specs.Fronts.{begins, same}
+use Rattle.partial_terms.specs.Search.{times_completed}
 
 -- some term of at most this weight completes the front
 pub record HasCompletion (g : Parts) (root : Place) (w : ℕ) (f : List ℕ) : Type 0 where

@@ -2,7 +2,7 @@
 use Rattle.std.proofs.Common.{◌≡◌, ℕ, ◌+◌, ◌≤◌, Bool, true, false, ◌&&◌, ◌==◌, List, [], ◌∷◌, length, map, cond, refl, sym, ap, ◌∙◌, arith}
 use Rattle.std.proofs.lemmas.Bool.{false≢true, eq-eqb, eqb-true, ne_eqb}
 use Rattle.terms.specs.Count.{once_if, count, total}
-use Rattle.reconstruction.specs.Fronts.{begins, same}
+use Rattle.partial_terms.specs.Fronts.{begins, same}
 
 -- each stands there at most once
 abbrev pub AreDistinct : List (List ℕ) → Type 0

@@ -5,8 +5,8 @@ use Rattle.terms.specs.declared.parts.Parts.{Parts}
 use Rattle.terms.specs.Code.{prefix_code}
 use Rattle.terms.specs.Place.{Place, fits_place, weigh}
 use Rattle.terms.specs.Reading.{Reading}
-use Rattle.reconstruction.specs.Leasts.{key}
-use Rattle.reconstruction.specs.Fronts.{begins, reading, IsItem}
+use Rattle.partial_terms.specs.Leasts.{key}
+use Rattle.partial_terms.specs.Fronts.{begins, reading, IsItem}
 use Rattle.terms.specs.Count.{once_if, count}
 
 -- keys with fronts

@@ -9,7 +9,7 @@ use Rattle.terms.specs.Place.{Place, HasRoom, fits_place, weigh}
 use Rattle.terms.specs.Reading.{Reading, read, fit_all, weigh_all}
 use Rattle.terms.proofs.Readings.{read-term}
 use Rattle.terms.proofs.Forests.{HaveRoom, whole, Filled, filled, codes}
-use Rattle.reconstruction.specs.Leasts.{AllPlaces, AreLeast}
+use Rattle.partial_terms.specs.Leasts.{AllPlaces, AreLeast}
 
 abbrev pub weight_of : Option Reading → ℕ
 weight_of None = 0

@@ -11,7 +11,7 @@ use Rattle.terms.specs.declared.parts.Arg.TheVariants.{Plain, Fun}
 use Rattle.terms.specs.declared.parts.Parts.{Parts}
 use Rattle.terms.specs.declared.term.Term.{Term}
 use Rattle.terms.specs.declared.term.TermArg.{TermArg}
-use Rattle.reconstruction.specs.Fronts.{reading}
+use Rattle.partial_terms.specs.Fronts.{reading}
 
 -- the terms of a stack, the one on top first
 abbrev pub stacked : List Term → List Expr
