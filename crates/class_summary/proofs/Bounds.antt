@@ -1,40 +1,60 @@
 -- Variables, their bounds and their scopes.
-use Rattle.std.proofs.Common.{◌≡◌, ◌∙◌, ap, sym, refl, arith, subst, ℕ, zero, suc, ◌+◌, ◌-◌, ◌<◌, ◌≤◌, false, List, [], ◌∷◌, length, take, drop, get_or, add-one, add-zero, add_assoc, bytes_eq, is_some, Option, Some, None, IfSome, Result, Ok, Err, IfOk}
-use Rattle.std.specs.Option.{option_copied}
+use Rattle.std.proofs.Common.{◌≡◌, ◌∙◌, ap, sym, refl, arith, subst, ℕ, zero, suc, ◌+◌, ◌-◌, ◌<◌, ◌≤◌, Bool, true, false, List, [], ◌∷◌, length, take, drop, get_or, add-one, add-zero, add_assoc, bytes_eq, if◌then◌else◌, is_some, Option, Some, None, Bor, IfSome, Result, Ok, Err, IfOk}
+use Rattle.std.specs.Option.{option_copied, option_map}
 use Rattle.std.proofs.lemmas.List.{drop_all, drop_more}
-use Rattle.std.proofs.lemmas.Bool.{false_from_ne_true}
-use Rattle.std.proofs.lemmas.Slice.Eq.{bytes_eq-Decides}
+use Rattle.std.proofs.lemmas.Option.{slice_get_read}
 use Rattle.java_units.specs.declared.types.TypeText.{TypeText}
 use Rattle.java_units.specs.declared.types.TypeVar.{TypeVar}
+use Rattle.known_classes.specs.NameTables.{Table}
+use Rattle.known_classes.proofs.TableLemmas.{swap}
 use Rattle.class_summary.specs.declared.variables.Ending.{Ending}
+use Rattle.class_summary.specs.VariableTables.{bound_at}
 use Rattle.class_summary.specs.Variables.{Scope, End, Found, bound_of, found_here, variable_in, variable_of, end_at, more_dims, by_bound, by_variable, through, variables, end_with}
-
-bound-hit : (name : List ℕ) (v : TypeVar) (vs : List TypeVar) → name ≡ v.name → bound_of name (v ∷ vs) ≡ Some v.bound
-unfolding bound_of
-bound-hit name v vs e = rw ((bytes_eq-Decides name v.name).1 e) refl
-
-bound-on : (name : List ℕ) (v : TypeVar) (vs : List TypeVar) → (name ≡ v.name → ⊥) → bound_of name (v ∷ vs) ≡ bound_of name vs
-unfolding bound_of
-bound-on name v vs e = rw (false_from_ne_true (bytes_eq name v.name) (λ h. e ((bytes_eq-Decides name v.name).0 h))) refl
 
 bound-nil : (name : List ℕ) → bound_of name [] ≡ None
 unfolding bound_of
 bound-nil name = refl
 
--- the variable at this place has another name
-pub bound_past : (name : List ℕ) (vs : List TypeVar) (i : ℕ) (x : TypeVar) → i < length vs → x ≡ get_or vs i x → (name ≡ x.name → ⊥) → bound_of name vs ≡ bound_of name (drop i vs) → bound_of name vs ≡ bound_of name (drop (i + 1) vs)
-bound_past name vs i x l at e h =
-    let d : drop i vs ≡ x ∷ drop (i + 1) vs = drop_more vs i x l ∙ ap (λ (y : TypeVar). y ∷ drop (i + 1) vs) (sym at) in
-    h ∙ (ap (bound_of name) d ∙ bound-on name x (drop (i + 1) vs) e)
+bound-cons : (name : List ℕ) (v : TypeVar) (vs : List TypeVar) → bound_of name (v ∷ vs) ≡ (if bytes_eq name v.name then Some v.bound else bound_of name vs)
+unfolding bound_of
+bound-cons name v vs = refl
 
--- it has this name
-pub bound_hit : (name : List ℕ) (vs : List TypeVar) (i : ℕ) (x : TypeVar) → i < length vs → x ≡ get_or vs i x → name ≡ x.name → bound_of name vs ≡ bound_of name (drop i vs) → Some x.bound ≡ bound_of name vs
-bound_hit name vs i x l at e h =
-    let d : drop i vs ≡ x ∷ drop (i + 1) vs = drop_more vs i x l ∙ ap (λ (y : TypeVar). y ∷ drop (i + 1) vs) (sym at) in
-    sym (h ∙ (ap (bound_of name) d ∙ bound-hit name x (drop (i + 1) vs) e))
+-- the table of the variables from this place on
+pub record GiveBoundsFrom (vars : List TypeVar) (left : ℕ) (table : Table) : Type 0 where
+  pub within : left ≤ length vars
+  pub each : (name : List ℕ) → bound_at vars (table name) ≡ bound_of name (drop left vars)
 
-pub bound_end : (name : List ℕ) (vs : List TypeVar) (i : ℕ) → length vs ≤ i → bound_of name vs ≡ bound_of name (drop i vs) → None ≡ bound_of name vs
-bound_end name vs i l h = sym (h ∙ (ap (bound_of name) (drop_all i vs l) ∙ bound-nil name))
+pub bounds_none : (vars : List TypeVar) (n : ℕ) (table : Table) → n ≡ length vars → ((name : List ℕ) → table name ≡ None) → GiveBoundsFrom vars n table
+bounds_none vars n table e h = record {
+  within = omega arith;
+  each = λ name. ap (bound_at vars) (h name) ∙ sym (ap (bound_of name) (drop_all n vars (omega arith)) ∙ bound-nil name);
+}
+
+bound-if : (vars : List TypeVar) (b : Bool) (k : ℕ) (o : Option ℕ) → bound_at vars (if b then Some k else o) ≡ (if b then bound_at vars (Some k) else bound_at vars o)
+bound-if vars true k o = refl
+bound-if vars false k o = refl
+
+pub bounds_on : (vars : List TypeVar) (left k : ℕ) (v : TypeVar) (text : List ℕ) (old new : Table) → k + 1 ≡ left → v ≡ get_or vars k v → text ≡ v.name → ((name : List ℕ) → new name ≡ (if bytes_eq text name then Some k else old name)) → GiveBoundsFrom vars left old → GiveBoundsFrom vars k new
+bounds_on vars left k v text old new e at t p h = record {
+  within = omega (arith, h.within);
+  each = λ name.
+      let l : k < length vars = omega (arith, h.within) in
+      let d : drop k vars ≡ v ∷ drop (k + 1) vars = drop_more vars k v l ∙ ap (λ (y : TypeVar). y ∷ drop (k + 1) vars) (sym at) in
+      let b : bytes_eq text name ≡ bytes_eq name v.name = swap text name ∙ ap (bytes_eq name) t in
+      let got : bound_at vars (Some k) ≡ Some v.bound = ap (option_map (λ (x : TypeVar). x.bound)) (slice_get_read vars (length vars) k v refl l at) in
+      let more : bound_at vars (old name) ≡ bound_of name (drop (k + 1) vars) = h.each name ∙ ap (λ (j : ℕ). bound_of name (drop j vars)) (sym e) in
+      ap (bound_at vars) (p name) ∙ (bound-if vars (bytes_eq text name) k (old name) ∙ (ap (λ (y : Bool). if y then bound_at vars (Some k) else bound_at vars (old name)) b ∙ (ap (λ (q : Option (Option TypeText)). if bytes_eq name v.name then q else bound_at vars (old name)) got ∙ (ap (λ (q : Option (Option TypeText)). if bytes_eq name v.name then Some v.bound else q) more ∙ sym (ap (bound_of name) d ∙ bound-cons name v (drop (k + 1) vars))))));
+}
+
+pub bounds_end : (vars : List TypeVar) (left : ℕ) (table : Table) → left ≤ 0 → GiveBoundsFrom vars left table → (name : List ℕ) → bound_at vars (table name) ≡ bound_of name vars
+bounds_end vars left table l h name =
+    let z : left ≡ 0 = omega arith in
+    h.each name ∙ ap (λ (k : ℕ). bound_of name (drop k vars)) z
+
+-- the bound of a variable that is handed out
+pub bound_copied : (found : Option (Bor TypeVar)) → option_map (λ (v : Bor TypeVar). v.now.bound) found ≡ option_map (λ (v : TypeVar). v.bound) (option_copied found)
+bound_copied None = refl
+bound_copied (Some v) = refl
 
 variable-cons : (name : List ℕ) (s : Scope) (ss : List Scope) → variable_in name (s ∷ ss) ≡ found_here s ss (bound_of name s.vars) (variable_in name ss)
 unfolding variable_in

@@ -11,6 +11,7 @@ mod rules;
 mod shape;
 mod source;
 mod unit_names;
+mod variable_names;
 mod variables;
 
 pub use known_classes::{

@@ -179,7 +179,7 @@ pub fn resolve_at<C: Classes>(
     requires dims { name.now.dims + dims_of_bounds unit.now.classes < 2 ^ 64 }
     ensures { IfOk result (λ kind. kind ≡ denoted_type unit.now class method name.now (C.listed known.now)) }
 {
-    let scopes = scopes_at(alloc, unit.classes(), class, method)?;
+    let scopes = scopes_at(alloc, unit, class, method)?;
     let end = end_of(scopes.as_slice(), class, name)?;
     let base = base_of(alloc, unit, end.class, known, end.parts)?;
     Ok(Erased {

@@ -1,4 +1,5 @@
 ghost use Rattle.std.specs.Prelude.{◌≡◌, ◌&&◌, ◌==◌, if◌then◌else◌, ℕ, List, Option, Some, None, length, map, slice_get, bytes_eq, IfOk, OnOk};
+ghost use Rattle.std.specs.Option.{option_copied};
 ghost use Rattle.std.specs.BTreeMap.{get_by_text};
 ghost use Rattle.class_summary.specs.Sources.{name_at, internal_name, canonical_name};
 ghost use Rattle.class_summary.specs.Names.{own_by_canonical, member_named, enclosing};
@@ -7,6 +8,7 @@ ghost use Rattle.known_classes.specs.NameTables.{Table};
 
 use crate::paths::{canonical_name, internal_name};
 use crate::rules::is_member;
+use crate::variable_names::ClassVariables;
 use java_units::{Import, SourceClass, Unit};
 use known_classes::{put, put_at};
 use lists::{Copies, Items, Text};
@@ -25,6 +27,8 @@ pub struct UnitNames<'a> {
     top: BTreeMap<String, usize>,
     /// For each class its members by their names.
     members: Vec<BTreeMap<String, usize>>,
+    /// For each class its type variables and those of its methods.
+    variables: Vec<ClassVariables<'a>>,
 }
 
 impl<'a> Model for UnitNames<'a> {
@@ -37,7 +41,7 @@ impl<'a> Model for UnitNames<'a> {
 
     ghost view = { λ n. n.unit.now };
 
-    ghost invariant = { λ n. (n.internal ≡ numbered (internal_name n.unit.now) 0 (length n.unit.now.classes)) × GivesCalled n.unit.now (get_by_text n.called) × GivesTop n.unit.now.classes (get_by_text n.top) × GiveMembers n.unit.now.classes (map get_by_text n.members.items) };
+    ghost invariant = { λ n. (n.internal ≡ numbered (internal_name n.unit.now) 0 (length n.unit.now.classes)) × GivesCalled n.unit.now (get_by_text n.called) × GivesTop n.unit.now.classes (get_by_text n.top) × GiveMembers n.unit.now.classes (map get_by_text n.members.items) × (n.variables.items ≡ n.unit.now.classes) };
 }
 
 /// The internal names of the classes of a text.
@@ -119,6 +123,20 @@ fn members_in(
     Ok(members)
 }
 
+/// The type variables of each class and of its methods.
+fn variables_in<'a>(
+    alloc: Global,
+    classes: &'a [SourceClass],
+) -> Result<Vec<ClassVariables<'a>>, AllocError>
+    ensures { IfOk result (λ variables. variables.items ≡ classes.now) }
+{
+    let mut variables = Vec::new(alloc);
+    for i in 0..classes.len() {
+        variables.push(ClassVariables::new(alloc, &classes[i])?)?;
+    }
+    Ok(variables)
+}
+
 /// The first class of the text that has this name and stands directly in that class, or in none.
 fn member_named(classes: &[SourceClass], outer: Option<usize>, name: &Text) -> Option<usize>
     ensures { result ≡ member_named outer name.now classes.now }
@@ -142,6 +160,7 @@ impl<'a> UnitNames<'a> {
             called: called_in(alloc, unit)?,
             top: top_in(alloc, unit.classes.as_slice())?,
             members: members_in(alloc, unit.classes.as_slice())?,
+            variables: variables_in(alloc, unit.classes.as_slice())?,
         })
     }
 
@@ -171,6 +190,13 @@ impl<'a> UnitNames<'a> {
         ensures { result.now ≡ self.now.package }
     {
         &self.unit.package
+    }
+
+    /// The type variables of the class of this number, and those of its methods.
+    pub fn variables(&self, class: usize) -> Option<&ClassVariables<'a>>
+        ensures { option_copied result ≡ slice_get self.now.classes class }
+    {
+        self.variables.get(class)
     }
 
     /// The internal name of the class number i.

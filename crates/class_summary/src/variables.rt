@@ -3,8 +3,10 @@ ghost use Rattle.std.specs.Option.{option_copied, option_map};
 ghost use Rattle.class_summary.specs.Variables.{Scope, bound_of, variable_in, variable_of, variables, end_at, end_of, class_scope, method_scope, scopes_at};
 
 use crate::paths::around;
-use java_units::{SourceClass, TypeText, TypeVar};
-use lists::{Text, at};
+use crate::unit_names::UnitNames;
+use crate::variable_names::VariableNames;
+use java_units::{TypeText, TypeVar};
+use lists::Text;
 use std::alloc::{AllocError, Global};
 use std::marker::Model;
 
@@ -12,15 +14,17 @@ use std::marker::Model;
 #[derive(Drop)]
 pub struct Declared<'a> {
     class: usize,
-    vars: &'a [TypeVar],
+    names: Option<&'a VariableNames<'a>>,
 }
 
 impl<'a> Model for Declared<'a> {
+    ghost use Rattle.std.specs.Prelude.{[], unwrap_or};
+    ghost use Rattle.std.specs.Option.{option_copied};
     ghost use Rattle.class_summary.specs.Variables.{Scope};
 
     ghost Value = { Scope };
 
-    ghost view = { λ d. record { class = d.class; vars = d.vars.now } };
+    ghost view = { λ d. record { class = d.class; vars = unwrap_or (option_copied d.names) [] } };
 }
 
 impl<'a> Declared<'a> {
@@ -30,10 +34,25 @@ impl<'a> Declared<'a> {
         self.class
     }
 
-    fn vars(&self) -> &'a [TypeVar]
-        ensures { result.now ≡ self.now.vars }
+    /// How many variables it declares.
+    fn count(&self) -> usize
+        ensures { result ≡ length self.now.vars }
     {
-        self.vars
+        match self.names {
+            Some(names) => names.count(),
+            None => 0,
+        }
+    }
+
+    /// The first variable with this name.
+    #[tactic(auto, unfolding(crate::specs::Variables::bound_of))]
+    fn named(&self, name: &Text) -> Option<&'a TypeVar>
+        ensures { option_map (λ v. v.now.bound) result ≡ bound_of name.now self.now.vars }
+    {
+        match self.names {
+            Some(names) => names.named(name),
+            None => None,
+        }
     }
 }
 
@@ -54,26 +73,13 @@ struct Met<'a> {
     bound: Option<&'a TypeText>,
 }
 
-/// The first variable with this name.
-fn variable_named<'a>(vars: &'a [TypeVar], name: &Text) -> Option<&'a TypeVar>
-    ensures { option_map (λ v. v.now.bound) result ≡ bound_of name.now vars.now }
-{
-    for i in 0..vars.len() {
-        let var = &vars[i];
-        if name.same(&var.name) {
-            return Some(var);
-        }
-    }
-    None
-}
-
 /// The variable with this name in the first scope from a place on that declares one.
 fn variable_in<'a>(scopes: &[Declared<'a>], from: usize, name: &Text) -> Option<Met<'a>>
     ensures { MatchOption result (variable_in name.now (drop from scopes.now) ≡ None) (λ m. variable_in name.now (drop from scopes.now) ≡ Some (record { bound = option_copied m.bound; class = m.class; scopes = drop m.level scopes.now })) }
 {
     for i in from..scopes.len() {
         let scope = &scopes[i];
-        let Some(var) = variable_named(scope.vars(), name) else {
+        let Some(var) = scope.named(name) else {
             continue;
         };
         return Some(Met {
@@ -102,7 +108,7 @@ fn most_steps(scopes: &[Declared<'_>]) -> Option<usize>
 {
     let mut count = 1usize;
     for i in 0..scopes.len() {
-        count = count.checked_add(scopes[i].vars().len())?;
+        count = count.checked_add(scopes[i].count())?;
     }
     Some(count)
 }
@@ -160,44 +166,37 @@ pub fn end_of<'a>(
 }
 
 /// The variables that the class number i declares.
-fn class_scope(classes: &[SourceClass], class: usize) -> Declared<'_>
-    ensures { result ≡ class_scope classes.now class }
+fn class_scope<'a>(unit: &'a UnitNames<'a>, class: usize) -> Declared<'a>
+    ensures { result ≡ class_scope unit.now.classes class }
 {
-    match at(classes, class) {
-        Some(declared) => Declared {
-            class,
-            vars: declared.vars.as_slice(),
-        },
-        None => Declared { class, vars: &[] },
-    }
+    let names = match unit.variables(class) {
+        Some(declared) => Some(declared.own()),
+        None => None,
+    };
+    Declared { class, names }
 }
 
 /// The variables that a method of the class number i declares.
-fn method_scope(classes: &[SourceClass], class: usize, method: usize) -> Declared<'_>
-    ensures { result ≡ method_scope classes.now class method }
+fn method_scope<'a>(unit: &'a UnitNames<'a>, class: usize, method: usize) -> Declared<'a>
+    ensures { result ≡ method_scope unit.now.classes class method }
 {
-    let Some(declared) = at(classes, class) else {
-        return Declared { class, vars: &[] };
+    let names = match unit.variables(class) {
+        Some(declared) => declared.method(method),
+        None => None,
     };
-    match at(declared.methods.as_slice(), method) {
-        Some(method) => Declared {
-            class,
-            vars: method.vars.as_slice(),
-        },
-        None => Declared { class, vars: &[] },
-    }
+    Declared { class, names }
 }
 
 /// These scopes, and then those of these classes.
 fn with_classes<'a>(
     mut scopes: Vec<Declared<'a>>,
-    classes: &'a [SourceClass],
+    unit: &'a UnitNames<'a>,
     numbers: &[usize],
 ) -> Result<Vec<Declared<'a>>, AllocError>
-    ensures { IfOk result (λ all. all.items ≡ scopes.entry.items ++ map (class_scope classes.now) numbers.now) }
+    ensures { IfOk result (λ all. all.items ≡ scopes.entry.items ++ map (class_scope unit.now.classes) numbers.now) }
 {
     for i in 0..numbers.len() {
-        scopes.push(class_scope(classes, numbers[i]))?;
+        scopes.push(class_scope(unit, numbers[i]))?;
     }
     Ok(scopes)
 }
@@ -205,17 +204,17 @@ fn with_classes<'a>(
 /// The scopes at a class, or at a method of it, from the innermost outwards.
 pub fn scopes_at<'a>(
     alloc: Global,
-    classes: &'a [SourceClass],
+    unit: &'a UnitNames<'a>,
     class: usize,
     method: Option<usize>,
 ) -> Result<Vec<Declared<'a>>, AllocError>
-    ensures { IfOk result (λ scopes. scopes.items ≡ scopes_at classes.now class method) }
+    ensures { IfOk result (λ scopes. scopes.items ≡ scopes_at unit.now.classes class method) }
 {
-    let numbers = around(alloc, classes, class)?;
+    let numbers = around(alloc, unit.classes(), class)?;
     let mut first = Vec::new(alloc);
     let Some(method) = method else {
-        return with_classes(first, classes, numbers.as_slice());
+        return with_classes(first, unit, numbers.as_slice());
     };
-    first.push(method_scope(classes, class, method))?;
-    with_classes(first, classes, numbers.as_slice())
+    first.push(method_scope(unit, class, method))?;
+    with_classes(first, unit, numbers.as_slice())
 }

@@ -6,12 +6,12 @@ use Rattle.class_summary.proofs.variables.variable_in.Goals as goal
 
 pub loop-i-preserved : goal.loop-i-preserved
 loop-i-preserved c =
-    let none : bound_of c.args.name.now c.index-scopes-i.result.vars ≡ None = ap (bound_of c.args.name.now) (sym c.vars.ensures) ∙ (sym c.variable_named.ensures ∙ ap (option_map (λ v. v.now.bound)) c.in_default.is) in
+    let none : bound_of c.args.name.now c.index-scopes-i.result.vars ≡ None = sym c.named.ensures ∙ ap (option_map (λ v. v.now.bound)) c.in_default.is in
     scope_past c.args.name.now (variable_in c.args.name.now (drop c.args.from c.args.scopes.now)) c.args.scopes.now c.loop-i.i c.index-scopes-i.result (search rules) c.index-scopes-i.is none c.loop-i.invariant
 
 pub returns-in-loop-i : goal.returns-in-loop-i
 returns-in-loop-i c =
-    let some : bound_of c.args.name.now c.index-scopes-i.result.vars ≡ Some c.in-Some.var.now.bound = ap (bound_of c.args.name.now) (sym c.vars.ensures) ∙ (sym c.variable_named.ensures ∙ ap (option_map (λ v. v.now.bound)) c.in-Some.is) in
+    let some : bound_of c.args.name.now c.index-scopes-i.result.vars ≡ Some c.in-Some.var.now.bound = sym c.named.ensures ∙ ap (option_map (λ v. v.now.bound)) c.in-Some.is in
     let b : option_copied c.as_ref.result ≡ c.in-Some.var.now.bound = search rules in
     let f = scope_hit c.args.name.now (variable_in c.args.name.now (drop c.args.from c.args.scopes.now)) c.args.scopes.now c.loop-i.i c.index-scopes-i.result c.in-Some.var.now.bound (search rules) c.index-scopes-i.is some c.loop-i.invariant in
     cc (f, b, c.class.ensures)
