@@ -1,5 +1,6 @@
 pub mod Bounds
 pub mod Greatest
+pub mod Imports
 pub mod Rows
 pub mod Searches
 pub mod Sources

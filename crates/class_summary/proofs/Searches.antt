@@ -8,7 +8,7 @@ use Rattle.java_units.specs.declared.types.Unit as unit
 use Rattle.known_classes.specs.declared.summary.ClassSummary.{ClassSummary}
 use Rattle.class_summary.specs.declared.rules.Denoted.{Denoted}
 use Rattle.class_summary.specs.Sources.{name_at}
-use Rattle.class_summary.specs.Names.{is_member, member_from, member_named, enclosing, ends_with, imported, below_star, starred}
+use Rattle.class_summary.specs.Names.{is_member, member_from, member_named, enclosing, below_star, starred}
 
 member-hit : (i : ℕ) (o : Option ℕ) (name : List ℕ) (c : SourceClass) (cs : List SourceClass) → is_member o name c ≡ true → member_from i o name (c ∷ cs) ≡ Some i
 unfolding member_from
@@ -54,27 +54,6 @@ enclosing_on cs name ns k l e m h = h ∙ (ap (enclosing cs name) (drop_more ns 
 
 pub enclosing_end : (cs : List SourceClass) (name : List ℕ) (ns : List ℕ) (k : ℕ) → length ns ≤ k → enclosing cs name ns ≡ enclosing cs name (drop k ns) → None ≡ enclosing cs name ns
 enclosing_end cs name ns k l h = sym (h ∙ (ap (enclosing cs name) (drop_all k ns l) ∙ enclosing-none cs name))
-
-import-hit : (name : List ℕ) (m : Import) (ms : List Import) → ends_with name m ≡ true → imported name (m ∷ ms) ≡ Some m
-unfolding imported
-import-hit name m ms e = rw e refl
-
-import-on : (name : List ℕ) (m : Import) (ms : List Import) → ends_with name m ≡ false → imported name (m ∷ ms) ≡ imported name ms
-unfolding imported
-import-on name m ms e = rw e refl
-
-import-none : (name : List ℕ) → imported name [] ≡ None
-unfolding imported
-import-none name = refl
-
-pub import_hit : (name : List ℕ) (ms : List Import) (i : ℕ) (d : Import) → i < length ms → ends_with name (get_or ms i d) ≡ true → imported name ms ≡ imported name (drop i ms) → Some (get_or ms i d) ≡ imported name ms
-import_hit name ms i d l e h = sym (h ∙ (ap (imported name) (drop_more ms i d l) ∙ import-hit name (get_or ms i d) (drop (i + 1) ms) e))
-
-pub import_on : (name : List ℕ) (ms : List Import) (i : ℕ) (d : Import) → i < length ms → ends_with name (get_or ms i d) ≡ false → imported name ms ≡ imported name (drop i ms) → imported name ms ≡ imported name (drop (i + 1) ms)
-import_on name ms i d l e h = h ∙ (ap (imported name) (drop_more ms i d l) ∙ import-on name (get_or ms i d) (drop (i + 1) ms) e)
-
-pub import_end : (name : List ℕ) (ms : List Import) (i : ℕ) → length ms ≤ i → imported name ms ≡ imported name (drop i ms) → None ≡ imported name ms
-import_end name ms i l h = sym (h ∙ (ap (imported name) (drop_all i ms l) ∙ import-none name))
 
 star-cons : (u : unit.Unit) (known : List ClassSummary) (name : List ℕ) (m : Import) (ms : List Import) → starred u known name (m ∷ ms) ≡ option_or (below_star u known name m) (starred u known name ms)
 unfolding starred

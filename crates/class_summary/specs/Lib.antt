@@ -4,5 +4,6 @@ pub mod Sources
 pub mod Variables
 pub mod VariableTables
 pub mod Names
+pub mod ImportTables
 pub mod SourceSummaries
 pub mod UnitTables

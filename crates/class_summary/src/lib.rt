@@ -9,6 +9,7 @@ mod paths;
 mod resolver;
 mod rules;
 mod shape;
+mod single_imports;
 mod source;
 mod unit_names;
 mod variable_names;

@@ -1,8 +1,7 @@
 ghost use Rattle.std.specs.Prelude.{◌≡◌, ◌<◌, ◌∷◌, ◌++◌, [], length, Some, IfOk, IfSome, bytes_eq};
-ghost use Rattle.std.specs.Option.{option_copied};
 ghost use Rattle.known_classes.specs.Known.{IsPlaceOf};
 ghost use Rattle.class_summary.specs.Sources.{joined, name_at};
-ghost use Rattle.class_summary.specs.Names.{internal_of, class_with, same_number, is_member, enclosing, own_class, ends_with, imported, spelled, known_as, nested_below, below, below_star, starred, of_java_lang, named_class, simple_class};
+ghost use Rattle.class_summary.specs.Names.{internal_of, class_with, same_number, is_member, enclosing, own_class, spelled, known_as, nested_below, below, below_star, starred, of_java_lang, named_class, simple_class};
 
 use crate::paths::{around, joined};
 use crate::unit_names::UnitNames;
@@ -116,32 +115,6 @@ fn own_class(
         return Ok(Some(i));
     }
     Ok(unit.member(None, name))
-}
-
-/// Whether an import without star ends with this name.
-fn ends_with(import: &Import, name: &Text) -> bool
-    ensures { result ≡ ends_with name.now import.now }
-{
-    if import.star {
-        return false;
-    }
-    match import.parts.as_slice().last() {
-        Some(last) => same(last, name),
-        None => false,
-    }
-}
-
-/// The first import without star that ends with this name.
-fn imported<'a>(imports: &'a [Import], name: &Text) -> Option<&'a Import>
-    ensures { option_copied result ≡ imported name.now imports.now }
-{
-    for i in 0..imports.len() {
-        let import = &imports[i];
-        if ends_with(import, name) {
-            return Some(import);
-        }
-    }
-    None
 }
 
 /// The class with these parts as its canonical name, else the parts joined by `/`.
@@ -286,7 +259,7 @@ fn named_class<C: Classes>(
 ) -> Result<Option<Denoted>, AllocError>
     ensures { IfOk result (λ found. found ≡ named_class unit.now (C.listed known.now) name.now) }
 {
-    if let Some(import) = imported(unit.imports(), name) {
+    if let Some(import) = unit.imported(name) {
         return Ok(Some(spelled(alloc, unit, known, import.parts.as_slice())?));
     }
     let inside = joined_with(alloc, "/", unit.package(), name)?;

@@ -2,16 +2,17 @@ ghost use Rattle.std.specs.Prelude.{◌≡◌, ◌&&◌, ◌==◌, if◌then◌e
 ghost use Rattle.std.specs.Option.{option_copied};
 ghost use Rattle.std.specs.BTreeMap.{get_by_text};
 ghost use Rattle.class_summary.specs.Sources.{name_at, internal_name, canonical_name};
-ghost use Rattle.class_summary.specs.Names.{own_by_canonical, member_named, enclosing};
+ghost use Rattle.class_summary.specs.Names.{own_by_canonical, member_named, imported, enclosing};
 ghost use Rattle.class_summary.specs.UnitTables.{numbered, GivesCalled, GivesTop, GiveMembers};
 ghost use Rattle.known_classes.specs.NameTables.{Table};
 
 use crate::paths::{canonical_name, internal_name};
 use crate::rules::is_member;
+use crate::single_imports::singles_in;
 use crate::variable_names::ClassVariables;
 use java_units::{Import, SourceClass, Unit};
 use known_classes::{put, put_at};
-use lists::{Copies, Items, Text};
+use lists::{Copies, Items, Text, at};
 use std::alloc::{AllocError, Global};
 use std::collections::BTreeMap;
 use std::marker::Model;
@@ -29,19 +30,22 @@ pub struct UnitNames<'a> {
     members: Vec<BTreeMap<String, usize>>,
     /// For each class its type variables and those of its methods.
     variables: Vec<ClassVariables<'a>>,
+    /// The places of the imports without star by their last names, of several the first.
+    single: BTreeMap<String, usize>,
 }
 
 impl<'a> Model for UnitNames<'a> {
     ghost use Rattle.std.specs.Prelude.{◌≡◌, length, map};
     ghost use Rattle.std.specs.BTreeMap.{get_by_text};
     ghost use Rattle.class_summary.specs.Sources.{internal_name};
+    ghost use Rattle.class_summary.specs.ImportTables.{GivesImported};
     ghost use Rattle.class_summary.specs.UnitTables.{SourceUnit, numbered, GivesCalled, GivesTop, GiveMembers};
 
     ghost Value = { SourceUnit };
 
     ghost view = { λ n. n.unit.now };
 
-    ghost invariant = { λ n. (n.internal ≡ numbered (internal_name n.unit.now) 0 (length n.unit.now.classes)) × GivesCalled n.unit.now (get_by_text n.called) × GivesTop n.unit.now.classes (get_by_text n.top) × GiveMembers n.unit.now.classes (map get_by_text n.members.items) × (n.variables.items ≡ n.unit.now.classes) };
+    ghost invariant = { λ n. (n.internal ≡ numbered (internal_name n.unit.now) 0 (length n.unit.now.classes)) × GivesCalled n.unit.now (get_by_text n.called) × GivesTop n.unit.now.classes (get_by_text n.top) × GiveMembers n.unit.now.classes (map get_by_text n.members.items) × (n.variables.items ≡ n.unit.now.classes) × GivesImported n.unit.now.imports (get_by_text n.single) };
 }
 
 /// The internal names of the classes of a text.
@@ -161,6 +165,7 @@ impl<'a> UnitNames<'a> {
             top: top_in(alloc, unit.classes.as_slice())?,
             members: members_in(alloc, unit.classes.as_slice())?,
             variables: variables_in(alloc, unit.classes.as_slice())?,
+            single: singles_in(alloc, unit.imports.as_slice())?,
         })
     }
 
@@ -183,6 +188,16 @@ impl<'a> UnitNames<'a> {
         ensures { result.now ≡ self.now.imports }
     {
         self.unit.imports.as_slice()
+    }
+
+    /// The first import without star that ends with this name.
+    pub fn imported(&self, name: &Text) -> Option<&'a Import>
+        ensures { option_copied result ≡ imported name.now self.now.imports }
+    {
+        let Some(place) = self.single.get(name.as_str()).copied() else {
+            return None;
+        };
+        at(self.unit.imports.as_slice(), place)
     }
 
     /// The parts of the package.
