@@ -24,3 +24,6 @@ pub use nested::same;
 pub use summary::{ClassSummary, FieldSummary, MethodSummary, Nesting, copy_text};
 pub use tables::{put, put_at};
 pub use texts::{canonical_named, tables_of};
+
+#[cfg(test)]
+mod tests;

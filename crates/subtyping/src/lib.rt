@@ -11,3 +11,6 @@ mod widening;
 
 pub use merges::merges_of_supers;
 pub use subtypes::Subtypes;
+
+#[cfg(test)]
+mod tests;
