@@ -8,7 +8,7 @@ use Rattle.class_pool.specs.declared.fault.ClassCause.{ClassCause}
 use Rattle.class_pool.specs.declared.fault.ClassCause.TheVariants.{Magic, Version, OutOfMemory}
 use Rattle.class_pool.specs.Causes.{IsPoolCause}
 use Rattle.class_pool.specs.Spelling.{tag_size, is_wide, takes_two, Head, magic}
-use Rattle.class_pool.specs.Reading.{◌>>=◌, Gives, no_memory, cut, bad_tag, need, number_at, block_at, text_at, fixed_at, entry_at, entries_at, front_at, head_at, head_read}
+use Rattle.class_pool.specs.Reading.{◌>>=◌, Gives, no_memory, cut, bad_tag, need, number_at, block_at, text_at, fixed_at, entry_at, entries_at, header_at, head_at, head_read}
 
 -- ---- the faults of a reading, by its steps
 module _ (P : ClassFault → Type 0) where
@@ -58,9 +58,9 @@ entries_causes total true (suc left) bytes = entries_causes total false left byt
 entries_causes total false (suc left) bytes =
     bind_causes OfPool (entry_at total left bytes) _ (entry_causes total left bytes) (λ e. bind_causes OfPool (entries_at total (takes_two e.0) left e.1) _ (entries_causes total (takes_two e.0) left e.1) (λ es. tt))
 
-front_causes : (total : ℕ) (bytes : List ℕ) → IfErr (front_at total bytes) OfPool
-unfolding front_at
-front_causes total bytes =
+header_causes : (total : ℕ) (bytes : List ℕ) → IfErr (header_at total bytes) OfPool
+unfolding header_at
+header_causes total bytes =
     bind_causes OfPool (number_at total 4 bytes) _ (number_causes OfPool total 4 bytes tt) (λ sign.
     bind_causes OfPool (need (eqb sign.0 magic) (record { at = 0; cause = Magic })) _ (need_causes OfPool (eqb sign.0 magic) _ tt) (λ right.
     bind_causes OfPool (number_at total 2 sign.1) _ (number_causes OfPool total 2 sign.1 tt) (λ minor.
@@ -71,7 +71,7 @@ front_causes total bytes =
 pub head_causes : (total : ℕ) (bytes : List ℕ) → IfErr (head_at total bytes) OfPool
 unfolding head_at
 head_causes total bytes =
-    bind_causes OfPool (front_at total bytes) _ (front_causes total bytes) (λ f.
+    bind_causes OfPool (header_at total bytes) _ (header_causes total bytes) (λ f.
     bind_causes OfPool (entries_at total false (f.0.count - 1) f.1) _ (entries_causes total false (f.0.count - 1) f.1) (λ es. tt))
 
 read_causes : (r : Result (Head × List ℕ) ClassFault) → IfErr r OfPool → IfErr (head_read r) OfPool

@@ -115,8 +115,8 @@ number_takes total n limit wide bytes x rest fits e =
     let long : n ≤ length bytes = ltb-false _ _ g.0 in
     let x-is : big_number n bytes ≡ x = ap (λ (p : ℕ × List ℕ). p.0) g.1 in
     let rest-is : drop n bytes ≡ rest = ap (λ (p : ℕ × List ℕ). p.1) g.1 in
-    let front : big_bytes n x ≡ take n bytes = rw (← x-is) (wide.back bytes long fits) in
-    (record { parts = rw (front, ← rest-is) (sym (take-append-drop n bytes)); rest_fits = rw (← rest-is) (IsBytes-drop n bytes fits) }, rw (← x-is) (wide.below bytes fits))
+    let prefix : big_bytes n x ≡ take n bytes = rw (← x-is) (wide.back bytes long fits) in
+    (record { parts = rw (prefix, ← rest-is) (sym (take-append-drop n bytes)); rest_fits = rw (← rest-is) (IsBytes-drop n bytes fits) }, rw (← x-is) (wide.below bytes fits))
 
 number_again : (total n limit : ℕ) → IsWide n limit → (x : ℕ) (rest : List ℕ) → x < limit → number_at total n (big_bytes n x ++ rest) ≡ Ok (x, rest)
 number_again total n limit wide x rest lt =

@@ -2,10 +2,10 @@
 use Rattle.std.proofs.Common.{◌≡◌, ◌≢◌, ℕ, zero, suc, ◌+◌, ◌-◌, ◌≤◌, Bool, true, false, List, [], ◌∷◌, ◌++◌, length, Result, Ok, Err, refl, sym, ap, subst, ◌∙◌, append_assoc, arith, inl, inr, ◌⊎◌}
 use Rattle.std.proofs.lemmas.List.Concat.{flat_map-cons}
 use Rattle.class_pool.specs.declared.fault.ClassFault.{ClassFault}
-use Rattle.class_pool.specs.Spelling.{Entry, takes_two, width, entry, entries, places, Front, front, IsFront, Head}
+use Rattle.class_pool.specs.Spelling.{Entry, takes_two, width, entry, entries, places, FileHeader, header_bytes, IsFileHeader, Head}
 use Rattle.class_pool.specs.Faults.{Room, gap, Stops}
-use Rattle.class_pool.specs.Reading.{IsBytes, ◌>>=◌, entry_at, entries_at, Gives, front_at, head_at, head_read}
-use Rattle.class_pool.proofs.Heads.{front_takes, front_again}
+use Rattle.class_pool.specs.Reading.{IsBytes, ◌>>=◌, entry_at, entries_at, Gives, header_at, head_at, head_read}
+use Rattle.class_pool.proofs.Heads.{header_takes, header_again}
 use Rattle.class_pool.specs.declared.fault.ClassCause.TheVariants.{OutOfMemory}
 use Rattle.std.specs.Prelude.{IfErr}
 use Rattle.class_pool.proofs.Entries.{gap_fits, width-gap, entry_takes, entry_again}
@@ -81,24 +81,24 @@ read_err : (r : Result (Head × List ℕ) ClassFault) (d : ClassFault) → head_
 read_err (Ok x) d e = absurd cc
 read_err (Err b) d e = cc
 
-after_front : (bytes : List ℕ) (f : Front) (rest : List ℕ) (d : ClassFault) → front_at (length bytes) bytes ≡ Ok (f, rest) → head_at (length bytes) bytes ≡ failed {A = Head × List ℕ} d → entries_at (length bytes) false (f.count - 1) rest ≡ failed {A = List Entry × List ℕ} d
+after_header : (bytes : List ℕ) (f : FileHeader) (rest : List ℕ) (d : ClassFault) → header_at (length bytes) bytes ≡ Ok (f, rest) → head_at (length bytes) bytes ≡ failed {A = Head × List ℕ} d → entries_at (length bytes) false (f.count - 1) rest ≡ failed {A = List Entry × List ℕ} d
 unfolding head_at
-after_front bytes f rest d first e =
+after_header bytes f rest d first e =
     elim (bind_err (entries_at (length bytes) false (f.count - 1) rest) _ d (rw first at e)) [
       | inl h ↦ h
-      | inr h ↦ absurd (differ (record { front = f; entries = h.0.0 }, h.0.1) d h.2)
+      | inr h ↦ absurd (differ (record { header = f; entries = h.0.0 }, h.0.1) d h.2)
     ]
 
-before_front : (bytes : List ℕ) (d : ClassFault) → front_at (length bytes) bytes ≡ failed {A = Front × List ℕ} d → head_at (length bytes) bytes ≡ failed {A = Head × List ℕ} d
+before_header : (bytes : List ℕ) (d : ClassFault) → header_at (length bytes) bytes ≡ failed {A = FileHeader × List ℕ} d → head_at (length bytes) bytes ≡ failed {A = Head × List ℕ} d
 unfolding head_at
-before_front bytes d e = rw e refl
+before_header bytes d e = rw e refl
 
-pub entry_fault : {P : Type 0} (view : P → Head) (bytes : List ℕ) (r : Result P ClassFault) (f : Front) (rest : List ℕ) → IsBytes bytes → Gives view r (head_read (head_at (length bytes) bytes)) → IsFront f → bytes ≡ front f ++ rest → IfErr r (λ e. e.cause ≢ OutOfMemory → Stops (length bytes) false (f.count - 1) rest e)
+pub entry_fault : {P : Type 0} (view : P → Head) (bytes : List ℕ) (r : Result P ClassFault) (f : FileHeader) (rest : List ℕ) → IsBytes bytes → Gives view r (head_read (head_at (length bytes) bytes)) → IsFileHeader f → bytes ≡ header_bytes f ++ rest → IfErr r (λ e. e.cause ≢ OutOfMemory → Stops (length bytes) false (f.count - 1) rest e)
 entry_fault view bytes (Ok p) f rest fits given is parts = tt
 entry_fault view bytes (Err d) f rest fits given is parts = λ some.
-    let first : front_at (length bytes) bytes ≡ Ok (f, rest) = ap (front_at (length bytes)) parts ∙ front_again (length bytes) f rest is in
-    let t = front_takes (length bytes) bytes f rest fits first in
-    stops (length bytes) false (f.count - 1) rest d (omega arith) t.0.rest_fits (after_front bytes f rest d first (read_err _ d (given (λ e. some (ap (λ (f : ClassFault). f.cause) e)))))
+    let first : header_at (length bytes) bytes ≡ Ok (f, rest) = ap (header_at (length bytes)) parts ∙ header_again (length bytes) f rest is in
+    let t = header_takes (length bytes) bytes f rest fits first in
+    stops (length bytes) false (f.count - 1) rest d (omega arith) t.0.rest_fits (after_header bytes f rest d first (read_err _ d (given (λ e. some (ap (λ (f : ClassFault). f.cause) e)))))
 
-pub header_fault : {P : Type 0} (view : P → Head) (bytes : List ℕ) (r : Result P ClassFault) (d : ClassFault) → front_at (length bytes) bytes ≡ failed {A = Front × List ℕ} d → Gives view r (head_read (head_at (length bytes) bytes)) → Gives view r (failed {A = Head} d)
-header_fault view bytes r d e given = subst (λ (x : Result Head ClassFault). Gives view r x) (ap head_read (before_front bytes d e)) given
+pub header_fault : {P : Type 0} (view : P → Head) (bytes : List ℕ) (r : Result P ClassFault) (d : ClassFault) → header_at (length bytes) bytes ≡ failed {A = FileHeader × List ℕ} d → Gives view r (head_read (head_at (length bytes) bytes)) → Gives view r (failed {A = Head} d)
+header_fault view bytes r d e given = subst (λ (x : Result Head ClassFault). Gives view r x) (ap head_read (before_header bytes d e)) given

@@ -8,7 +8,7 @@ use Rattle.std.proofs.lemmas.List.Concat.{flat_map-cons}
 use Rattle.byteorder.specs.Endian.{big_bytes, big_number}
 use Rattle.class_pool.specs.declared.fault.ClassFault.{ClassFault}
 use Rattle.class_pool.specs.declared.fault.ClassCause.TheVariants.{Truncated, OutOfMemory}
-use Rattle.class_pool.specs.Spelling.{Entry, utf8, fixed, tag_size, takes_two, entry, entries, IsEntry, front, Head, head}
+use Rattle.class_pool.specs.Spelling.{Entry, utf8, fixed, tag_size, takes_two, entry, entries, IsEntry, header_bytes, Head, head}
 use Rattle.class_pool.specs.Reading.{no_memory, cut, text_at, head_at}
 use Rattle.class_pool.specs.Index.{Kept, starts, slots, slot, flat, blank, kept, head_found, head_of, IsKept, start_in, IsAt, text_in, class_index}
 use Rattle.class_pool.proofs.Codec.{ok_is}
@@ -52,7 +52,7 @@ stand base (e ∷ es) rest lt fits (suc i) =
     subst (λ (b : List ℕ). Stands base b (get_or (blank 0 (takes_two e) ++ starts (base + length (entry e)) es) i 0) (flat (slice_get (blank None (takes_two e) ++ slots es) i))) (sym regrouped) later
 
 abbrev kept_of : Head × List ℕ → ℕ → Kept
-kept_of x total = record { minor = x.0.front.minor; major = x.0.front.major; starts = 0 ∷ starts 10 x.0.entries; end = total - length x.1 }
+kept_of x total = record { minor = x.0.header.minor; major = x.0.header.major; starts = 0 ∷ starts 10 x.0.entries; end = total - length x.1 }
 
 abbrev some_kept : Kept → Result Kept ClassFault
 some_kept k = Ok k
@@ -68,8 +68,8 @@ pub record Found (bytes : List ℕ) (k : Kept) : Type 0 where
   pub is : head_of bytes ≡ value
   pub starts_is : k.starts ≡ 0 ∷ starts 10 value.entries
   pub end_is : k.end ≡ length bytes - length rest
-  pub minor_is : k.minor ≡ value.front.minor
-  pub major_is : k.major ≡ value.front.major
+  pub minor_is : k.minor ≡ value.header.minor
+  pub major_is : k.major ≡ value.header.major
 
 pub found_in : (bytes : List ℕ) (k : Kept) → IsKept bytes k → Found bytes k
 found_in bytes k keep =
@@ -91,8 +91,8 @@ place_stands bytes k (suc n) keep =
     let f = found_in bytes k keep in
     let h = f.value in
     let t = head_takes (length bytes) bytes h f.rest keep.fits f.read in
-    let s = shift 0 (front h.front) (entries h.entries ++ f.rest) _ _ (stand 10 h.entries f.rest (omega arith) t.1.each n) in
-    let whole : front h.front ++ (entries h.entries ++ f.rest) ≡ bytes = sym (t.0.parts ∙ append_assoc (front h.front) (entries h.entries) f.rest) in
+    let s = shift 0 (header_bytes h.header) (entries h.entries ++ f.rest) _ _ (stand 10 h.entries f.rest (omega arith) t.1.each n) in
+    let whole : header_bytes h.header ++ (entries h.entries ++ f.rest) ≡ bytes = sym (t.0.parts ∙ append_assoc (header_bytes h.header) (entries h.entries) f.rest) in
     subst (λ (es : Head). Stands 0 bytes (get_or k.starts (suc n) 0) (slot es.entries (suc n))) (sym f.is)
     (subst (λ (xs : List ℕ). Stands 0 bytes (get_or xs (suc n) 0) (slot h.entries (suc n))) (sym f.starts_is)
     (subst (λ (b : List ℕ). Stands 0 b (get_or (starts 10 h.entries) n 0) (slot h.entries (suc n))) whole s))
@@ -122,10 +122,10 @@ done x = Ok x
 differ : {A : Type 0} (x : A) (d : ClassFault) → done x ≡ Err d → ⊥
 differ x d e = cc
 
-front_number : (body rest : List ℕ) → 2 ≡ length body → big_number 2 (body ++ rest) ≡ big_number 2 body
-front_number [] rest len = absurd (omega (arith, len))
-front_number (a ∷ []) rest len = absurd (omega (arith, len))
-front_number (a ∷ b ∷ more) rest len = refl
+header_number : (body rest : List ℕ) → 2 ≡ length body → big_number 2 (body ++ rest) ≡ big_number 2 body
+header_number [] rest len = absurd (omega (arith, len))
+header_number (a ∷ []) rest len = absurd (omega (arith, len))
+header_number (a ∷ b ∷ more) rest len = refl
 
 -- ---- a text
 pub text_is : (total n : ℕ) (es : List Entry) (bytes x after : List ℕ) → IsAt es n (1 ∷ bytes) → text_at total bytes ≡ Ok (x, after) → text_in es n ≡ Some x
@@ -176,7 +176,7 @@ class_is n es bytes a = found a.value a.is a.parts a.fits
         let tail : bytes ≡ body ++ a.rest = cc in
         let two : Some 2 ≡ Some (length body) = subst (λ (t : ℕ). tag_size t ≡ Some (length body)) seven fits in
         let len : 2 ≡ length body = cc in
-        (omega (arith, len, ap length tail, length-append body a.rest), rw (is, seven) (ap Some (sym (ap (big_number 2) tail ∙ front_number body a.rest len))))
+        (omega (arith, len, ap length tail, length-append body a.rest), rw (is, seven) (ap Some (sym (ap (big_number 2) tail ∙ header_number body a.rest len))))
 
 pub no_class : (tag n : ℕ) (es : List Entry) (bytes : List ℕ) → IsAt es n (tag ∷ bytes) → tag ≢ 7 → class_index (slot es n) ≡ None
 no_class tag n es bytes a not = found a.value a.is a.parts
@@ -206,7 +206,7 @@ end_of bytes k keep =
     let f = found_in bytes k keep in
     let h = f.value in
     let t = head_takes (length bytes) bytes h f.rest keep.fits f.read in
-    let len : length bytes ≡ (10 + length (entries h.entries)) + length f.rest = ap length t.0.parts ∙ length-append (head h) f.rest ∙ ap (λ (n : ℕ). n + length f.rest) (length-append (front h.front) (entries h.entries)) in
+    let len : length bytes ≡ (10 + length (entries h.entries)) + length f.rest = ap length t.0.parts ∙ length-append (head h) f.rest ∙ ap (λ (n : ℕ). n + length f.rest) (length-append (header_bytes h.header) (entries h.entries)) in
     ap (λ (n : ℕ). n) f.end_is ∙ (omega (arith, len) ∙ sym (ap (λ (x : Head). 10 + length (entries x.entries)) f.is))
 
 pub end_within : (bytes : List ℕ) (k : Kept) → IsKept bytes k → k.end ≤ length bytes

@@ -5,5 +5,5 @@ pub mod Heads
 pub mod IndexLaws
 pub mod FaultLaws
 pub mod CauseLaws
-pub mod FrontLaws
+pub mod PrefixLaws
 pub mod UnitLaws

@@ -26,33 +26,33 @@ is_in low high a p q = search (rules, p, q)
 is_out : (low high a : ℕ) → high ≤ a → within low high a ≡ false
 is_out low high a p = search (rules, p)
 
-pub record Front (bytes : List ℕ) (x : ℕ × List ℕ) : Type 0 where
-  pub front : List ℕ
-  pub parts : bytes ≡ front ++ x.1
-  pub is : IsUnit front x.0
-  pub some : 0 < length front
+pub record Prefix (bytes : List ℕ) (x : ℕ × List ℕ) : Type 0 where
+  pub prefix : List ℕ
+  pub parts : bytes ≡ prefix ++ x.1
+  pub is : IsUnit prefix x.0
+  pub some : 0 < length prefix
 
-two_takes : (a : ℕ) (rest : List ℕ) (x : ℕ × List ℕ) → within 192 224 a ≡ true → two_at a rest ≡ Some x → Front (a ∷ rest) x
+two_takes : (a : ℕ) (rest : List ℕ) (x : ℕ × List ℕ) → within 192 224 a ≡ true → two_at a rest ≡ Some x → Prefix (a ∷ rest) x
 two_takes a [] x h e = absurd cc
 two_takes a (b ∷ rest) x h e =
     elim (chosen (is_tail b) _ _ (Some x) e) [
       | inl t ↦
           let p = in_range 192 224 a h in let q = in_range 128 192 b t.0 in
-          subst (λ (z : ℕ × List ℕ). Front (a ∷ b ∷ rest) z) (some_is ((a - 192) * 64 + (b - 128), rest) x t.1) (record { front = a ∷ b ∷ []; parts = refl; is = (p.0, p.1, q.0, q.1, refl); some = omega arith })
+          subst (λ (z : ℕ × List ℕ). Prefix (a ∷ b ∷ rest) z) (some_is ((a - 192) * 64 + (b - 128), rest) x t.1) (record { prefix = a ∷ b ∷ []; parts = refl; is = (p.0, p.1, q.0, q.1, refl); some = omega arith })
       | inr t ↦ absurd (no_some x t.1)
     ]
   where
     no_some : (x : ℕ × List ℕ) → None ≡ Some x → ⊥
     no_some x e = cc
 
-three_takes : (a : ℕ) (rest : List ℕ) (x : ℕ × List ℕ) → within 224 240 a ≡ true → three_at a rest ≡ Some x → Front (a ∷ rest) x
+three_takes : (a : ℕ) (rest : List ℕ) (x : ℕ × List ℕ) → within 224 240 a ≡ true → three_at a rest ≡ Some x → Prefix (a ∷ rest) x
 three_takes a [] x h e = absurd cc
 three_takes a (b ∷ []) x h e = absurd cc
 three_takes a (b ∷ c ∷ rest) x h e =
     elim (chosen (is_tail b && is_tail c) _ _ (Some x) e) [
       | inl t ↦
           let p = in_range 224 240 a h in let q = in_range 128 192 b (left _ _ t.0) in let r = in_range 128 192 c (right _ _ t.0) in
-          subst (λ (z : ℕ × List ℕ). Front (a ∷ b ∷ c ∷ rest) z) (some_is ((a - 224) * 4096 + ((b - 128) * 64 + (c - 128)), rest) x t.1) (record { front = a ∷ b ∷ c ∷ []; parts = refl; is = (p.0, p.1, q.0, q.1, r.0, r.1, refl); some = omega arith })
+          subst (λ (z : ℕ × List ℕ). Prefix (a ∷ b ∷ c ∷ rest) z) (some_is ((a - 224) * 4096 + ((b - 128) * 64 + (c - 128)), rest) x t.1) (record { prefix = a ∷ b ∷ c ∷ []; parts = refl; is = (p.0, p.1, q.0, q.1, r.0, r.1, refl); some = omega arith })
       | inr t ↦ absurd (no_some x t.1)
     ]
   where
@@ -67,12 +67,12 @@ three_takes a (b ∷ c ∷ rest) x h e =
     right true b e = e
     right false b e = absurd cc
 
-pub unit_takes : (bytes : List ℕ) (x : ℕ × List ℕ) → unit_at bytes ≡ Some x → Front bytes x
+pub unit_takes : (bytes : List ℕ) (x : ℕ × List ℕ) → unit_at bytes ≡ Some x → Prefix bytes x
 unfolding unit_at
 unit_takes [] x e = absurd cc
 unit_takes (a ∷ rest) x e =
     elim (chosen (within 1 128 a) _ _ (Some x) e) [
-      | inl h ↦ let p = in_range 1 128 a h.0 in subst (λ (z : ℕ × List ℕ). Front (a ∷ rest) z) (some_is (a, rest) x h.1) (record { front = a ∷ []; parts = refl; is = (p.0, p.1, refl); some = omega arith })
+      | inl h ↦ let p = in_range 1 128 a h.0 in subst (λ (z : ℕ × List ℕ). Prefix (a ∷ rest) z) (some_is (a, rest) x h.1) (record { prefix = a ∷ []; parts = refl; is = (p.0, p.1, refl); some = omega arith })
       | inr h ↦ elim (chosen (within 192 224 a) _ _ (Some x) h.1) [
         | inl k ↦ two_takes a rest x k.0 k.1
         | inr k ↦ elim (chosen (within 224 240 a) _ _ (Some x) k.1) [
@@ -85,7 +85,7 @@ unit_takes (a ∷ rest) x e =
     no_some : (x : ℕ × List ℕ) → None ≡ Some x → ⊥
     no_some x e = cc
 
-pub unit_again : (front : List ℕ) (u : ℕ) (rest : List ℕ) → IsUnit front u → unit_at (front ++ rest) ≡ Some (u, rest)
+pub unit_again : (prefix : List ℕ) (u : ℕ) (rest : List ℕ) → IsUnit prefix u → unit_at (prefix ++ rest) ≡ Some (u, rest)
 unfolding unit_at
 unit_again [] u rest h = absurd h
 unit_again (a ∷ []) u rest h = rw (is_in 1 128 a h.0 h.1, h.2) refl
@@ -110,7 +110,7 @@ pub more : (bytes units rest : List ℕ) (u : ℕ) (next : List ℕ) → unit_at
 more bytes units rest u next e r =
     let f = unit_takes rest (u, next) e in
     record {
-      sound = λ us h. subst (λ (t : List ℕ). AreUnits bytes t) (sym (append_assoc units (u ∷ []) us)) (r.sound (u ∷ us) (f.front, next, f.parts, f.is, h));
+      sound = λ us h. subst (λ (t : List ℕ). AreUnits bytes t) (sym (append_assoc units (u ∷ []) us)) (r.sound (u ∷ us) (f.prefix, next, f.parts, f.is, h));
       complete = λ vs h.
           let a = r.complete vs h in
           let s = split rest u next a.0 e a.2 in
@@ -118,7 +118,7 @@ more bytes units rest u next e r =
     }
 
 pub shorter : (rest : List ℕ) (u : ℕ) (next : List ℕ) → unit_at rest ≡ Some (u, next) → length next < length rest
-shorter rest u next e = let f = unit_takes rest (u, next) e in omega (arith, f.some, ap length f.parts, length-append f.front next)
+shorter rest u next e = let f = unit_takes rest (u, next) e in omega (arith, f.some, ap length f.parts, length-append f.prefix next)
 
 pub stuck : (rest : List ℕ) (us : List ℕ) → 0 < length rest → unit_at rest ≡ None → AreUnits rest us → ⊥
 stuck [] us lt e h = absurd (omega (arith, lt))
@@ -142,13 +142,13 @@ all_read bytes units rest e r =
       λ us h. let a = r.complete us h in ap (λ (t : List ℕ). some t) (sym (a.1 ∙ ap (λ (t : List ℕ). units ++ t) (none_left a.0 (subst (λ (x : List ℕ). AreUnits x a.0) nothing a.2)) ∙ append-nil units)),
     )
   where
-    no_front : (front rest : List ℕ) (u : ℕ) → [] ≡ front ++ rest → IsUnit front u → ⊥
-    no_front [] rest u e h = h
-    no_front (a ∷ more) rest u e h = absurd cc
+    no_prefix : (prefix rest : List ℕ) (u : ℕ) → [] ≡ prefix ++ rest → IsUnit prefix u → ⊥
+    no_prefix [] rest u e h = h
+    no_prefix (a ∷ more) rest u e h = absurd cc
 
     none_left : (us : List ℕ) → AreUnits [] us → us ≡ []
     none_left [] h = refl
-    none_left (u ∷ us) h = absurd (no_front h.0 h.1 u h.2 h.3)
+    none_left (u ∷ us) h = absurd (no_prefix h.0 h.1 u h.2 h.3)
 
 pub refused : (bytes units rest : List ℕ) → false ≡ eqb (length rest) 0 → unit_at rest ≡ None → Reads bytes units rest → (us : List ℕ) → AreUnits bytes us → ⊥
 refused bytes units rest e stop r us h = let a = r.complete us h in stuck rest a.0 (not_none (length rest) e) stop a.2
@@ -232,7 +232,7 @@ units_more (a ∷ more) us (Some x) some_left is again e =
     let w = with_unit_is x.0 (units_in x.1) us (sym (one_unit (a ∷ more) x.1 x.0 is) ∙ e) in
     let f = unit_takes (a ∷ more) x is in
     let later = again x.1 w.0 (shorter (a ∷ more) x.0 x.1 is) w.1 in
-    subst (λ (t : List ℕ). AreUnits (a ∷ more) t) (sym w.2) (f.front, x.1, f.parts, f.is, later)
+    subst (λ (t : List ℕ). AreUnits (a ∷ more) t) (sym w.2) (f.prefix, x.1, f.parts, f.is, later)
 
 units_take : (n : ℕ) (bytes us : List ℕ) → length bytes ≤ n → units_in bytes ≡ Some us → AreUnits bytes us
 units_take n [] us le e = units_none [] us refl e

@@ -58,8 +58,8 @@ start_in es n = get_or (0 ∷ starts 10 es) n 0
 
 -- Where entries stand, after those that were read before.
 abbrev pub after : List ℕ → ℕ → Result (List Entry × List ℕ) ClassFault → Result (List ℕ × List ℕ) ClassFault
-after front at (Ok r) = Ok (front ++ starts at r.0, r.1)
-after front at (Err e) = Err e
+after prefix at (Ok r) = Ok (prefix ++ starts at r.0, r.1)
+after prefix at (Err e) = Err e
 
 -- What is kept of a header and a pool: the version, where the entries stand, and where the pool ends.
 pub record Kept : Type 0 where
@@ -69,12 +69,12 @@ pub record Kept : Type 0 where
   pub end : ℕ
 
 abbrev pub kept : ℕ → Result (Head × List ℕ) ClassFault → Result Kept ClassFault
-kept total (Ok r) = Ok (record { minor = r.0.front.minor; major = r.0.front.major; starts = 0 ∷ starts 10 r.0.entries; end = total - length r.1 })
+kept total (Ok r) = Ok (record { minor = r.0.header.minor; major = r.0.header.major; starts = 0 ∷ starts 10 r.0.entries; end = total - length r.1 })
 kept total (Err e) = Err e
 
 abbrev pub head_found : Result (Head × List ℕ) ClassFault → Head
 head_found (Ok r) = r.0
-head_found (Err e) = record { front = record { minor = 0; major = 0; count = 0 }; entries = [] }
+head_found (Err e) = record { header = record { minor = 0; major = 0; count = 0 }; entries = [] }
 
 -- The header and the pool that stand at the front of the bytes.
 abbrev pub head_of : List ℕ → Head

@@ -4,7 +4,7 @@ use Rattle.std.specs.Prelude.{◌≡◌, ◌≢◌, ℕ, zero, suc, ◌-◌, ◌
 use Rattle.byteorder.specs.Endian.{big_number}
 use Rattle.class_pool.specs.declared.fault.ClassFault.{ClassFault}
 use Rattle.class_pool.specs.declared.fault.ClassCause.TheVariants.{Truncated, Magic, Version, Tag, OutOfMemory}
-use Rattle.class_pool.specs.Spelling.{Entry, utf8, fixed, tag_size, is_wide, takes_two, Front, Head, magic}
+use Rattle.class_pool.specs.Spelling.{Entry, utf8, fixed, tag_size, is_wide, takes_two, FileHeader, Head, magic}
 
 infixl 10 ◌>>=◌
 abbrev pub ◌>>=◌ : {A B : Type 0} → Result A ClassFault → (A → Result B ClassFault) → Result B ClassFault
@@ -78,8 +78,8 @@ entries_at total false (suc left) bytes = do
   Ok (e.0 ∷ es.0, es.1)
 
 -- The header: the magic number, the version, and the count of places and one.
-unfoldable pub front_at : ℕ → List ℕ → Result (Front × List ℕ) ClassFault
-front_at total bytes = do
+unfoldable pub header_at : ℕ → List ℕ → Result (FileHeader × List ℕ) ClassFault
+header_at total bytes = do
   sign ← number_at total 4 bytes
   right ← need (sign.0 == magic) (record { at = 0; cause = Magic })
   minor ← number_at total 2 sign.1
@@ -91,9 +91,9 @@ front_at total bytes = do
 -- The header and the pool.
 unfoldable pub head_at : ℕ → List ℕ → Result (Head × List ℕ) ClassFault
 head_at total bytes = do
-  front ← front_at total bytes
-  es ← entries_at total false (front.0.count - 1) front.1
-  Ok (record { front = front.0; entries = es.0 }, es.1)
+  header ← header_at total bytes
+  es ← entries_at total false (header.0.count - 1) header.1
+  Ok (record { header = header.0; entries = es.0 }, es.1)
 
 -- The header and the pool alone.
 abbrev pub head_read : Result (Head × List ℕ) ClassFault → Result Head ClassFault

@@ -49,7 +49,7 @@ places [] = 0
 places (e ∷ es) = width (takes_two e) + places es
 
 -- The numbers of the header. `count` is one more than the places of the pool.
-pub record Front : Type 0 where
+pub record FileHeader : Type 0 where
   pub minor : ℕ
   pub major : ℕ
   pub count : ℕ
@@ -58,11 +58,11 @@ abbrev pub magic : ℕ
 magic = 3405691582
 
 -- The ten bytes of the header.
-abbrev pub front : Front → List ℕ
-front f = big_bytes 4 magic ++ (big_bytes 2 f.minor ++ (big_bytes 2 f.major ++ big_bytes 2 f.count))
+abbrev pub header_bytes : FileHeader → List ℕ
+header_bytes f = big_bytes 4 magic ++ (big_bytes 2 f.minor ++ (big_bytes 2 f.major ++ big_bytes 2 f.count))
 
 -- The numbers have two bytes each, and the version is 45 or newer.
-pub record IsFront (f : Front) : Type 0 where
+pub record IsFileHeader (f : FileHeader) : Type 0 where
   pub minor : f.minor < 65536
   pub major : f.major < 65536
   pub new : 45 ≤ f.major
@@ -70,17 +70,17 @@ pub record IsFront (f : Front) : Type 0 where
 
 -- A header and its constant pool.
 pub record Head : Type 0 where
-  pub front : Front
+  pub header : FileHeader
   pub entries : List Entry
 
 abbrev pub head : Head → List ℕ
-head h = front h.front ++ entries h.entries
+head h = header_bytes h.header ++ entries h.entries
 
 -- The entries fill the places that the header counts. A count of 0 or 1 is an empty pool.
 pub record IsHead (h : Head) : Type 0 where
-  pub front : IsFront h.front
+  pub header : IsFileHeader h.header
   pub each : AllByRecursion IsEntry h.entries
-  pub full : places h.entries ≡ h.front.count - 1
+  pub full : places h.entries ≡ h.header.count - 1
 
 -- The bytes begin with this header and this pool.
 pub record IsPoolOf (bytes : List ℕ) (h : Head) : Type 0 where

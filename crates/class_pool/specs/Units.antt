@@ -14,7 +14,7 @@ IsUnit (a ∷ b ∷ c ∷ d ∷ more) u = ⊥
 -- The bytes are spellings of the units, end to end.
 abbrev pub AreUnits : List ℕ → List ℕ → Type 0
 AreUnits bytes [] = bytes ≡ []
-AreUnits bytes (u ∷ us) = (front : List ℕ) × (rest : List ℕ) × (bytes ≡ front ++ rest) × IsUnit front u × AreUnits rest us
+AreUnits bytes (u ∷ us) = (prefix : List ℕ) × (rest : List ℕ) × (bytes ≡ prefix ++ rest) × IsUnit prefix u × AreUnits rest us
 
 -- A byte after the first.
 abbrev pub is_tail : ℕ → Bool

@@ -3,8 +3,8 @@ ghost use Rattle.std.specs.Option.{option_map};
 ghost use Rattle.class_pool.specs.declared.fault.ClassFault.{ClassFault};
 ghost use Rattle.class_pool.specs.declared.fault.ClassCause.TheVariants.{OutOfMemory};
 ghost use Rattle.class_pool.specs.Causes.{IsPoolCause};
-ghost use Rattle.class_pool.specs.Spelling.{Entry, Front, front, IsFront, Head, IsPoolOf, entries};
-ghost use Rattle.class_pool.specs.Reading.{Gives, front_at, head_at, head_read};
+ghost use Rattle.class_pool.specs.Spelling.{Entry, FileHeader, header_bytes, IsFileHeader, Head, IsPoolOf, entries};
+ghost use Rattle.class_pool.specs.Reading.{Gives, header_at, head_at, head_read};
 ghost use Rattle.class_pool.specs.Index.{Kept, kept, slot, start_in, class_index, IsAt, text_in, name_in};
 ghost use Rattle.class_pool.specs.Faults.{Stops};
 ghost use Rattle.class_pool.specs.Views.{header_seen, index_seen};
@@ -25,9 +25,9 @@ struct Header {
 }
 
 /// The header, and the bytes after it.
-#[tactic(auto, unfolding(crate::specs::Reading::front_at))]
+#[tactic(auto, unfolding(crate::specs::Reading::header_at))]
 fn header_of(total: u32, bytes: &[u8]) -> Result<(Header, &[u8]), ClassFault>
-    ensures exact { Gives (λ x. (header_seen x.0, x.1.now)) result (front_at total bytes.now) }
+    ensures exact { Gives (λ x. (header_seen x.0, x.1.now)) result (header_at total bytes.now) }
     ensures long { IfOk result (λ x. length x.1.now + 10 ≡ length bytes.now) }
 {
     let (sign, rest) = u32_at(total, bytes)?;
@@ -117,9 +117,9 @@ pub fn read_pool(alloc: Global, bytes: &[u8]) -> Result<Pool<'_>, ClassFault>
     // What is spelled so is read, unless memory runs out.
     ensures only { (pool : Head) → IsPoolOf bytes.now pool → Gives (λ p. p) result (Ok pool) }
     // Where the header has a fault, it is the answer.
-    ensures header_fault { (fault : ClassFault) → front_at (length bytes.now) bytes.now ≡ Err fault → Gives (λ p. p) result (Err fault) }
+    ensures header_fault { (fault : ClassFault) → header_at (length bytes.now) bytes.now ≡ Err fault → Gives (λ p. p) result (Err fault) }
     // After a good header, a fault stands where no good entry does.
-    ensures entry_fault { (header : Front) (rest : List ℕ) → IsFront header → bytes.now ≡ front header ++ rest → IfErr result (λ fault. fault.cause ≢ OutOfMemory → Stops (length bytes.now) false (header.count - 1) rest fault) }
+    ensures entry_fault { (header : FileHeader) (rest : List ℕ) → IsFileHeader header → bytes.now ≡ header_bytes header ++ rest → IfErr result (λ fault. fault.cause ≢ OutOfMemory → Stops (length bytes.now) false (header.count - 1) rest fault) }
     // Both in one.
     ensures exact { Gives (λ p. p) result (head_read (head_at (length bytes.now) bytes.now)) }
     // No other cause comes from a header and a pool.
@@ -150,14 +150,14 @@ fn bytes_from(bytes: &[u8], start: usize) -> &[u8]
 impl<'a> Pool<'a> {
     /// The minor version.
     pub fn minor(&self) -> u16
-        ensures is { result ≡ self.now.front.minor }
+        ensures is { result ≡ self.now.header.minor }
     {
         self.index.minor
     }
 
     /// The major version, 45 or more.
     pub fn major(&self) -> u16
-        ensures is { result ≡ self.now.front.major }
+        ensures is { result ≡ self.now.header.major }
     {
         self.index.major
     }

@@ -71,8 +71,8 @@ fn the_first_fault_of_a_pool_is_answered(rt: HostRuntime) -> Result<(), Fail> {
         if let Some(byte) = bytes.get_mut(place) {
             *byte = value;
         }
-        let front = bytes.get(..len).ok_or("the bytes are as long")?;
-        match read_pool(rt.alloc(), front) {
+        let prefix = bytes.get(..len).ok_or("the bytes are as long")?;
+        match read_pool(rt.alloc(), prefix) {
             Err(fault) => {
                 assert_eq!(rt; fault.at, at);
                 assert_eq!(rt; fault.cause, cause);

@@ -17,18 +17,18 @@ use Rattle.class_pool.proofs.Codec.{number_2, number_4}
 use Rattle.class_pool.proofs.Entries.{decided}
 use Rattle.class_pool.proofs.Heads.{head_codec, head_takes}
 use Rattle.class_pool.proofs.CauseLaws.{head_causes}
-use Rattle.class_pool.proofs.FrontLaws.{split, no_front, Cuts, cut_then, cuts_2, cuts_4, block_cuts, head_cuts}
+use Rattle.class_pool.proofs.PrefixLaws.{split, no_prefix, Cuts, cut_then, cuts_2, cuts_4, block_cuts, head_cuts}
 use Rattle.class_shape.specs.declared.shapes.ClassShape.{ClassShape}
 use Rattle.class_shape.specs.Parts.{attribute, IsAttribute, member, IsMember, own, IsOwn, lists, AreLists, Body, body, IsBody, IsFile, IsShort, counted, Counted}
 use Rattle.class_shape.specs.Reading.{many_at, counted_at, index_at, attribute_at, member_at, own_at, lists_at, BodySeen, body_at}
 use Rattle.class_shape.specs.Meaning.{shape_of}
 use Rattle.class_shape.specs.Violations.{shape_read, fault_in, first_violation, IsLayoutCause, IsMeaningCause}
-use Rattle.class_shape.specs.Layout.{FrontsAreTruncated, LongerIsExtra, HasLayout, MeaningNeedsLayout}
+use Rattle.class_shape.specs.Layout.{PrefixesAreTruncated, LongerIsExtra, HasLayout, MeaningNeedsLayout}
 use Rattle.class_shape.proofs.SeenCodec.{SeenCodec}
 use Rattle.class_shape.proofs.FileLaws.{index_codec, indices_codec, attribute_codec, member_codec, members_codec, own_codec, lists_codec, body_takes, body_again}
 use Rattle.class_shape.proofs.CauseLaws.{body_causes, shape_causes}
 
--- ---- fronts
+-- ---- prefixes
 cut_see : {A B C : Type 0} {spell : A → List ℕ} {Fits : A → Type 0} {Same : B → A → Type 0} {Good : B → Type 0} {read : List ℕ → Result (B × List ℕ) ClassFault} (total : ℕ) (codec : SeenCodec spell Fits Same Good read) → Cuts spell Fits total read → (f : B × List ℕ → Result C ClassFault) (x : A) (ys start : List ℕ) (next : ℕ) (more : List ℕ) → Fits x → spell x ++ ys ≡ start ++ (next ∷ more) → ((v : B) (rest : List ℕ) → ys ≡ rest ++ (next ∷ more) → f (v, rest) ≡ Err (cut total)) → (read start >>= f) ≡ Err (cut total)
 cut_see {spell = spell} {read = read} total codec cuts f x ys start next more fits e then =
     elim (split (spell x) ys start next more e) [
@@ -39,7 +39,7 @@ cut_see {spell = spell} {read = read} total codec cuts f x ys start next more fi
 module _ {A B : Type 0} (spell : A → List ℕ) (Fits : A → Type 0) (Same : B → A → Type 0) (Good : B → Type 0) (read : List ℕ → Result (B × List ℕ) ClassFault) (codec : SeenCodec spell Fits Same Good read) (total : ℕ) (cuts : Cuts spell Fits total read) where
   many_cuts : (xs : List A) (start : List ℕ) (next : ℕ) (more : List ℕ) → AllByRecursion Fits xs → flat_map spell xs ≡ start ++ (next ∷ more) → many_at read (length xs) start ≡ Err (cut total)
   unfolding many_at
-  many_cuts [] start next more fits e = absurd (no_front start next more e)
+  many_cuts [] start next more fits e = absurd (no_prefix start next more e)
   many_cuts (x ∷ xs) start next more fits e =
       cut_see total codec cuts _ x (flat_map spell xs) start next more fits.0 (sym (flat_map-cons spell x xs) ∙ e) (λ v rest is. rw (many_cuts xs rest next more fits.1 is) refl)
 
@@ -103,8 +103,8 @@ read_cuts bytes h b start next more is e =
     cut_then total (head_codec total) (head_cuts total) _ h (body b) start next more is.is_head (sym is.parts ∙ e) (λ rest at.
     rw (body_cuts total b rest next more is.is_body at) refl)
 
-pub fronts : FrontsAreTruncated
-fronts bytes h b start next more is e = ap fault_in (read_cuts bytes h b start next more is e)
+pub prefixes : PrefixesAreTruncated
+prefixes bytes h b start next more is e = ap fault_in (read_cuts bytes h b start next more is e)
 
 -- ---- bytes after the end
 goes_on : (next : ℕ) (more : List ℕ) → eqb (length (next ∷ more)) 0 ≡ false

@@ -4,7 +4,7 @@ use Rattle.std.specs.Prelude.{IfOk, IfErr, ◌↔◌}
 use Rattle.std.proofs.lemmas.List.{length-append, drop_at}
 use Rattle.class_pool.specs.declared.fault.ClassFault.{ClassFault}
 use Rattle.class_pool.specs.declared.fault.ClassCause.TheVariants.{OutOfMemory}
-use Rattle.class_pool.specs.Spelling.{Entry, Head, head, front, entries, IsPoolOf}
+use Rattle.class_pool.specs.Spelling.{Entry, Head, head, header_bytes, entries, IsPoolOf}
 use Rattle.class_pool.specs.Reading.{IsBytes, ◌>>=◌, head_at, head_read, Gives}
 use Rattle.class_pool.proofs.Codec.{bind_ok, ok_is, step}
 use Rattle.class_pool.proofs.Heads.{head_codec}
@@ -84,7 +84,7 @@ lists_back es v l s same d =
 
 -- ---- the shape
 abbrev shape_with : Head → BodySeen → OwnNames → ListShapes → ClassShape
-shape_with h b own l = record { minor = h.front.minor; major = h.front.major; flags = b.own.flags; name = own.name; parent = own.parent; interfaces = l.interfaces; fields = l.fields; methods = l.methods; inner = l.inner }
+shape_with h b own l = record { minor = h.header.minor; major = h.header.major; flags = b.own.flags; name = own.name; parent = own.parent; interfaces = l.interfaces; fields = l.fields; methods = l.methods; inner = l.inner }
 
 shape_ok : (h : Head) (v : BodySeen) (b : Body) (s : ClassShape) → SameBody v b → GoodLists v.lists → shape_of h v ≡ Ok s → Says h b s
 unfolding shape_of
@@ -154,11 +154,11 @@ is_refused bytes r d e given = subst (λ (x : Result ClassShape ClassFault). Giv
 
 -- ---- the bytes after the pool
 pub end_within : (bytes : List ℕ) (h : Head) (end : ℕ) → IsPoolOf bytes h → end ≡ 10 + length (entries h.entries) → end ≤ length bytes
-end_within bytes h end p is = omega (arith, is, ap length p.parts, length-append (head h) p.rest, length-append (front h.front) (entries h.entries))
+end_within bytes h end p is = omega (arith, is, ap length p.parts, length-append (head h) p.rest, length-append (header_bytes h.header) (entries h.entries))
 
 pub pool_rest : (bytes : List ℕ) (h : Head) (end : ℕ) → IsPoolOf bytes h → end ≡ 10 + length (entries h.entries) → head_at (length bytes) bytes ≡ Ok (h, drop end bytes)
 pool_rest bytes h end p is =
-    let len : length (head h) ≡ end = omega (arith, is, length-append (front h.front) (entries h.entries)) in
+    let len : length (head h) ≡ end = omega (arith, is, length-append (header_bytes h.header) (entries h.entries)) in
     let rest : drop end bytes ≡ p.rest = ap (drop end) p.parts ∙ drop_at (head h) p.rest end len in
     ap (head_at (length bytes)) p.parts ∙ (head_codec (length bytes)).again h p.rest p.is ∙ ap (λ (t : List ℕ). Ok (h, t)) (sym rest)
 

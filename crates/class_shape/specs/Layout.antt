@@ -12,9 +12,9 @@ use Rattle.class_shape.specs.Violations.{first_violation, IsMeaningCause}
 abbrev pub HasLayout : List ℕ → Type 0
 HasLayout bytes = (h : Head) × (b : Body) × IsFile bytes h b
 
--- Each front of a file that isn't the whole of it has the violation Truncated, at its length.
-abbrev pub FrontsAreTruncated : Type 0
-FrontsAreTruncated = (bytes : List ℕ) (h : Head) (b : Body) (start : List ℕ) (next : ℕ) (more : List ℕ) → IsFile bytes h b → bytes ≡ start ++ (next ∷ more) → first_violation start ≡ Some (record { at = length start; cause = Truncated })
+-- Each prefix of a file that isn't the whole of it has the violation Truncated, at its length.
+abbrev pub PrefixesAreTruncated : Type 0
+PrefixesAreTruncated = (bytes : List ℕ) (h : Head) (b : Body) (start : List ℕ) (next : ℕ) (more : List ℕ) → IsFile bytes h b → bytes ≡ start ++ (next ∷ more) → first_violation start ≡ Some (record { at = length start; cause = Truncated })
 
 -- A file with bytes after it has the violation Extra, at the first of them.
 abbrev pub LongerIsExtra : Type 0

@@ -163,4 +163,4 @@ unfoldable pub shape_of : Head → BodySeen → Result ClassShape ClassFault
 shape_of h b = do
   own ← own_names h.entries b.own
   l ← list_shapes h.entries b.lists
-  Ok (record { minor = h.front.minor; major = h.front.major; flags = b.own.flags; name = own.name; parent = own.parent; interfaces = l.interfaces; fields = l.fields; methods = l.methods; inner = l.inner })
+  Ok (record { minor = h.header.minor; major = h.header.major; flags = b.own.flags; name = own.name; parent = own.parent; interfaces = l.interfaces; fields = l.fields; methods = l.methods; inner = l.inner })

@@ -78,12 +78,12 @@ pub record SaysOfAttribute (es : List Entry) (a : Attribute) (inner : List Inner
 -- The rows of all class attributes, joined in order.
 abbrev pub SaysOfAttributes : List Entry → List Attribute → List InnerRow → Type 0
 SaysOfAttributes es [] inner = inner ≡ []
-SaysOfAttributes es (a ∷ more) inner = (front : List InnerRow) × (rest : List InnerRow) × (inner ≡ front ++ rest) × SaysOfAttribute es a front × SaysOfAttributes es more rest
+SaysOfAttributes es (a ∷ more) inner = (prefix : List InnerRow) × (rest : List InnerRow) × (inner ≡ prefix ++ rest) × SaysOfAttribute es a prefix × SaysOfAttributes es more rest
 
 -- The shape holds what the header, the pool and the body say.
 pub record Says (h : Head) (b : Body) (s : ClassShape) : Type 0 where
-  pub minor : s.minor ≡ h.front.minor
-  pub major : s.major ≡ h.front.major
+  pub minor : s.minor ≡ h.header.minor
+  pub major : s.major ≡ h.header.major
   pub flags : s.flags ≡ b.own.flags
   pub name : IsClassName h.entries b.own.this s.name
   pub parent : OrNone (IsClassName h.entries) b.own.parent s.parent

@@ -3,7 +3,7 @@ ghost use Rattle.class_pool.specs.Reading.{IsBytes};
 ghost use Rattle.class_shape.specs.declared.shapes.ClassShape.{ClassShape};
 ghost use Rattle.class_shape.specs.Shapes.{IsClassFile};
 ghost use Rattle.class_shape.specs.Violations.{first_violation};
-ghost use Rattle.class_shape.specs.Layout.{FrontsAreTruncated, LongerIsExtra, MeaningNeedsLayout};
+ghost use Rattle.class_shape.specs.Layout.{PrefixesAreTruncated, LongerIsExtra, MeaningNeedsLayout};
 
 /// No two shapes fit the same bytes.
 pub fn one_shape()
@@ -18,7 +18,7 @@ pub fn fits_or_faults()
 /// Laws of the layout of a class file: what is cut off, what goes on after its end, and which violations
 /// leave the layout as it is.
 pub fn layout_laws()
-    ensures fronts { FrontsAreTruncated }
+    ensures prefixes { PrefixesAreTruncated }
     ensures longer { LongerIsExtra }
     ensures meaning { MeaningNeedsLayout }
 {}

@@ -15,8 +15,8 @@ numbered f k zero = []
 numbered f k (suc n) = f k ∷ numbered f (suc k) n
 
 -- The table gives the first class of the text with a canonical name.
-abbrev pub GivesCalled : unit.Unit → Table → Type 0
-GivesCalled u table = (name : List ℕ) → table name ≡ own_by_canonical u name
+abbrev pub GivesCanonical : unit.Unit → Table → Type 0
+GivesCanonical u table = (name : List ℕ) → table name ≡ own_by_canonical u name
 
 -- The table gives the top-level classes by their names.
 abbrev pub GivesTop : List SourceClass → Table → Type 0

@@ -44,7 +44,7 @@ pub fn class_with<C: Classes>(
 ) -> Result<Option<Denoted>, AllocError>
     ensures { IfOk result (λ found. found ≡ class_with unit.now (C.listed known.now) name.now) }
 {
-    if let Some(i) = unit.called(name) {
+    if let Some(i) = unit.by_canonical(name) {
         return Ok(Some(Denoted::Own(i)));
     }
     let Some(place) = known.by_canonical(name.as_str()) else {

@@ -3,7 +3,7 @@ ghost use Rattle.std.specs.Option.{option_copied};
 ghost use Rattle.std.specs.BTreeMap.{get_by_text};
 ghost use Rattle.class_summary.specs.Sources.{name_at, internal_name, canonical_name};
 ghost use Rattle.class_summary.specs.Names.{own_by_canonical, member_named, imported, enclosing};
-ghost use Rattle.class_summary.specs.UnitTables.{numbered, GivesCalled, GivesTop, GiveMembers};
+ghost use Rattle.class_summary.specs.UnitTables.{numbered, GivesCanonical, GivesTop, GiveMembers};
 ghost use Rattle.known_classes.specs.NameTables.{Table};
 
 use crate::paths::{canonical_name, internal_name};
@@ -23,7 +23,7 @@ pub struct UnitNames<'a> {
     unit: &'a Unit,
     internal: Items<Text>,
     /// The first class of each canonical name.
-    called: BTreeMap<String, usize>,
+    by_canonical: BTreeMap<String, usize>,
     /// The top-level classes by their names.
     top: BTreeMap<String, usize>,
     /// For each class its members by their names.
@@ -39,13 +39,13 @@ impl<'a> Model for UnitNames<'a> {
     ghost use Rattle.std.specs.BTreeMap.{get_by_text};
     ghost use Rattle.class_summary.specs.Sources.{internal_name};
     ghost use Rattle.class_summary.specs.ImportTables.{GivesImported};
-    ghost use Rattle.class_summary.specs.UnitTables.{SourceUnit, numbered, GivesCalled, GivesTop, GiveMembers};
+    ghost use Rattle.class_summary.specs.UnitTables.{SourceUnit, numbered, GivesCanonical, GivesTop, GiveMembers};
 
     ghost Value = { SourceUnit };
 
     ghost view = { λ n. n.unit.now };
 
-    ghost invariant = { λ n. (n.internal ≡ numbered (internal_name n.unit.now) 0 (length n.unit.now.classes)) × GivesCalled n.unit.now (get_by_text n.called) × GivesTop n.unit.now.classes (get_by_text n.top) × GiveMembers n.unit.now.classes (map get_by_text n.members.items) × (n.variables.items ≡ n.unit.now.classes) × GivesImported n.unit.now.imports (get_by_text n.single) };
+    ghost invariant = { λ n. (n.internal ≡ numbered (internal_name n.unit.now) 0 (length n.unit.now.classes)) × GivesCanonical n.unit.now (get_by_text n.by_canonical) × GivesTop n.unit.now.classes (get_by_text n.top) × GiveMembers n.unit.now.classes (map get_by_text n.members.items) × (n.variables.items ≡ n.unit.now.classes) × GivesImported n.unit.now.imports (get_by_text n.single) };
 }
 
 /// The internal names of the classes of a text.
@@ -60,17 +60,17 @@ fn internal_names(alloc: Global, unit: &Unit) -> Result<Items<Text>, AllocError>
 }
 
 /// The first class of each canonical name, found from the last to the first.
-fn called_in(alloc: Global, unit: &Unit) -> Result<BTreeMap<String, usize>, AllocError>
-    ensures { IfOk result (λ called. GivesCalled unit.now (get_by_text called)) }
+fn canonical_in(alloc: Global, unit: &Unit) -> Result<BTreeMap<String, usize>, AllocError>
+    ensures { IfOk result (λ by_canonical. GivesCanonical unit.now (get_by_text by_canonical)) }
 {
-    let mut called = BTreeMap::new(alloc);
+    let mut by_canonical = BTreeMap::new(alloc);
     let mut left = unit.classes.len();
     while left > 0 {
         left -= 1;
         let name = canonical_name(alloc, unit, left)?;
-        put(alloc, &mut called, name.as_str(), left)?;
+        put(alloc, &mut by_canonical, name.as_str(), left)?;
     }
-    Ok(called)
+    Ok(by_canonical)
 }
 
 /// The top-level classes by their names, found from the last to the first.
@@ -161,7 +161,7 @@ impl<'a> UnitNames<'a> {
         Ok(UnitNames {
             unit,
             internal: internal_names(alloc, unit)?,
-            called: called_in(alloc, unit)?,
+            by_canonical: canonical_in(alloc, unit)?,
             top: top_in(alloc, unit.classes.as_slice())?,
             members: members_in(alloc, unit.classes.as_slice())?,
             variables: variables_in(alloc, unit.classes.as_slice())?,
@@ -225,10 +225,10 @@ impl<'a> UnitNames<'a> {
     }
 
     /// The first class with this canonical name.
-    pub fn called(&self, name: &Text) -> Option<usize>
+    pub fn by_canonical(&self, name: &Text) -> Option<usize>
         ensures { result ≡ own_by_canonical self.now name.now }
     {
-        self.called.get(name.as_str()).copied()
+        self.by_canonical.get(name.as_str()).copied()
     }
 
     /// The first class that has this name and stands directly in that class, or in none.

@@ -12,7 +12,7 @@ use Rattle.known_classes.specs.declared.summary.ClassSummary.{ClassSummary}
 use Rattle.known_classes.specs.Known.{class_named}
 use Rattle.decl_index.specs.History.{Name, order, Rises, remove, put, decided, or_else}
 use Rattle.decl_index.specs.Places.{told_or, Leaves}
-use Rattle.decl_index.specs.Merging.{is_among, others, front_order, IsMerge}
+use Rattle.decl_index.specs.Merging.{is_among, others, prefix_order, IsMerge}
 use Rattle.decl_index.proofs.Names.{same, same-true, greater, exact}
 use Rattle.decl_index.proofs.Sorted.{Above, above_more, none_above}
 use Rattle.decl_index.proofs.Places.{leaves-then}
@@ -159,16 +159,16 @@ newer-by : (b : Bool) (n : ClassSummary) (x y z : Option ClassSummary) → x ≡
 newer-by true n x y z e = refl
 newer-by false n x y z e = e
 
-front-above : (n : Name) (xs : List ClassSummary) → Rises xs → front_order n xs ≡ Greater → Above n xs
+prefix-above : (n : Name) (xs : List ClassSummary) → Rises xs → prefix_order n xs ≡ Greater → Above n xs
 unfolding Rises
-front-above n [] r e = r
-front-above n (c ∷ cs) r e = (greater c.name n e, above_more n c.name cs (greater c.name n e) r.0)
+prefix-above n [] r e = r
+prefix-above n (c ∷ cs) r e = (greater c.name n e, above_more n c.name cs (greater c.name n e) r.0)
 
-merges-newer : (n : ClassSummary) (xs ns ts : List ClassSummary) → front_order n.name xs ≡ Greater → Merges xs ns ts → Merges xs (n ∷ ns) (n ∷ ts)
+merges-newer : (n : ClassSummary) (xs ns ts : List ClassSummary) → prefix_order n.name xs ≡ Greater → Merges xs ns ts → Merges xs (n ∷ ns) (n ∷ ts)
 unfolding Rises class_named
 merges-newer n xs ns ts e m = record {
   above = λ a h k. (k.0, m.above a h k.1);
-  rises = λ r s. (m.above n.name (front-above n.name xs r e) s.0, m.rises r s.1);
+  rises = λ r s. (m.above n.name (prefix-above n.name xs r e) s.0, m.rises r s.1);
   each = λ r s k. newer-by (same n.name k) n (class_named ts k) (class_named ns k) (class_named xs k) (m.each r s.1 k);
 }
 
@@ -195,36 +195,36 @@ pub record Goes (xs ys all : List ClassSummary) (i j : ℕ) : Type 0 where
 pub goes-first : (xs ys all : List ClassSummary) → all ≡ [] → Goes xs ys all 0 0
 goes-first xs ys all e = record { goes = λ ts m. rw e m }
 
-front-at : (xs : List ClassSummary) (i : ℕ) (x : ClassSummary) → i < length xs → x ≡ get_or xs i x → drop i xs ≡ x ∷ drop (i + 1) xs
-front-at xs i x l e = drop_more xs i x l ∙ ap (λ c. c ∷ drop (i + 1) xs) (sym e)
+prefix-at : (xs : List ClassSummary) (i : ℕ) (x : ClassSummary) → i < length xs → x ≡ get_or xs i x → drop i xs ≡ x ∷ drop (i + 1) xs
+prefix-at xs i x l e = drop_more xs i x l ∙ ap (λ c. c ∷ drop (i + 1) xs) (sym e)
 
 longer : (all new ts : List ClassSummary) (x : ClassSummary) → new ≡ all ++ x ∷ [] → new ++ ts ≡ all ++ x ∷ ts
 longer all new ts x e = ap (λ q. q ++ ts) e ∙ append_assoc all (x ∷ []) ts
 
-pub goes-older : (xs ys all new : List ClassSummary) (i j : ℕ) (o n : ClassSummary) → i < length xs → o ≡ get_or xs i o → j < length ys → n ≡ get_or ys j n → front_order n.name (drop i xs) ≡ Less → new ≡ all ++ o ∷ [] → Goes xs ys all i j → Goes xs ys new (i + 1) j
+pub goes-older : (xs ys all new : List ClassSummary) (i j : ℕ) (o n : ClassSummary) → i < length xs → o ≡ get_or xs i o → j < length ys → n ≡ get_or ys j n → prefix_order n.name (drop i xs) ≡ Less → new ≡ all ++ o ∷ [] → Goes xs ys all i j → Goes xs ys new (i + 1) j
 goes-older xs ys all new i j o n l e k f w is g = record {
   goes = λ ts m.
-      let dx = front-at xs i o l e in
-      let dy = front-at ys j n k f in
-      let less : order o.name n.name ≡ Less = subst (λ q. front_order n.name q ≡ Less) dx w in
+      let dx = prefix-at xs i o l e in
+      let dy = prefix-at ys j n k f in
+      let less : order o.name n.name ≡ Less = subst (λ q. prefix_order n.name q ≡ Less) dx w in
       let one = merges-older o n (drop (i + 1) xs) (drop (j + 1) ys) ts less (subst (λ q. Merges (drop (i + 1) xs) q ts) dy m) in
       subst (Merges xs ys) (sym (longer all new ts o is)) (g.goes (o ∷ ts) (subst (λ q. Merges (drop i xs) q (o ∷ ts)) (sym dy) (subst (λ q. Merges q (n ∷ drop (j + 1) ys) (o ∷ ts)) (sym dx) one)));
 }
 
-pub goes-newer : (xs ys all new : List ClassSummary) (i j : ℕ) (n : ClassSummary) → j < length ys → n ≡ get_or ys j n → front_order n.name (drop i xs) ≡ Greater → new ≡ all ++ n ∷ [] → Goes xs ys all i j → Goes xs ys new i (j + 1)
+pub goes-newer : (xs ys all new : List ClassSummary) (i j : ℕ) (n : ClassSummary) → j < length ys → n ≡ get_or ys j n → prefix_order n.name (drop i xs) ≡ Greater → new ≡ all ++ n ∷ [] → Goes xs ys all i j → Goes xs ys new i (j + 1)
 goes-newer xs ys all new i j n k f w is g = record {
   goes = λ ts m.
-      let dy = front-at ys j n k f in
+      let dy = prefix-at ys j n k f in
       let one = merges-newer n (drop i xs) (drop (j + 1) ys) ts w m in
       subst (Merges xs ys) (sym (longer all new ts n is)) (g.goes (n ∷ ts) (subst (λ q. Merges (drop i xs) q (n ∷ ts)) (sym dy) one));
 }
 
-pub goes-both : (xs ys all new : List ClassSummary) (i j : ℕ) (o n : ClassSummary) → i < length xs → o ≡ get_or xs i o → j < length ys → n ≡ get_or ys j n → front_order n.name (drop i xs) ≡ Equal → new ≡ all ++ n ∷ [] → Goes xs ys all i j → Goes xs ys new (i + 1) (j + 1)
+pub goes-both : (xs ys all new : List ClassSummary) (i j : ℕ) (o n : ClassSummary) → i < length xs → o ≡ get_or xs i o → j < length ys → n ≡ get_or ys j n → prefix_order n.name (drop i xs) ≡ Equal → new ≡ all ++ n ∷ [] → Goes xs ys all i j → Goes xs ys new (i + 1) (j + 1)
 goes-both xs ys all new i j o n l e k f w is g = record {
   goes = λ ts m.
-      let dx = front-at xs i o l e in
-      let dy = front-at ys j n k f in
-      let equal : order o.name n.name ≡ Equal = subst (λ q. front_order n.name q ≡ Equal) dx w in
+      let dx = prefix-at xs i o l e in
+      let dy = prefix-at ys j n k f in
+      let equal : order o.name n.name ≡ Equal = subst (λ q. prefix_order n.name q ≡ Equal) dx w in
       let one = merges-both o n (drop (i + 1) xs) (drop (j + 1) ys) ts equal m in
       subst (Merges xs ys) (sym (longer all new ts n is)) (g.goes (n ∷ ts) (subst (λ q. Merges (drop i xs) q (n ∷ ts)) (sym dy) (subst (λ q. Merges q (n ∷ drop (j + 1) ys) (n ∷ ts)) (sym dx) one)));
 }
@@ -235,7 +235,7 @@ goes-end xs ys all whole i j r s l is g =
     record { rises = m.rises r s; each = m.each r s }
 
 -- A class stands where the order isn't that of no class.
-pub inside : (n : Name) (xs : List ClassSummary) (i : ℕ) (o : Ordering) → (o ≡ Greater → ⊥) → front_order n (drop i xs) ≡ o → i < length xs
+pub inside : (n : Name) (xs : List ClassSummary) (i : ℕ) (o : Ordering) → (o ≡ Greater → ⊥) → prefix_order n (drop i xs) ≡ o → i < length xs
 inside n [] zero o h e = absurd (h (sym e))
 inside n [] (suc i) o h e = absurd (h (sym e))
 inside n (x ∷ xs) zero o h e = omega arith
@@ -247,13 +247,13 @@ no-less e = cc
 pub no-equal : Equal ≡ Greater → ⊥
 no-equal e = cc
 
-pub front-order-at : (cs : List ClassSummary) (i : ℕ) (d : ClassSummary) (n : Name) → i < length cs → d ≡ get_or cs i d → front_order n (drop i cs) ≡ order d.name n
-front-order-at [] i d n l e = absurd (omega (arith, l))
-front-order-at (c ∷ cs) zero d n l e = ap (λ x. order x.name n) (sym e)
-front-order-at (c ∷ cs) (suc i) d n l e = front-order-at cs i d n (omega arith) e
+pub prefix-order-at : (cs : List ClassSummary) (i : ℕ) (d : ClassSummary) (n : Name) → i < length cs → d ≡ get_or cs i d → prefix_order n (drop i cs) ≡ order d.name n
+prefix-order-at [] i d n l e = absurd (omega (arith, l))
+prefix-order-at (c ∷ cs) zero d n l e = ap (λ x. order x.name n) (sym e)
+prefix-order-at (c ∷ cs) (suc i) d n l e = prefix-order-at cs i d n (omega arith) e
 
-pub front-order-end : (cs : List ClassSummary) (i : ℕ) (n : Name) → length cs ≤ i → front_order n (drop i cs) ≡ Greater
-front-order-end cs i n l = ap (front_order n) (drop_all i cs l)
+pub prefix-order-end : (cs : List ClassSummary) (i : ℕ) (n : Name) → length cs ≤ i → prefix_order n (drop i cs) ≡ Greater
+prefix-order-end cs i n l = ap (prefix_order n) (drop_all i cs l)
 
 -- Puts.
 by-put : (o : Option (Option ClassSummary)) (b : Bool) (q : ClassSummary) (d : Option ClassSummary) → told_or o d ≡ or_else (told_or o None) d → told_or (or_else o (cond b (Some (Some q)) None)) d ≡ or_else (told_or (or_else o (cond b (Some (Some q)) None)) None) d

@@ -85,10 +85,10 @@ pub record AreRows (to : ClassSummary → List Name) (cs : List ClassSummary) (i
 pub rows-none : (to : ClassSummary → List Name) (cs : List ClassSummary) → AreRows to cs 0 []
 rows-none to cs = record { size = refl; row = λ a c l e. absurd (omega (arith, l)) }
 
-get_front : (rows : List (List ℕ)) (row : List ℕ) (a : ℕ) → a < length rows → get_or (rows ++ row ∷ []) a [] ≡ get_or rows a []
-get_front [] row a l = absurd (omega (arith, l))
-get_front (x ∷ rows) row zero l = refl
-get_front (x ∷ rows) row (suc a) l = get_front rows row a (omega arith)
+get_prefix : (rows : List (List ℕ)) (row : List ℕ) (a : ℕ) → a < length rows → get_or (rows ++ row ∷ []) a [] ≡ get_or rows a []
+get_prefix [] row a l = absurd (omega (arith, l))
+get_prefix (x ∷ rows) row zero l = refl
+get_prefix (x ∷ rows) row (suc a) l = get_prefix rows row a (omega arith)
 
 get_last : (rows : List (List ℕ)) (row : List ℕ) (a : ℕ) → a ≡ length rows → get_or (rows ++ row ∷ []) a [] ≡ row
 get_last [] row zero l = refl
@@ -106,7 +106,7 @@ pub rows-next : (to : ClassSummary → List Name) (cs : List ClassSummary) (i : 
 rows-next to cs i rows next row c e new is all = record {
   size = ap length new ∙ length-append rows (row ∷ []) ∙ ap (λ k. k + 1) all.size;
   row = λ a d l f. elim (below_or a i l) [
-    | inl k ↦ subst (IsRow cs (to d)) (sym (ap (λ rs. get_or rs a []) new ∙ get_front rows row a (omega (arith, k, all.size)))) (all.row a d k f)
+    | inl k ↦ subst (IsRow cs (to d)) (sym (ap (λ rs. get_or rs a []) new ∙ get_prefix rows row a (omega (arith, k, all.size)))) (all.row a d k f)
     | inr s ↦
         let g : slice_get cs a ≡ Some c = ap (slice_get cs) s ∙ e in
         let same_class : c ≡ d = cc in

@@ -16,9 +16,9 @@ abbrev pub others : (Name → Bool) → List ClassSummary → List ClassSummary
 others passes cs = filter (λ c. not (passes c.name)) cs
 
 -- How the first class's name stands to a name; behind it where there is no class.
-abbrev pub front_order : Name → List ClassSummary → Ordering
-front_order n [] = Greater
-front_order n (c ∷ cs) = order c.name n
+abbrev pub prefix_order : Name → List ClassSummary → Ordering
+prefix_order n [] = Greater
+prefix_order n (c ∷ cs) = order c.name n
 
 -- The classes of both lists, of one name that of the newer list.
 pub record IsMerge (older newer all : List ClassSummary) : Type 0 where

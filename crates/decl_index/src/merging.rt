@@ -3,7 +3,7 @@ ghost use Rattle.std.specs.Arc.{arc_value};
 ghost use Rattle.std.specs.BTreeSet.{contains_text};
 ghost use Rattle.decl_index.specs.History.{Name, Rises, remove, put};
 ghost use Rattle.decl_index.specs.Places.{Leaves};
-ghost use Rattle.decl_index.specs.Merging.{is_among, others, front_order, IsMerge};
+ghost use Rattle.decl_index.specs.Merging.{is_among, others, prefix_order, IsMerge};
 
 use crate::table::{Shared, compare, put_each, take_each};
 use known_classes::ClassSummary;
@@ -62,7 +62,7 @@ pub fn take_all(alloc: Global, classes: &mut Vec<Shared>, names: &[Text]) -> Res
 
 /// How the name of the class at a place stands to a name; behind it where there is no class.
 fn order_at(classes: &[Shared], place: usize, name: &str) -> Ordering
-    ensures { result ≡ front_order name.now (drop place (map arc_value classes.now)) }
+    ensures { result ≡ prefix_order name.now (drop place (map arc_value classes.now)) }
 {
     match classes.get(place) {
         Some(class) => compare(&**class, name),

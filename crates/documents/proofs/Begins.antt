@@ -34,9 +34,9 @@ pub lf-get : (xs : List ℕ) → starts_with_lf xs ≡ (get_or xs 0 0 == 10)
 lf-get [] = refl
 lf-get (x ∷ xs) = refl
 
-lf-front : (xs ys : List ℕ) → 0 < length xs → starts_with_lf (xs ++ ys) ≡ (get_or xs 0 0 == 10)
-lf-front [] ys h = absurd (omega arith)
-lf-front (x ∷ xs) ys h = refl
+lf-prefix : (xs ys : List ℕ) → 0 < length xs → starts_with_lf (xs ++ ys) ≡ (get_or xs 0 0 == 10)
+lf-prefix [] ys h = absurd (omega arith)
+lf-prefix (x ∷ xs) ys h = refl
 
 is_ten : (x : ℕ) → (x == 10) ≡ true → x ≡ 10
 is_ten x e = grind (arith, e)
@@ -50,7 +50,7 @@ no_ten c true f e =
 
 lf-encode : (c : ℕ) (ys : List ℕ) (b : Bool) → (c == 10) ≡ b → starts_with_lf (encode c ++ ys) ≡ b
 lf-encode c ys true e = let small : c < 128 = omega (arith, is_ten c e) in ap (λ x. starts_with_lf (x ++ ys)) (encode_ascii c small) ∙ e
-lf-encode c ys false e = lf-front (encode c) ys (omega (arith, length-encode c, (len_utf8_bounds c).0)) ∙ no_ten c (get_or (encode c) 0 0 == 10) refl e
+lf-encode c ys false e = lf-prefix (encode c) ys (omega (arith, length-encode c, (len_utf8_bounds c).0)) ∙ no_ten c (get_or (encode c) 0 0 == 10) refl e
 
 lf-encodes : (cs : List ℕ) → starts_with_lf (encodes cs) ≡ starts_with_lf cs
 lf-encodes [] = refl

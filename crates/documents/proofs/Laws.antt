@@ -115,7 +115,7 @@ unfolding back
 back-later c d j [] b r e f = absurd (omega (arith, from_line-le (suc j) b r e, from_unit-le d r, ap byte_len f))
 back-later c d j (x ∷ a) b r e f = refl
 
--- The place after the front of a text is on the line that the text begins with, or on a later one.
+-- The place after the prefix of a text is on the line that the text begins with, or on a later one.
 walk : (a b : List ℕ) (l u : ℕ) (P : ℕ × ℕ → Type 0)
     → ((d : ℕ) → from_unit d (a ++ b) ≡ back a b → P (l, u + d))
     → ((j d : ℕ) (r : List ℕ) → from_line (suc j) (a ++ b) ≡ Some r → from_unit d r ≡ back a b → P (l + suc j, d))
@@ -208,10 +208,10 @@ position-on l u (c ∷ p) q h =
     let next : u + units c + sum_by units p ≡ u + sum_by units (c ∷ p) = omega (arith, sum_by-cons units c p) in
     rw (some, less, plain) (position-on l (u + units c) p q (All-tail (λ x. is_newline x ≡ false) c p h) ∙ ap (λ x. (l, x)) next)
 
-unit-front : (p q : List ℕ) → All (λ c. is_newline c ≡ false) p → from_unit (sum_by units p) (p ++ q) ≡ q
-unit-front [] q h = from_unit-zero q
-unit-front (c ∷ p) q h =
-    ap (λ x. from_unit x (c ∷ p ++ q)) (sum_by-cons units c p) ∙ unit-go (sum_by units p) c (p ++ q) (All-head (λ x. is_newline x ≡ false) c p h) ∙ unit-front p q (All-tail (λ x. is_newline x ≡ false) c p h)
+unit-prefix : (p q : List ℕ) → All (λ c. is_newline c ≡ false) p → from_unit (sum_by units p) (p ++ q) ≡ q
+unit-prefix [] q h = from_unit-zero q
+unit-prefix (c ∷ p) q h =
+    ap (λ x. from_unit x (c ∷ p ++ q)) (sum_by-cons units c p) ∙ unit-go (sum_by units p) c (p ++ q) (All-head (λ x. is_newline x ≡ false) c p h) ∙ unit-prefix p q (All-tail (λ x. is_newline x ≡ false) c p h)
 
 -- What a unit passes of a line.
 passed : ℕ → List ℕ → List ℕ
@@ -287,7 +287,7 @@ offset-unit l u cs (Some n) e = some_line l u n cs (from_line l cs) ((position_o
 
 back_again : (l u n : ℕ) (cs before after : List ℕ) → Some n ≡ offset_of cs l u → IsPlaceIn cs l u before after → position_of cs n ≡ (l, u)
 back_again l u n cs before after e h =
-    let rest : from_unit u (before ++ after) ≡ after = ap (λ x. from_unit x (before ++ after)) (sym h.units_are) ∙ unit-front before after h.within in
+    let rest : from_unit u (before ++ after) ≡ after = ap (λ x. from_unit x (before ++ after)) (sym h.units_are) ∙ unit-prefix before after h.within in
     let at : n ≡ byte_len cs - byte_len after = same_number n (byte_len cs - byte_len after) (e ∙ ap (place (byte_len cs) u) h.on ∙ ap (λ x. Some (byte_len cs - byte_len x)) rest) in
     position-in l n cs (before ++ after) before after h.on refl h.within at ∙ ap (λ x. (l, x)) h.units_are
 

@@ -126,9 +126,9 @@ first-below : (f b r : List ℕ) (edge : ℕ) → edge ≡ length f → All (λ 
 first-below f b r edge e = All-cons (λ a. a ≤ edge) 0 (ends_in 0 f (b ++ r)) (omega arith) (All-weaker (λ a. a ≤ 0 + length f) (λ a. a ≤ edge) (λ a k. omega (arith, k, e)) (ends_in 0 f (b ++ r)) (ends-below 0 f (b ++ r)))
 
 pub cut-starts : (starts text : List ℕ) (edge to end low high : ℕ) (h : IsEdited starts text edge to end) → 0 < length starts → low ≤ length starts
-    → All (λ a. a ≤ edge) (take low starts) → All (λ a. edge < a) (drop low starts) → All (λ a. a ≤ to) (take high starts) → All (λ a. to < a) (drop high starts) → CutStarts starts h.front h.before h.rest low high
+    → All (λ a. a ≤ edge) (take low starts) → All (λ a. edge < a) (drop low starts) → All (λ a. a ≤ to) (take high starts) → All (λ a. to < a) (drop high starts) → CutStarts starts h.prefix h.before h.rest low high
 cut-starts starts text edge to end low high h some le lb la hb ha =
-    let f : List ℕ = h.front in
+    let f : List ℕ = h.prefix in
     let b : List ℕ = h.before in
     let r : List ℕ = h.rest in
     let x : List ℕ = 0 ∷ ends_in 0 f (b ++ r) in
@@ -148,13 +148,13 @@ cut-starts starts text edge to end low high h some le lb la hb ha =
 
 -- The same of copies of the starts that are the arguments of the searches.
 pub cut-counted : (starts s t text : List ℕ) (edge to end low high : ℕ) (h : IsEdited starts text edge to end) → s ≡ starts → t ≡ starts → 0 < length starts → low ≤ length s
-    → All (λ a. a ≤ edge) (take low s) → All (λ a. edge < a) (drop low s) → All (λ a. a ≤ to) (take high t) → All (λ a. to < a) (drop high t) → CutStarts starts h.front h.before h.rest low high
+    → All (λ a. a ≤ edge) (take low s) → All (λ a. edge < a) (drop low s) → All (λ a. a ≤ to) (take high t) → All (λ a. to < a) (drop high t) → CutStarts starts h.prefix h.before h.rest low high
 cut-counted starts s t text edge to end low high h e f some le lb la hb ha =
     cut-starts starts text edge to end low high h some (omega (arith, le, ap length e)) (subst (λ x. All (λ a. a ≤ edge) (take low x)) e lb) (subst (λ x. All (λ a. edge < a) (drop low x)) e la)
     (subst (λ x. All (λ a. a ≤ to) (take high x)) f hb) (subst (λ x. All (λ a. to < a) (drop high x)) f ha)
 
 pub rising-edited : (starts s text : List ℕ) (edge to end : ℕ) → IsEdited starts text edge to end → s ≡ starts → 0 < length starts → IsRising s
-rising-edited starts s text edge to end h e some = rising-known (h.front ++ (h.before ++ h.rest)) s (e ∙ h.were some)
+rising-edited starts s text edge to end h e some = rising-known (h.prefix ++ (h.before ++ h.rest)) s (e ∙ h.were some)
 
 context : (f b a r : List ℕ) → (0 < length f → starts_with_lf (b ++ r) ≡ starts_with_lf (a ++ r)) → ends_in 0 f (b ++ r) ≡ ends_in 0 f (a ++ r)
 unfolding ends_in
@@ -162,10 +162,10 @@ context [] b a r h = refl
 context (x ∷ f) b a r h = ends-context 0 (x ∷ f) (b ++ r) (a ++ r) (h (omega arith))
 
 -- The starts after an edit.
-pub starts-edited : (starts text first found later new : List ℕ) (edge to end low high : ℕ) (h : IsEdited starts text edge to end) → CutStarts starts h.front h.before h.rest low high
+pub starts-edited : (starts text first found later new : List ℕ) (edge to end low high : ℕ) (h : IsEdited starts text edge to end) → CutStarts starts h.prefix h.before h.rest low high
     → first ≡ take low (take high starts) → found ≡ first ++ ends_in edge (take (end - edge) (drop edge text)) (drop end text) → later ≡ map (λ a. a - to + end) (drop high starts) → new ≡ found ++ later → new ≡ line_starts text
 starts-edited starts text first found later new edge to end low high h c e g m n =
-    let f : List ℕ = h.front in
+    let f : List ℕ = h.prefix in
     let b : List ℕ = h.before in
     let a : List ℕ = h.after in
     let r : List ℕ = h.rest in
@@ -183,18 +183,18 @@ starts-edited starts text first found later new edge to end low high h c e g m n
     ∙ sym (starts-parts f a r) ∙ ap line_starts (sym h.is)
 
 -- The bounds of what moves.
-pub later-above : (starts text : List ℕ) (edge to end low high : ℕ) (h : IsEdited starts text edge to end) → CutStarts starts h.front h.before h.rest low high → All (λ a. to ≤ a) (drop high starts)
+pub later-above : (starts text : List ℕ) (edge to end low high : ℕ) (h : IsEdited starts text edge to end) → CutStarts starts h.prefix h.before h.rest low high → All (λ a. to ≤ a) (drop high starts)
 later-above starts text edge to end low high h c =
-    All-same (λ a. to ≤ a) (drop high starts) (ends_in (length h.front + length h.before) h.rest []) c.later
-    (All-weaker (λ a. length h.front + length h.before < a) (λ a. to ≤ a) (λ a k. omega (arith, k, h.to_is)) (ends_in (length h.front + length h.before) h.rest []) (ends-above (length h.front + length h.before) h.rest []))
+    All-same (λ a. to ≤ a) (drop high starts) (ends_in (length h.prefix + length h.before) h.rest []) c.later
+    (All-weaker (λ a. length h.prefix + length h.before < a) (λ a. to ≤ a) (λ a k. omega (arith, k, h.to_is)) (ends_in (length h.prefix + length h.before) h.rest []) (ends-above (length h.prefix + length h.before) h.rest []))
 
 text-long : (starts text : List ℕ) (edge to end : ℕ) (h : IsEdited starts text edge to end) → length text ≡ end + length h.rest
-text-long starts text edge to end h = ap length h.is ∙ length-append h.front (h.after ++ h.rest) ∙ omega (arith, h.end_is, length-append h.after h.rest)
+text-long starts text edge to end h = ap length h.is ∙ length-append h.prefix (h.after ++ h.rest) ∙ omega (arith, h.end_is, length-append h.after h.rest)
 
-pub later-below : (starts text : List ℕ) (edge to end low high : ℕ) (h : IsEdited starts text edge to end) → CutStarts starts h.front h.before h.rest low high → length text ≤ 16777216 → All (λ a. a - to + end < 2 ^ 32) (drop high starts)
+pub later-below : (starts text : List ℕ) (edge to end low high : ℕ) (h : IsEdited starts text edge to end) → CutStarts starts h.prefix h.before h.rest low high → length text ≤ 16777216 → All (λ a. a - to + end < 2 ^ 32) (drop high starts)
 later-below starts text edge to end low high h c l =
-    All-same (λ a. a - to + end < 2 ^ 32) (drop high starts) (ends_in (length h.front + length h.before) h.rest []) c.later
-    (All-weaker (λ a. a ≤ length h.front + length h.before + length h.rest) (λ a. a - to + end < 2 ^ 32) (λ a k. omega (arith, k, h.to_is, l, text-long starts text edge to end h)) (ends_in (length h.front + length h.before) h.rest []) (ends-below (length h.front + length h.before) h.rest []))
+    All-same (λ a. a - to + end < 2 ^ 32) (drop high starts) (ends_in (length h.prefix + length h.before) h.rest []) c.later
+    (All-weaker (λ a. a ≤ length h.prefix + length h.before + length h.rest) (λ a. a - to + end < 2 ^ 32) (λ a k. omega (arith, k, h.to_is, l, text-long starts text edge to end h)) (ends_in (length h.prefix + length h.before) h.rest []) (ends-below (length h.prefix + length h.before) h.rest []))
 
 pub edited-range : (starts text : List ℕ) (edge to end : ℕ) → IsEdited starts text edge to end → edge ≤ end
 edited-range starts text edge to end h = omega (arith, h.edge_is, h.end_is)
@@ -232,14 +232,14 @@ edited starts old new text from to edge end are l m e g n =
     sym (take-append-drop (from - (from - 1)) (drop (from - 1) old)) ∙ ap (λ x. s ++ x) (drop-drop (from - (from - 1)) (from - 1) old ∙ ap (λ k. drop k old) (omega arith)) in
     let whole : old ≡ f ++ ((s ++ c) ++ drop to old) =
     sym (take-append-drop (from - 1) old) ∙ ap (λ x. f ++ x) (behind ∙ ap (λ x. s ++ x) rest_from ∙ sym (append_assoc s c (drop to old))) in
-    let front : take from old ≡ f ++ s = take-parts old (from - 1) from (omega arith) in
+    let prefix : take from old ≡ f ++ s = take-parts old (from - 1) from (omega arith) in
     record {
-      front = f;
+      prefix = f;
       before = s ++ c;
       after = s ++ new;
       rest = drop to old;
       were = λ some. are some ∙ ap line_starts whole;
-      is = e ∙ ap (λ x. (x ++ new) ++ drop to old) front ∙ ap (λ x. x ++ drop to old) (append_assoc f s new) ∙ append_assoc f (s ++ new) (drop to old);
+      is = e ∙ ap (λ x. (x ++ new) ++ drop to old) prefix ∙ ap (λ x. x ++ drop to old) (append_assoc f s new) ∙ append_assoc f (s ++ new) (drop to old);
       seam = λ some. same_seam s c new (drop to old) (omega (arith, some, fl, sl));
       edge_is = g ∙ sym fl;
       to_is = omega (arith, fl, sl, cl, l, length-append s c);

@@ -18,17 +18,17 @@ byte_len-chars bs u = byte_len-encodes (chars bs) ∙ ap length (encodes-chars b
 pub rest-same : (text : List ℕ) → IsRest text text
 rest-same text = record { le = omega arith; is = grind arith }
 
-pub drop_front : (xs ys : List ℕ) (n : ℕ) → n ≡ length xs → drop n (xs ++ ys) ≡ ys
-drop_front [] ys n e = rw e refl
-drop_front (x ∷ xs) ys zero e = absurd (omega arith)
-drop_front (x ∷ xs) ys (suc n) e = drop_front xs ys n (omega arith)
+pub drop_prefix : (xs ys : List ℕ) (n : ℕ) → n ≡ length xs → drop n (xs ++ ys) ≡ ys
+drop_prefix [] ys n e = rw e refl
+drop_prefix (x ∷ xs) ys zero e = absurd (omega arith)
+drop_prefix (x ∷ xs) ys (suc n) e = drop_prefix xs ys n (omega arith)
 
-pub rest-more : (text rest more front : List ℕ) → IsRest text rest → rest ≡ front ++ more → IsRest text more
-rest-more text rest more front r e =
-    let l : length rest ≡ length front + length more = ap length e ∙ length-append front more in
+pub rest-more : (text rest more prefix : List ℕ) → IsRest text rest → rest ≡ prefix ++ more → IsRest text more
+rest-more text rest more prefix r e =
+    let l : length rest ≡ length prefix + length more = ap length e ∙ length-append prefix more in
     record {
       le = omega (arith, r.le, l);
-      is = sym (drop_front front more (length front) refl) ∙ ap (drop (length front)) (sym e ∙ r.is) ∙ drop-drop (length front) (length text - length rest) text ∙ ap (λ n. drop n text) (omega (arith, r.le, l));
+      is = sym (drop_prefix prefix more (length prefix) refl) ∙ ap (drop (length prefix)) (sym e ∙ r.is) ∙ drop-drop (length prefix) (length text - length rest) text ∙ ap (λ n. drop n text) (omega (arith, r.le, l));
     }
 
 pub rest_drop : (text start rest : List ℕ) → IsRest text start → IsRest start rest → IsRest text rest

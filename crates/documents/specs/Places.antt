@@ -105,16 +105,16 @@ pub record EndsAfter (text : List ℕ) (count : ℕ) : Type 0 where
 -- The starts are those of a text that differs from this one only between two places: from `edge` up to `to` there, and up to `end`
 -- here. Behind the edge both have an LF, or neither, unless the text begins there.
 pub record IsEdited (starts text : List ℕ) (edge to end : ℕ) : Type 0 where
-  pub front : List ℕ
+  pub prefix : List ℕ
   pub before : List ℕ
   pub after : List ℕ
   pub rest : List ℕ
-  pub were : AreStarts (front ++ (before ++ rest)) starts
-  pub is : text ≡ front ++ (after ++ rest)
-  pub seam : 0 < length front → starts_with_lf (before ++ rest) ≡ starts_with_lf (after ++ rest)
-  pub edge_is : edge ≡ length front
-  pub to_is : to ≡ length front + length before
-  pub end_is : end ≡ length front + length after
+  pub were : AreStarts (prefix ++ (before ++ rest)) starts
+  pub is : text ≡ prefix ++ (after ++ rest)
+  pub seam : 0 < length prefix → starts_with_lf (before ++ rest) ≡ starts_with_lf (after ++ rest)
+  pub edge_is : edge ≡ length prefix
+  pub to_is : to ≡ length prefix + length before
+  pub end_is : end ≡ length prefix + length after
 
 -- No entry is greater than a later one.
 abbrev pub IsRising : List ℕ → Type 0

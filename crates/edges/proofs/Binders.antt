@@ -14,13 +14,13 @@ binders-append (Fun ps r ∷ xs) ys = (let h = binders-append xs ys in omega (ar
 pub binders-more : (xs : List Arg) (i : ℕ) (x d : Arg) → i < length xs → x ≡ get_or xs i d → binders (take (i + 1) xs) ≡ binders (take i xs) + binders (x ∷ [])
 binders-more xs i x d low at = ap binders (take_more xs i d low ∙ ap (λ y. take i xs ++ y ∷ []) (sym at)) ∙ binders-append (take i xs) (x ∷ [])
 
-pub binders-front : (xs : List Arg) (i : ℕ) → binders (take i xs) ≤ binders xs
+pub binders-prefix : (xs : List Arg) (i : ℕ) → binders (take i xs) ≤ binders xs
 unfolding binders
-binders-front [] zero = omega arith
-binders-front [] (suc i) = omega arith
-binders-front (x ∷ xs) zero = omega arith
-binders-front (Plain b ∷ xs) (suc i) = binders-front xs i
-binders-front (Fun ps r ∷ xs) (suc i) = (let h = binders-front xs i in omega (arith, h))
+binders-prefix [] zero = omega arith
+binders-prefix [] (suc i) = omega arith
+binders-prefix (x ∷ xs) zero = omega arith
+binders-prefix (Plain b ∷ xs) (suc i) = binders-prefix xs i
+binders-prefix (Fun ps r ∷ xs) (suc i) = (let h = binders-prefix xs i in omega (arith, h))
 
 pub binders-plain : (b : ℕ) → binders (Plain b ∷ []) ≡ 0
 unfolding binders

@@ -41,14 +41,14 @@ last_mark_drop [] (suc k) b = refl
 last_mark_drop (v ∷ vs) zero b = refl
 last_mark_drop (v ∷ vs) (suc k) b = last_mark_drop vs k b
 
-last_mark_front : (v : Variable) (vs : List Variable) (b : Bool) → slice_index_or (last_marks (v ∷ vs)) 0 b ≡ not (is_named v.name vs)
+last_mark_prefix : (v : Variable) (vs : List Variable) (b : Bool) → slice_index_or (last_marks (v ∷ vs)) 0 b ≡ not (is_named v.name vs)
 unfolding last_marks
-last_mark_front v vs b = refl
+last_mark_prefix v vs b = refl
 
 -- the mark of a variable at its place
 last_mark_at : (vs : List Variable) (marks : List Bool) (k : ℕ) (b : Bool) (v : Variable) → k < length vs → v ≡ slice_index_or vs k v → marks ≡ last_marks vs → slice_index_or marks k b ≡ not (is_named v.name (drop (k + 1) vs))
 last_mark_at vs marks k b v l is m =
-    ap (λ ms. slice_index_or ms k b) m ∙ last_mark_drop vs k b ∙ ap (λ xs. slice_index_or (last_marks xs) 0 b) (at_front vs k v l is) ∙ last_mark_front v (drop (k + 1) vs) b
+    ap (λ ms. slice_index_or ms k b) m ∙ last_mark_drop vs k b ∙ ap (λ xs. slice_index_or (last_marks xs) 0 b) (at_front vs k v l is) ∙ last_mark_prefix v (drop (k + 1) vs) b
 
 not_false : (b : Bool) → not b ≡ false → b ≡ true
 not_false true e = refl

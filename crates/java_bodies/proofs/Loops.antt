@@ -131,9 +131,9 @@ pub all_stop : (p : ℕ → Bool) (n m : ℕ) → n < m → p n ≡ false → fa
 all_stop p n m l e = let q : m ≡ suc ((m - n - 1) + n) = omega (arith, l) in sym (ap (all_below p) q ∙ all_stops p n (m - n - 1) e)
 
 -- statements
-separates_front : (ss : List Sign) (s : Sign) → begins_any separators (s ∷ ss) ≡ separates s
+separates_prefix : (ss : List Sign) (s : Sign) → begins_any separators (s ∷ ss) ≡ separates s
 unfolding begins_any separates
-separates_front ss s = refl
+separates_prefix ss s = refl
 
 statement_step : (s : Sign) (ss : List Sign) → statement_len (s ∷ ss) ≡ (if separates s then 1 else suc (statement_len ss))
 unfolding statement_len
@@ -147,7 +147,7 @@ statement_hit ls i k l e h =
     let d = no_lexeme in
     let a = seen-at ls i d l in
     let s = sign (slice_index_or ls i d) in
-    let b : separates s ≡ true = sym (separates_front (drop (i + 1) (seen ls)) s) ∙ sym (ap (begins_any separators) a) ∙ e in
+    let b : separates s ≡ true = sym (separates_prefix (drop (i + 1) (seen ls)) s) ∙ sym (ap (begins_any separators) a) ∙ e in
     sym (h ∙ ap (λ xs. i + statement_len xs) a ∙ ap (λ n. i + n) (statement_step s _ ∙ picked (separates s) _ _ b))
 
 pub statement_on : (ls : List Lexeme) (i k : ℕ) → i < length ls → begins_any separators (drop i (seen ls)) ≡ false → k ≡ i + statement_len (drop i (seen ls)) → k ≡ (i + 1) + statement_len (drop (i + 1) (seen ls))
@@ -155,7 +155,7 @@ statement_on ls i k l e h =
     let d = no_lexeme in
     let a = seen-at ls i d l in
     let s = sign (slice_index_or ls i d) in
-    let b : separates s ≡ false = sym (separates_front (drop (i + 1) (seen ls)) s) ∙ sym (ap (begins_any separators) a) ∙ e in
+    let b : separates s ≡ false = sym (separates_prefix (drop (i + 1) (seen ls)) s) ∙ sym (ap (begins_any separators) a) ∙ e in
     h ∙ ap (λ xs. i + statement_len xs) a ∙ ap (λ n. i + n) (statement_step s _ ∙ passed_by (separates s) _ _ b) ∙ omega arith
 
 pub statement_end : (ls : List Lexeme) (i k : ℕ) → length ls ≤ i → k ≡ i + statement_len (drop i (seen ls)) → k ≡ i
@@ -165,7 +165,7 @@ statement_end ls i k l h = h ∙ ap (λ xs. i + statement_len xs) (drop_all i (s
 -- the hole's own statement
 separates_at : (ss : List Sign) (k : ℕ) (d : Sign) → k < length ss → begins_any separators (drop k ss) ≡ separates (slice_index_or ss k d)
 separates_at [] k d l = absurd (omega arith)
-separates_at (s ∷ ss) zero d l = separates_front ss s
+separates_at (s ∷ ss) zero d l = separates_prefix ss s
 separates_at (s ∷ ss) (suc k) d l = separates_at ss k d (omega arith)
 
 -- from a place on nothing ends a statement

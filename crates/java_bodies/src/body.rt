@@ -7,7 +7,7 @@ ghost use Rattle.java_bodies.specs.declared.mark.Brackets.TheVariants.{Blocks, R
 use crate::kept::kept_marks;
 use crate::mark::Brackets;
 use crate::openers::openers;
-use java_units::forms::{Lexeme, front};
+use java_units::forms::{Lexeme, prefix};
 use std::alloc::{AllocError, Global};
 use std::marker::Model;
 
@@ -64,7 +64,7 @@ impl<'a, 'b> Body<'a, 'b> {
     ) -> Result<Body<'a, 'b>, AllocError>
         ensures { IfOk result (λ b. b ≡ record { before = take len (seen whole.now); whole = seen whole.now }) }
     {
-        let before = front(whole, len);
+        let before = prefix(whole, len);
         Ok(Body {
             before,
             whole,

@@ -13,7 +13,7 @@ use crate::statements::{is_just, may_begin, named, statement, typed};
 use crate::variables::{Variable, declared, usable};
 use java_units::TypeText;
 use java_units::forms::{
-    Lexeme, begins, begins_name, first_text, front, tail, type_len, type_text,
+    Lexeme, begins, begins_name, first_text, prefix, tail, type_len, type_text,
 };
 use lists::{Items, Text};
 use std::alloc::{AllocError, Global};
@@ -187,7 +187,7 @@ fn inside<'a, 'b>(alloc: Global, header: &'b [Lexeme<'a>]) -> Result<Body<'a, 'b
     ensures { IfOk result (λ b. b ≡ header_signs (seen header.now)) }
 {
     let len = header.len().saturating_sub(1);
-    Body::new(alloc, front(header, len), len)
+    Body::new(alloc, prefix(header, len), len)
 }
 
 /// What the header of a `try` declares.

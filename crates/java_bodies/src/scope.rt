@@ -9,7 +9,7 @@ use crate::headers::{begins_at, header_variables};
 use crate::statements::{is_declaration, named, own_statement, statement};
 use crate::variables::{Variable, declared, of_param};
 use java_units::Param;
-use java_units::forms::{begins, first_text, front, tail};
+use java_units::forms::{begins, first_text, prefix, tail};
 use lists::{Items, Text};
 use std::alloc::{AllocError, Global};
 
@@ -32,7 +32,7 @@ fn header_before(
     }
     match body.opener(k - 1) {
         Some(opening) => {
-            let header = front(
+            let header = prefix(
                 tail(tail(before, opening), 1),
                 (k - 1).saturating_sub(opening),
             );

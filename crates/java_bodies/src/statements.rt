@@ -3,7 +3,7 @@ ghost use Rattle.java_units.specs.Signs.{seen};
 ghost use Rattle.java_bodies.specs.Statements.{statement_len, statement, may_begin, own_statement, typed, named, valued, is_just, is_declaration, is_assignment, is_field_assignment, asked_by};
 
 use java_units::forms::{
-    Lexeme, ahead_len, begins, begins_any, begins_name, dims_len, front, tail, type_len,
+    Lexeme, ahead_len, begins, begins_any, begins_name, dims_len, prefix, tail, type_len,
 };
 
 /// What ends a statement.
@@ -41,7 +41,7 @@ fn statement_len(lexemes: &[Lexeme<'_>]) -> usize
 pub fn statement<'a, 'b>(lexemes: &'b [Lexeme<'a>]) -> &'b [Lexeme<'a>]
     ensures { seen result.now ≡ statement (seen lexemes.now) }
 {
-    front(lexemes, statement_len(lexemes))
+    prefix(lexemes, statement_len(lexemes))
 }
 
 /// Whether a statement may begin at the place.

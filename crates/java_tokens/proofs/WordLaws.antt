@@ -246,9 +246,9 @@ unfolding run_of
 run_parts [] = refl
 run_parts (c ∷ cs) = run_parts_by (is_word_part c) c cs refl (run_parts cs)
 
-front_word : (c : ℕ) (cs : List ℕ) (n : ℕ) → Reads c cs n → is_word (take n (c ∷ cs)) ≡ true
+prefix_word : (c : ℕ) (cs : List ℕ) (n : ℕ) → Reads c cs n → is_word (take n (c ∷ cs)) ≡ true
 unfolding is_word
-front_word c cs n r =
+prefix_word c cs n r =
     subst (λ k. is_word (take k (c ∷ cs)) ≡ true) r.runs (and_true (is_word_start c) (list_all is_word_part (take (run_of WordPart cs) cs)) r.starts (run_parts cs))
 
 scalars_take : (n : ℕ) (cs : List ℕ) → scalars cs ≡ true → scalars (take n cs) ≡ true
@@ -256,27 +256,27 @@ scalars_take zero cs e = refl
 scalars_take (suc n) [] e = refl
 scalars_take (suc n) (c ∷ cs) e = and_true (scalar c) (scalars (take n cs)) (and_left (scalar c) (scalars cs) e) (scalars_take n cs (and_right (scalar c) (scalars cs) e))
 
-cut_text : (text pre front rest : List ℕ) (start end : ℕ) → text ≡ pre ++ (front ++ rest) → start ≡ length pre → end ≡ length pre + length front → take (end - start) (drop start text) ≡ front
-cut_text text pre front rest start end e a b =
-    let size : end - start ≡ length front = omega (arith, a, b) in
-    let left : drop start text ≡ front ++ rest = ap (drop start) e ∙ (ap (λ k. drop k (pre ++ (front ++ rest))) a ∙ drop-append_seam pre (front ++ rest)) in
-    ap (λ k. take k (drop start text)) size ∙ (ap (take (length front)) left ∙ take-append_seam front rest)
+cut_text : (text pre prefix rest : List ℕ) (start end : ℕ) → text ≡ pre ++ (prefix ++ rest) → start ≡ length pre → end ≡ length pre + length prefix → take (end - start) (drop start text) ≡ prefix
+cut_text text pre prefix rest start end e a b =
+    let size : end - start ≡ length prefix = omega (arith, a, b) in
+    let left : drop start text ≡ prefix ++ rest = ap (drop start) e ∙ (ap (λ k. drop k (pre ++ (prefix ++ rest))) a ∙ drop-append_seam pre (prefix ++ rest)) in
+    ap (λ k. take k (drop start text)) size ∙ (ap (take (length prefix)) left ∙ take-append_seam prefix rest)
 
 each_from : (text pre cs : List ℕ) (at : ℕ) (ts : List Token) → text ≡ pre ++ encodes cs → at ≡ length pre → scalars cs ≡ true → AreTokens at cs ts → All (IsWordByText text) ts
 each_from text pre cs at [] e a s are = All-nil (IsWordByText text)
 each_from text pre [] at (t ∷ ts) e a s are = absurd are
 each_from text pre (c ∷ cs) at (t ∷ ts) e a s (n, r, first, last, more) =
     let all = c ∷ cs in
-    let front = encodes (take n all) in
-    let longer = pre ++ front in
-    let e1 : text ≡ pre ++ (front ++ encodes (drop n all)) = e ∙ ap (λ x. pre ++ x) (sym (ap encodes (take-append-drop n all)) ∙ encodes-append (take n all) (drop n all)) in
-    let e2 : text ≡ longer ++ encodes (drop n all) = e1 ∙ sym (append_assoc pre front (encodes (drop n all))) in
+    let prefix = encodes (take n all) in
+    let longer = pre ++ prefix in
+    let e1 : text ≡ pre ++ (prefix ++ encodes (drop n all)) = e ∙ ap (λ x. pre ++ x) (sym (ap encodes (take-append-drop n all)) ∙ encodes-append (take n all) (drop n all)) in
+    let e2 : text ≡ longer ++ encodes (drop n all) = e1 ∙ sym (append_assoc pre prefix (encodes (drop n all))) in
     let size = byte_len-encodes (take n all) in
-    let a2 : t.end ≡ length longer = omega (arith, last, a, size, length-append pre front) in
+    let a2 : t.end ≡ length longer = omega (arith, last, a, size, length-append pre prefix) in
     let from : t.start ≡ length pre = first ∙ a in
-    let to : t.end ≡ length pre + length front = omega (arith, last, a, size) in
-    let same : chars (take (t.end - t.start) (drop t.start text)) ≡ take n all = ap chars (cut_text text pre front (encodes (drop n all)) t.start t.end e1 from to) ∙ chars-encodes (take n all) (scalars_take n all s) in
-    All-cons (IsWordByText text) t ts (λ k. ap is_word same ∙ front_word c cs n (word_reads c cs n (r ∙ ap (λ x. (x, n)) k))) (each_from text longer (drop n all) t.end ts e2 a2 (scalars_drop n all s) more)
+    let to : t.end ≡ length pre + length prefix = omega (arith, last, a, size) in
+    let same : chars (take (t.end - t.start) (drop t.start text)) ≡ take n all = ap chars (cut_text text pre prefix (encodes (drop n all)) t.start t.end e1 from to) ∙ chars-encodes (take n all) (scalars_take n all s) in
+    All-cons (IsWordByText text) t ts (λ k. ap is_word same ∙ prefix_word c cs n (word_reads c cs n (r ∙ ap (λ x. (x, n)) k))) (each_from text longer (drop n all) t.end ts e2 a2 (scalars_drop n all s) more)
 
 each : (text : List ℕ) (ts : List Token) → IsUtf8 text → AreTokens 0 (chars text) ts → All (IsWordByText text) ts
 each text ts u are = each_from text [] (chars text) 0 ts (sym (encodes-chars text u)) refl (scalars-chars text u) are

@@ -235,13 +235,13 @@ only_by l r f s ss m q c =
     let k = shut l r s ss m q (not_right l r (is r s) s f q refl) c in
     rw (q) (read_more l r 0 m ss k (complete l r f ss 0 m k))
 
-no_front : (w : List ℕ) → begins w [] ≡ true → ⊥
+no_prefix : (w : List ℕ) → begins w [] ≡ true → ⊥
 unfolding begins
-no_front w e = absurd (cc)
+no_prefix w e = absurd (cc)
 
 only : (l r : List ℕ) → Apart l r → (ss : List Sign) (n : ℕ) → IsMatched l r ss n → matched l r ss ≡ n
 only l r f ss zero c = absurd (omega (arith, c.some))
-only l r f [] (suc n) c = absurd (no_front l c.opens)
+only l r f [] (suc n) c = absurd (no_prefix l c.opens)
 only l r f (s ∷ ss) (suc m) c = only_by l r f s ss m (begins_at l s ss c.opens) c
 
 pub brackets_match : BracketsMatch

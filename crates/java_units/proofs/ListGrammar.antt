@@ -11,9 +11,9 @@ use Rattle.java_units.specs.Longest.{NamesAreIdentifiers}
 use Rattle.java_units.proofs.Walks.{pick, span-none, span-more}
 use Rattle.java_units.proofs.Dimensions.{span_within}
 
-pub names_behind : (front tail : List Sign) → NamesAreIdentifiers (front ++ tail) → NamesAreIdentifiers tail
+pub names_behind : (prefix tail : List Sign) → NamesAreIdentifiers (prefix ++ tail) → NamesAreIdentifiers tail
 names_behind [] tail f = f
-names_behind (s ∷ front) tail f = names_behind front tail (All-tail (λ s. s.is_name ≡ true → is_identifier s.text ≡ true) s (front ++ tail) f)
+names_behind (s ∷ prefix) tail f = names_behind prefix tail (All-tail (λ s. s.is_name ≡ true → is_identifier s.text ≡ true) s (prefix ++ tail) f)
 
 pub more_some : (n m : ℕ) → n ≡ suc m → more n ≡ suc (suc m)
 more_some n m e = ap more e ∙ pick (suc m) m 0 (suc (suc m)) refl
@@ -51,11 +51,11 @@ many_sound Form len sound xs = let l : length xs ≤ length xs = omega arith in 
 abbrev pub Stops : (List Sign → Type 0) → (List Sign → ℕ) → (List Sign → Type 0) → Type 0
 Stops Form len Ends = (ss : List Sign) → Form ss → (tail : List Sign) → NamesAreIdentifiers (ss ++ tail) → Ends tail → len (ss ++ tail) ≡ length ss
 
-pub span_past : (len : List Sign → ℕ) (front rest : List Sign) → len (front ++ rest) ≡ length front → 0 < length front → span len (front ++ rest) ≡ length front + span len rest
-span_past len front rest e l =
-    let some : length front ≢ 0 = omega arith in
-    let there : 0 < length (front ++ rest) = omega (arith, length-append front rest) in
-    span-more len (front ++ rest) (length front) (sym e) some there ∙ ap (λ xs. length front + span len xs) (drop-append_seam front rest)
+pub span_past : (len : List Sign → ℕ) (prefix rest : List Sign) → len (prefix ++ rest) ≡ length prefix → 0 < length prefix → span len (prefix ++ rest) ≡ length prefix + span len rest
+span_past len prefix rest e l =
+    let some : length prefix ≢ 0 = omega arith in
+    let there : 0 < length (prefix ++ rest) = omega (arith, length-append prefix rest) in
+    span-more len (prefix ++ rest) (length prefix) (sym e) some there ∙ ap (λ xs. length prefix + span len xs) (drop-append_seam prefix rest)
 
 many_ends : (Form Ends : List Sign → Type 0) → ((ss : List Sign) → Form ss → (tail : List Sign) → Ends (ss ++ tail)) → (ss : List Sign) → IsMany Form ss → (tail : List Sign) → Ends tail → Ends (ss ++ tail)
 many_ends Form Ends ends _ no_more tail h = h
@@ -138,9 +138,9 @@ list_sound between Form len tail reads sound within ss p =
 
 -- such a list is read whole where its forms are, and the sign between ends one
 
-past_first : (len tail : List Sign → ℕ) (front rest : List Sign) → len (front ++ rest) ≡ length front → list_len len tail (front ++ rest) ≡ length front + span tail rest
+past_first : (len tail : List Sign → ℕ) (prefix rest : List Sign) → len (prefix ++ rest) ≡ length prefix → list_len len tail (prefix ++ rest) ≡ length prefix + span tail rest
 unfolding list_len
-past_first len tail front rest e = ap (λ n. n + span tail (drop n (front ++ rest))) e ∙ ap (λ xs. length front + span tail xs) (drop-append_seam front rest)
+past_first len tail prefix rest e = ap (λ n. n + span tail (drop n (prefix ++ rest))) e ∙ ap (λ xs. length prefix + span tail xs) (drop-append_seam prefix rest)
 
 pub first_some : (between : List ℕ) (Form : List Sign → Type 0) → ((ss : List Sign) → Form ss → 0 < length ss) → (ss : List Sign) → IsList between Form ss → 0 < length ss
 first_some between Form some _ (last ss a) = some ss a

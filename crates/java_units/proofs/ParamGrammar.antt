@@ -45,7 +45,7 @@ called_one _ (one _ (identifier s e)) = refl
 called_one _ (other _ (sign s e)) = refl
 
 -- what a name or `this` at the front is not
-pub record CalledFront (ss : List Sign) : Type 0 where
+pub record CalledPrefix (ss : List Sign) : Type 0 where
   pub no_angle : begins (codes "<") ss ≡ false
   pub no_dot : begins (codes ".") ss ≡ false
   pub no_square : begins (codes "[") ss ≡ false
@@ -53,15 +53,15 @@ pub record CalledFront (ss : List Sign) : Type 0 where
 this_differs : (a : ℕ) (w : List ℕ) → w ≡ a ∷ [] → w ≢ codes "this"
 this_differs a w e h = let l : 1 ≡ 4 = ap length (sym e ∙ h) in absurd (omega (arith, l))
 
-pub called_front : (name : List Sign) → IsCalled name → (rest : List Sign) → NamesAreIdentifiers (name ++ rest) → CalledFront (name ++ rest)
-called_front _ (one _ (identifier s e)) rest f =
+pub called_prefix : (name : List Sign) → IsCalled name → (rest : List Sign) → NamesAreIdentifiers (name ++ rest) → CalledPrefix (name ++ rest)
+called_prefix _ (one _ (identifier s e)) rest f =
     let n = first_named s rest f in
     record {
       no_angle = begins_not (codes "<") s rest (named_not (codes "<") s no_identifier-angle n e);
       no_dot = begins_not (codes ".") s rest (named_not (codes ".") s no_identifier-dot n e);
       no_square = begins_not (codes "[") s rest (named_not (codes "[") s no_identifier-square n e);
     }
-called_front _ (other _ (sign s e)) rest f = record {
+called_prefix _ (other _ (sign s e)) rest f = record {
   no_angle = begins_not (codes "<") s rest (is_other (codes "<") (codes "this") (this_differs 60 (codes "<") refl) s e);
   no_dot = begins_not (codes ".") s rest (is_other (codes ".") (codes "this") (this_differs 46 (codes ".") refl) s e);
   no_square = begins_not (codes "[") s rest (is_other (codes "[") (codes "this") (this_differs 91 (codes "[") refl) s e);
@@ -77,11 +77,11 @@ three_dots : (a b c : Sign) (ss : List Sign) → is (codes ".") a ≡ true → i
 unfolding dots_len begins
 three_dots a b c ss e f g = rw (e, f, g) refl
 
-pub dots_just : (dots : List Sign) → IsOptional IsDots dots → (rest : List Sign) → CalledFront rest → dots_len (dots ++ rest) ≡ length dots
+pub dots_just : (dots : List Sign) → IsOptional IsDots dots → (rest : List Sign) → CalledPrefix rest → dots_len (dots ++ rest) ≡ length dots
 dots_just _ absent rest h = no_dots rest h.no_dot
 dots_just _ (present _ (both _ _ (sign a e) (both _ _ (sign b f) (sign c g)))) rest h = three_dots a b c rest e f g
 
-pub dots_end : (dots : List Sign) → IsOptional IsDots dots → (rest : List Sign) → NamesAreIdentifiers (dots ++ rest) → CalledFront rest → TypeEnds (dots ++ rest)
+pub dots_end : (dots : List Sign) → IsOptional IsDots dots → (rest : List Sign) → NamesAreIdentifiers (dots ++ rest) → CalledPrefix rest → TypeEnds (dots ++ rest)
 dots_end _ absent rest f h = record { no_angle = h.no_angle; no_part = no_name_tail rest h.no_dot; no_dim = no_dim rest h.no_square }
 dots_end _ (present _ (both _ _ (sign a e) (both _ _ (sign b g) (sign c i)))) rest f h =
     let more = b ∷ c ∷ rest in
@@ -93,14 +93,14 @@ dots_end _ (present _ (both _ _ (sign a e) (both _ _ (sign b g) (sign c i)))) re
 
 -- the type
 
-pub record TypeFront (ss : List Sign) : Type 0 where
+pub record TypePrefix (ss : List Sign) : Type 0 where
   pub no_at : begins (codes "@") ss ≡ false
   pub no_round : begins (codes "(") ss ≡ false
   pub no_dot : begins (codes ".") ss ≡ false
   pub no_final : begins (codes "final") ss ≡ false
 
-named_front : (s : Sign) (ss : List Sign) → NamesAreIdentifiers (s ∷ ss) → s.is_name ≡ true → TypeFront (s ∷ ss)
-named_front s ss f e =
+named_prefix : (s : Sign) (ss : List Sign) → NamesAreIdentifiers (s ∷ ss) → s.is_name ≡ true → TypePrefix (s ∷ ss)
+named_prefix s ss f e =
     let n = first_named s ss f in
     record {
       no_at = begins_not (codes "@") s ss (named_not (codes "@") s no_identifier-at n e);
@@ -109,18 +109,18 @@ named_front s ss f e =
       no_final = begins_not (codes "final") s ss (named_not (codes "final") s no_identifier-final n e);
     }
 
-primitive_front : (s : Sign) (ss : List Sign) → has primitives s.text ≡ true → TypeFront (s ∷ ss)
-primitive_front s ss e = record {
+primitive_prefix : (s : Sign) (ss : List Sign) → has primitives s.text ≡ true → TypePrefix (s ∷ ss)
+primitive_prefix s ss e = record {
   no_at = begins_not (codes "@") s ss (primitive_not (codes "@") s no_primitive-at e);
   no_round = begins_not (codes "(") s ss (primitive_not (codes "(") s no_primitive-round e);
   no_dot = begins_not (codes ".") s ss (primitive_not (codes ".") s no_primitive-dot e);
   no_final = begins_not (codes "final") s ss (primitive_not (codes "final") s no_primitive-final e);
 }
 
-pub type_front : (ss : List Sign) → IsType ss → (tail : List Sign) → NamesAreIdentifiers (ss ++ tail) → TypeFront (ss ++ tail)
-type_front _ (both _ dims (one _ (primitive s e)) d) tail f = primitive_front s (dims ++ tail) e
-type_front _ (both _ dims (other _ (last _ (both _ arguments (identifier s e) a))) d) tail f = named_front s ((arguments ++ dims) ++ tail) f e
-type_front _ (both _ dims (other _ (followed _ dot others (both _ arguments (identifier s e) a) i c)) d) tail f = named_front s (((arguments ++ (dot ∷ others)) ++ dims) ++ tail) f e
+pub type_prefix : (ss : List Sign) → IsType ss → (tail : List Sign) → NamesAreIdentifiers (ss ++ tail) → TypePrefix (ss ++ tail)
+type_prefix _ (both _ dims (one _ (primitive s e)) d) tail f = primitive_prefix s (dims ++ tail) e
+type_prefix _ (both _ dims (other _ (last _ (both _ arguments (identifier s e) a))) d) tail f = named_prefix s ((arguments ++ dims) ++ tail) f e
+type_prefix _ (both _ dims (other _ (followed _ dot others (both _ arguments (identifier s e) a) i c)) d) tail f = named_prefix s (((arguments ++ (dot ∷ others)) ++ dims) ++ tail) f e
 
 -- `final`
 
@@ -132,21 +132,21 @@ pub no_final_len : (ss : List Sign) → begins (codes "final") ss ≡ false → 
 unfolding final_len
 no_final_len ss e = rw (e) refl
 
-final_just : (ss : List Sign) → IsOptional (IsSign (codes "final")) ss → (rest : List Sign) → TypeFront rest → final_len (ss ++ rest) ≡ length ss
+final_just : (ss : List Sign) → IsOptional (IsSign (codes "final")) ss → (rest : List Sign) → TypePrefix rest → final_len (ss ++ rest) ≡ length ss
 final_just _ absent rest h = no_final_len rest h.no_final
 final_just _ (present _ (sign s e)) rest h = final_at s rest e
 
 final_differs : (a : ℕ) (w : List ℕ) → w ≡ a ∷ [] → w ≢ codes "final"
 final_differs a w e h = let l : 1 ≡ 5 = ap length (sym e ∙ h) in absurd (omega (arith, l))
 
-final_ends : (ss : List Sign) → IsOptional (IsSign (codes "final")) ss → (rest : List Sign) → TypeFront rest → AnnotationEnds (ss ++ rest)
+final_ends : (ss : List Sign) → IsOptional (IsSign (codes "final")) ss → (rest : List Sign) → TypePrefix rest → AnnotationEnds (ss ++ rest)
 final_ends _ absent rest h = record { no_round = h.no_round; no_dot = h.no_dot }
 final_ends _ (present _ (sign s e)) rest h = record {
   no_round = begins_not (codes "(") s rest (is_other (codes "(") (codes "final") (final_differs 40 (codes "(") refl) s e);
   no_dot = begins_not (codes ".") s rest (is_other (codes ".") (codes "final") (final_differs 46 (codes ".") refl) s e);
 }
 
-final_no_at : (ss : List Sign) → IsOptional (IsSign (codes "final")) ss → (rest : List Sign) → TypeFront rest → begins (codes "@") (ss ++ rest) ≡ false
+final_no_at : (ss : List Sign) → IsOptional (IsSign (codes "final")) ss → (rest : List Sign) → TypePrefix rest → begins (codes "@") (ss ++ rest) ≡ false
 final_no_at _ absent rest h = h.no_at
 final_no_at _ (present _ (sign s e)) rest h = begins_not (codes "@") s rest (is_other (codes "@") (codes "final") (final_differs 64 (codes "@") refl) s e)
 
@@ -171,7 +171,7 @@ param_at ss a n m e w c =
     let c1 : called_len (drop (wide_len zs) zs) ≡ suc m = ap (λ k. called_len (drop k zs)) w1 ∙ (ap (λ k. called_len (drop (suc n) (drop k ss))) e ∙ c) in
     two_picks (wide_len zs) (called_len (drop (wide_len zs) zs)) (ahead_len ss) n m w1 c1 ∙ ap (λ k. (k + suc n) + suc m) e
 
-pub wide_just : (kind dots rest : List Sign) → IsType kind → IsOptional IsDots dots → NamesAreIdentifiers (kind ++ (dots ++ rest)) → CalledFront rest → wide_len (kind ++ (dots ++ rest)) ≡ length kind + length dots
+pub wide_just : (kind dots rest : List Sign) → IsType kind → IsOptional IsDots dots → NamesAreIdentifiers (kind ++ (dots ++ rest)) → CalledPrefix rest → wide_len (kind ++ (dots ++ rest)) ≡ length kind + length dots
 wide_just kind dots rest t d f h =
     let behind = names_behind kind (dots ++ rest) f in
     let size = type_just kind t (dots ++ rest) f (dots_end dots d rest behind h) in
@@ -180,7 +180,7 @@ wide_just kind dots rest t d f h =
     let past : dots_len (drop (suc there.0) all) ≡ dots_len (dots ++ rest) = ap (λ k. dots_len (drop k all)) (sym there.1) ∙ ap dots_len (drop-append_seam kind (dots ++ rest)) in
     omega (arith, wide_at all there.0 (size ∙ there.1), past, dots_just dots d rest h, there.1)
 
-pub ahead_just : (marks fin rest : List Sign) → IsMany IsAnnotation marks → IsOptional (IsSign (codes "final")) fin → NamesAreIdentifiers (marks ++ (fin ++ rest)) → TypeFront rest → ahead_len (marks ++ (fin ++ rest)) ≡ length marks + length fin
+pub ahead_just : (marks fin rest : List Sign) → IsMany IsAnnotation marks → IsOptional (IsSign (codes "final")) fin → NamesAreIdentifiers (marks ++ (fin ++ rest)) → TypePrefix rest → ahead_len (marks ++ (fin ++ rest)) ≡ length marks + length fin
 ahead_just marks fin rest m n f h =
     let all = marks ++ (fin ++ rest) in
     let none = no_annotation (fin ++ rest) (final_no_at fin n rest h) in
@@ -198,9 +198,9 @@ param_reads marks fin kind dots name rest m n t d c f =
     let all = marks ++ (fin ++ x2) in
     let f2 = names_behind fin x2 (names_behind marks (fin ++ x2) f) in
     let f4 = names_behind dots x4 (names_behind kind (dots ++ x4) f2) in
-    let front = called_front name c rest f4 in
-    let ahead = ahead_just marks fin x2 m n f (type_front kind t (dots ++ x4) f2) in
-    let wide = wide_just kind dots x4 t d f2 front in
+    let prefix = called_prefix name c rest f4 in
+    let ahead = ahead_just marks fin x2 m n f (type_prefix kind t (dots ++ x4) f2) in
+    let wide = wide_just kind dots x4 t d f2 prefix in
     let some : 0 < length kind + length dots = omega (arith, type_some kind t) in
     let there = suc_of (length kind + length dots) some in
     let w : wide_len (drop (length marks + length fin) all) ≡ suc there.0 = ap wide_len (past_two marks fin x2) ∙ (wide ∙ there.1) in

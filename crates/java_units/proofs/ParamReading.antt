@@ -13,7 +13,7 @@ use Rattle.java_units.specs.Trees.{spelled_dims, spelled_type, with_dims, called
 use Rattle.java_units.proofs.TypeGrammar.{type_just}
 use Rattle.java_units.proofs.ListGrammar.{names_behind}
 use Rattle.java_units.proofs.TypeReading.{type_read, dims_length}
-use Rattle.java_units.proofs.ParamGrammar.{IsCalled, called_front, called_one, type_front, ahead_just, wide_just, past_two, dots_just, dots_end, regroup, size_of, param_reads, param_within}
+use Rattle.java_units.proofs.ParamGrammar.{IsCalled, called_prefix, called_one, type_prefix, ahead_just, wide_just, past_two, dots_just, dots_end, regroup, size_of, param_reads, param_within}
 
 called_first : (name : List Sign) (c : IsCalled name) (rest : List Sign) → first_text (name ++ rest) ≡ called_text name c
 unfolding first_text
@@ -38,13 +38,13 @@ typed_read kind dots name rest t d c count f size =
     let x3 = dots ++ x4 in
     let x2 = kind ++ x3 in
     let f3 = names_behind kind x3 f in
-    let front = called_front name c rest (names_behind dots x4 f3) in
-    let kinds = type_just kind t x3 f (dots_end dots d x4 f3 front) in
-    let wide : drop (wide_len x2) x2 ≡ x4 = ap (λ k. drop k x2) (wide_just kind dots x4 t d f front) ∙ past_two kind dots x4 in
+    let prefix = called_prefix name c rest (names_behind dots x4 f3) in
+    let kinds = type_just kind t x3 f (dots_end dots d x4 f3 prefix) in
+    let wide : drop (wide_len x2) x2 ≡ x4 = ap (λ k. drop k x2) (wide_just kind dots x4 t d f prefix) ∙ past_two kind dots x4 in
     let called : first_text (drop (wide_len x2) x2) ≡ called_text name c = ap first_text wide ∙ called_first name c rest in
     let past : dots_len (drop (type_len x2) x2) ≡ dots_len x3 = ap dots_len (ap (λ k. drop k x2) kinds ∙ drop-append_seam kind x3) in
     let behind : dims_len (drop 1 (drop (wide_len x2) x2)) ≡ dims_len rest = ap (λ xs. dims_len (drop 1 xs)) wide ∙ ap (λ xs. dims_len xs) (called_past name c rest) in
-    let more : dots_len (drop (type_len x2) x2) / 3 + dims_len (drop 1 (drop (wide_len x2) x2)) / 2 ≡ spelled_dots dots d + count = omega (arith, past, dots_just dots d x4 front, dots_length dots d, behind, size) in
+    let more : dots_len (drop (type_len x2) x2) / 3 + dims_len (drop 1 (drop (wide_len x2) x2)) / 2 ≡ spelled_dots dots d + count = omega (arith, past, dots_just dots d x4 prefix, dots_length dots d, behind, size) in
     let text = ap (λ k. type_text k x2) more ∙ type_read (spelled_dots dots d + count) kind t x3 f kinds in
     same_param (first_text (drop (wide_len x2) x2)) (called_text name c) (type_text (dots_len (drop (type_len x2) x2) / 3 + dims_len (drop 1 (drop (wide_len x2) x2)) / 2) x2) (with_dims (spelled_dots dots d + count) (spelled_type kind t)) called text
 
@@ -58,7 +58,7 @@ param_read _ (both marks _ m (both fin _ n (both kind _ t (both dots _ d (both n
     let g2 = names_behind fin x2 (names_behind marks (fin ++ x2) g) in
     let whole = param_reads marks fin kind dots name (dims ++ tail) m n t d c g in
     let count : dims_len (dims ++ tail) ≡ 2 * spelled_dims dims ds = omega (arith, ap param_len same, size, whole, size_of marks fin kind dots name dims, called_one name c, dims_length dims ds) in
-    let ahead : drop (ahead_len all) all ≡ x2 = ap (λ k. drop k all) (ahead_just marks fin x2 m n g (type_front kind t (dots ++ (name ++ (dims ++ tail))) g2)) ∙ past_two marks fin x2 in
+    let ahead : drop (ahead_len all) all ≡ x2 = ap (λ k. drop k all) (ahead_just marks fin x2 m n g (type_prefix kind t (dots ++ (name ++ (dims ++ tail))) g2)) ∙ past_two marks fin x2 in
     ap (λ xs. typed_param (drop (ahead_len xs) xs)) same ∙ (ap typed_param ahead ∙ typed_read kind dots name (dims ++ tail) t d c (spelled_dims dims ds) g2 count)
 
 pub params_are_read : ParamsAreRead

@@ -100,7 +100,7 @@ pub no_primitive-end : has primitives (codes ")") ≡ false
 unfolding has
 no_primitive-end = refl
 
--- what the front of the signs says
+-- what the prefix of the signs says
 
 pub begins_not : (w : List ℕ) (s : Sign) (ss : List Sign) → is w s ≡ false → begins w (s ∷ ss) ≡ false
 unfolding begins

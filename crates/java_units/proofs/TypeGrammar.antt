@@ -411,7 +411,7 @@ pub type_some : (ss : List Sign) → IsType ss → 0 < length ss
 type_some _ (both _ dims (one _ (primitive word e)) d) = omega arith
 type_some _ (both name dims (other _ c) d) = omega (arith, class_some name c, length-append name dims)
 
--- what holds of the form with something behind it holds of each front
+-- what holds of the form with something behind it holds of each prefix
 pub takes_longest : (Spells : List Sign → Type 0) (len : List Sign → ℕ) → ((ss : List Sign) → len ss ≤ length ss) → ((ss : List Sign) → 0 < len ss → Spells (take (len ss) ss)) → ((ss : List Sign) → Spells ss → 0 < length ss) → ((ss : List Sign) → Spells ss → (tail : List Sign) → NamesAreIdentifiers (ss ++ tail) → length ss ≤ len (ss ++ tail)) → (ss : List Sign) → NamesAreIdentifiers ss → TakesLongest Spells len ss
 takes_longest Spells len within sound some least ss free = record {
   within = within ss;

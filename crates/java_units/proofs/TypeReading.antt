@@ -163,10 +163,10 @@ dims_length _ (one_more _ others (both _ _ (sign a e) (sign b g)) d) = omega (ar
 same_type : (p q : List (List ℕ)) (m n : ℕ) → p ≡ q → m ≡ n → ◌≡◌ {A = TypeText} (record { parts = p; dims = m }) (record { parts = q; dims = n })
 same_type p q m n e h = ap {B = TypeText} (λ x. record { parts = x; dims = m }) e ∙ ap {B = TypeText} (λ x. record { parts = q; dims = x }) h
 
-names_front : (front tail : List Sign) → NamesAreIdentifiers (front ++ tail) → NamesAreIdentifiers front
-names_front [] tail f = All-nil (λ s. s.is_name ≡ true → is_identifier s.text ≡ true)
-names_front (s ∷ front) tail f =
-    All-cons (λ s. s.is_name ≡ true → is_identifier s.text ≡ true) s front (All-head (λ s. s.is_name ≡ true → is_identifier s.text ≡ true) s (front ++ tail) f) (names_front front tail (All-tail (λ s. s.is_name ≡ true → is_identifier s.text ≡ true) s (front ++ tail) f))
+names_prefix : (prefix tail : List Sign) → NamesAreIdentifiers (prefix ++ tail) → NamesAreIdentifiers prefix
+names_prefix [] tail f = All-nil (λ s. s.is_name ≡ true → is_identifier s.text ≡ true)
+names_prefix (s ∷ prefix) tail f =
+    All-cons (λ s. s.is_name ≡ true → is_identifier s.text ≡ true) s prefix (All-head (λ s. s.is_name ≡ true → is_identifier s.text ≡ true) s (prefix ++ tail) f) (names_prefix prefix tail (All-tail (λ s. s.is_name ≡ true → is_identifier s.text ≡ true) s (prefix ++ tail) f))
 
 name_stops : (name dims tail : List Sign) → IsClassType name → IsDims dims → NamesAreIdentifiers (name ++ (dims ++ tail)) → type_len (name ++ (dims ++ tail)) ≡ length name + length dims → parts_len (name ++ (dims ++ tail)) ≡ length name
 name_stops name _ tail c no_more f size = omega (arith, class_least name c tail, class_len (name ++ tail) f (class_names name c tail), size)
@@ -180,7 +180,7 @@ class_type_read extra name dims tail c d f size =
     let names = class_names name c (dims ++ tail) in
     let stops = name_stops name dims tail c d f size in
     let base = base_class all (not_primitive all f names) names ∙ stops in
-    let parts : parts_of 0 (take (base_len all) all) ≡ trees.class_names name c = ap (λ k. parts_of 0 (take k all)) base ∙ (ap (parts_of 0) (take-append_seam name (dims ++ tail)) ∙ class_read name c (names_front name (dims ++ tail) f)) in
+    let parts : parts_of 0 (take (base_len all) all) ≡ trees.class_names name c = ap (λ k. parts_of 0 (take k all)) base ∙ (ap (parts_of 0) (take-append_seam name (dims ++ tail)) ∙ class_read name c (names_prefix name (dims ++ tail) f)) in
     let past : dims_len (drop (parts_len all) all) ≡ dims_len (drop (base_len all) all) = ap (λ k. dims_len (drop k all)) (stops ∙ sym base) in
     let count : dims_len (drop (base_len all) all) / 2 + extra ≡ spelled_dims dims d + extra = omega (arith, class_len all f names, stops, past, size, dims_length dims d) in
     same_type (parts_of 0 (take (base_len all) all)) (trees.class_names name c) (dims_len (drop (base_len all) all) / 2 + extra) (spelled_dims dims d + extra) parts count

@@ -16,8 +16,8 @@ NamesAreIdentifiers ss = All (λ s. s.is_name ≡ true → is_identifier s.text 
 abbrev pub TextsHaveNames : Type 0
 TextsHaveNames = (text : List ℕ) (tokens : List Token) → IsUtf8 text → AreTokensOf text tokens → NamesAreIdentifiers (signs_of text tokens)
 
--- At the front of these signs the reader takes a form that the grammar spells, and no longer front is spelled;
--- where it takes nothing, no front is.
+-- At the front of these signs the reader takes a form that the grammar spells, and no longer prefix is spelled;
+-- where it takes nothing, no prefix is.
 pub record TakesLongest (Spells : List Sign → Type 0) (len : List Sign → ℕ) (ss : List Sign) : Type 0 where
   pub within : len ss ≤ length ss
   pub sound : 0 < len ss → Spells (take (len ss) ss)

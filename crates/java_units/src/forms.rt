@@ -5,7 +5,7 @@ ghost use Rattle.java_units.specs.Signs.{seen};
 ghost use Rattle.java_units.specs.Forms.{begins_any, modifiers, annotation_len, modifier_len, non_sealed_len, lead_len, bound_len, bounds_len, var_len, final_len, dots_len, ahead_len, wide_len, called_len, param_len, span};
 
 pub use crate::entries::{Entry, declared_len, entries_len, entry_len};
-pub use crate::lexemes::{Lexeme, begins, begins_any, begins_name, front, is, same, tail};
+pub use crate::lexemes::{Lexeme, begins, begins_any, begins_name, is, prefix, same, tail};
 pub use crate::members::held_len;
 use crate::names::rounds;
 pub use crate::names::{base_len, dims_len, name_len, type_len};

@@ -21,7 +21,7 @@ pub fn brackets_match()
     ensures law { BracketsMatch }
 {}
 
-/// Reading a type takes the longest front that the grammar of types spells.
+/// Reading a type takes the longest prefix that the grammar of types spells.
 pub fn types_are_longest()
     ensures law { TypesAreLongest }
 {}
@@ -33,13 +33,13 @@ pub fn identifier_laws()
     ensures named { TextsHaveNames }
 {}
 
-/// Reading a parameter, and parameters in brackets, takes the longest front that the grammar spells.
+/// Reading a parameter, and parameters in brackets, takes the longest prefix that the grammar spells.
 pub fn params_are_longest()
     ensures one { ParamsAreLongest }
     ensures lists { ParamListsAreLongest }
 {}
 
-/// Reading type variables takes the longest front that the grammar of type variables spells.
+/// Reading type variables takes the longest prefix that the grammar of type variables spells.
 pub fn vars_are_longest()
     ensures law { VarsAreLongest }
 {}

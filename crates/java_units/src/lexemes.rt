@@ -28,7 +28,7 @@ pub fn tail<'a, 'b>(lexemes: &'b [Lexeme<'a>], n: usize) -> &'b [Lexeme<'a>]
 
 /// The first n, or all.
 #[tactic(auto, using(crate::proofs::Walks::walks))]
-pub fn front<'a, 'b>(lexemes: &'b [Lexeme<'a>], n: usize) -> &'b [Lexeme<'a>]
+pub fn prefix<'a, 'b>(lexemes: &'b [Lexeme<'a>], n: usize) -> &'b [Lexeme<'a>]
     ensures first { seen result.now ≡ take n (seen lexemes.now) }
 {
     if n >= lexemes.len() {

@@ -4,7 +4,7 @@ ghost use Rattle.java_units.specs.Pieces.{ends, sets, head_len, head, end, end_l
 
 use crate::entries::{deeper, stops};
 use crate::forms::leads_len;
-use crate::lexemes::{Lexeme, front, is, tail};
+use crate::lexemes::{Lexeme, is, prefix, tail};
 
 /// Whether the lexeme ends the head of a piece.
 #[tactic(auto, unfolding(crate::specs::Pieces::ends))]
@@ -45,7 +45,7 @@ fn head_len(lexemes: &[Lexeme<'_>]) -> usize
 pub fn head<'a, 'b>(lexemes: &'b [Lexeme<'a>]) -> &'b [Lexeme<'a>]
     ensures { seen result.now ≡ head (seen lexemes.now) }
 {
-    front(lexemes, head_len(lexemes))
+    prefix(lexemes, head_len(lexemes))
 }
 
 /// The end of a piece and what follows.
@@ -91,7 +91,7 @@ pub fn held<'a, 'b>(lexemes: &'b [Lexeme<'a>]) -> &'b [Lexeme<'a>]
     if lexemes.is_empty() {
         return &[];
     }
-    front(tail(lexemes, 1), lexemes[0].holds)
+    prefix(tail(lexemes, 1), lexemes[0].holds)
 }
 
 /// The head without its annotations and modifiers.

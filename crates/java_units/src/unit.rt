@@ -8,7 +8,7 @@ ghost use Rattle.java_units.specs.UnitLaws.{AreFew, HasUnit, IsNested, IsOnlyUni
 ghost use Rattle.java_units.specs.Dimensions.{HasFewDims};
 
 use crate::class::{Around, class_of, members_of};
-use crate::lexemes::{Lexeme, front, tail};
+use crate::lexemes::{Lexeme, prefix, tail};
 use crate::members::short;
 use crate::names::name_len;
 use crate::pieces::{Form, bare, piece_len};
@@ -134,7 +134,7 @@ fn import_of(alloc: Global, lexemes: &[Lexeme<'_>]) -> Result<Import, AllocError
     ensures { IfOk result (λ import. import ≡ import_of (seen lexemes.now)) }
 {
     let n = name_len(lexemes);
-    let parts = parts(alloc, front(lexemes, n))?;
+    let parts = parts(alloc, prefix(lexemes, n))?;
     Ok(Import {
         parts,
         star: star_len(tail(lexemes, n)) != 0,

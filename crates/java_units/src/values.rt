@@ -6,7 +6,7 @@ ghost use Rattle.java_units.specs.Values.{first_text, angled, takes, parts_of, t
 
 use crate::entries::{Entry, vars_len};
 use crate::forms::{ahead_len, bounds_len, dots_len, wide_len};
-use crate::lexemes::{Lexeme, begins_any, front, is, same, tail};
+use crate::lexemes::{Lexeme, begins_any, is, prefix, same, tail};
 use crate::names::{base_len, dims_len, type_len};
 use crate::starts::entries;
 use crate::types::{Param, SourceField, TypeText, TypeVar};
@@ -72,7 +72,7 @@ pub fn type_text(alloc: Global, extra: u64, lexemes: &[Lexeme<'_>]) -> Result<Ty
     ensures exact { IfOk result (λ all. all ≡ type_text extra (seen lexemes.now)) }
 {
     let n = base_len(lexemes);
-    let parts = parts(alloc, front(lexemes, n))?;
+    let parts = parts(alloc, prefix(lexemes, n))?;
     let own = dims_len(tail(lexemes, n)) / 2;
     Ok(TypeText {
         parts,

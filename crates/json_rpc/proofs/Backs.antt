@@ -20,7 +20,7 @@ use Rattle.json_rpc.specs.declared.header.Step.TheVariants.{On, Done, Stop, Twic
 use Rattle.json_rpc.specs.declared.header.Reading.{Reading}
 use Rattle.json_rpc.specs.declared.header.Reading.TheVariants.{More, Whole, Bad}
 
--- a front of what leads on leads on
+-- a prefix of what leads on leads on
 prefix-step : (s : Step) (xs ys : List ℕ) (k : Head) → onward s (λ g. run g (xs ++ ys)) ≡ Some k → ((g : Head) → run g (xs ++ ys) ≡ Some k → (m : Head) × (run g xs ≡ Some m)) → (m : Head) × (onward s (λ g. run g xs) ≡ Some m)
 prefix-step (On g) xs ys k e f = f g e
 prefix-step Done xs ys k e f = absurd cc
@@ -37,16 +37,16 @@ lines-run lines [] a e l = (_, run-none lines (13 ∷ []) 0 0 false a e ∙ line
 lines-run lines (n ∷ []) a e l = let one = run-one lines (13 ∷ []) n 0 a e in (_, one.1 ∙ line-last 0 (one.0) n true)
 lines-run lines (n ∷ m ∷ more) a e l = absurd (omega (arith, l))
 
-pub goes-run : (front : List ℕ) → GoesOn front → (h : Head) × (run start front ≡ Some h)
-goes-run front g =
+pub goes-run : (prefix : List ℕ) → GoesOn prefix → (h : Head) × (run start prefix ≡ Some h)
+goes-run prefix g =
     let lines = g.begins.lines.lines in
     let all : List ℕ = flat_map line_text lines ++ (13 ∷ []) in
-    let spelled : front ++ g.more ≡ all ++ (10 ∷ []) = g.begins.lines.spelled ∙ sym (append_assoc (flat_map line_text lines) (13 ∷ []) (10 ∷ [])) in
-    let short : length front ≤ length all = omega (arith, ap length spelled, length-append front g.more, length-append all (10 ∷ []), g.some) in
-    let same : front ≡ take (length front) all = sym (take-append_seam front g.more) ∙ ap (take (length front)) spelled ∙ take-append-le (length front) all (10 ∷ []) short in
-    let split : front ++ drop (length front) all ≡ all = ap (λ v. v ++ drop (length front) all) same ∙ take-append-drop (length front) all in
+    let spelled : prefix ++ g.more ≡ all ++ (10 ∷ []) = g.begins.lines.spelled ∙ sym (append_assoc (flat_map line_text lines) (13 ∷ []) (10 ∷ [])) in
+    let short : length prefix ≤ length all = omega (arith, ap length spelled, length-append prefix g.more, length-append all (10 ∷ []), g.some) in
+    let same : prefix ≡ take (length prefix) all = sym (take-append_seam prefix g.more) ∙ ap (take (length prefix)) spelled ∙ take-append-le (length prefix) all (10 ∷ []) short in
+    let split : prefix ++ drop (length prefix) all ≡ all = ap (λ v. v ++ drop (length prefix) all) same ∙ take-append-drop (length prefix) all in
     let r = lines-run lines g.begins.lengths g.begins.lines.each g.begins.lines.tell g.begins.one in
-    run-prefix front (drop (length front) all) start (r.0) (ap (run start) split ∙ r.1)
+    run-prefix prefix (drop (length prefix) all) start (r.0) (ap (run start) split ∙ r.1)
 
 -- what is known where bytes have led on, and how a reading goes on from there
 pub record Led (done xs : List ℕ) (n line : ℕ) (h g : Head) : Type 0 where
@@ -85,17 +85,17 @@ run-led (b ∷ xs) done n line h g r q e l =
     let P : ℕ → Type 0 = λ v. Read k (line_after v line k.mode) (done ++ (b ∷ [])) in
     run-led xs (done ++ (b ∷ [])) (n + 1) (line_after n line k.mode) k g (subst P q (read-on h k line b done r f)) (omega (arith, q, length-append done (b ∷ []))) u (omega (arith, l)))
 
-pub front-led : (front : List ℕ) (g : Head) → run start front ≡ Some g → length front ≤ 8192 → Led [] front 0 0 start g
-front-led front g e l = run-led front [] 0 0 start g read-start refl e (omega (arith, l))
+pub prefix-led : (prefix : List ℕ) (g : Head) → run start prefix ≡ Some g → length prefix ≤ 8192 → Led [] prefix 0 0 start g
+prefix-led prefix g e l = run-led prefix [] 0 0 start g read-start refl e (omega (arith, l))
 
 -- the 8,193rd byte
 long-back : (bytes : List ℕ) → 8192 < length bytes → GoesOn (take 8192 bytes) → scan_from 0 0 start bytes ≡ Bad 8192
 long-back bytes l g =
-    let front = take 8192 bytes in
+    let prefix = take 8192 bytes in
     let many : length (take 8192 bytes) ≡ 8192 = omega (arith, length-take 8192 bytes, l) in
     let place : 0 + length (take 8192 bytes) ≡ 8192 = omega (arith, many) in
-    let r = goes-run front g in
-    let led = front-led front (r.0) (r.1) (omega (arith, many)) in
+    let r = goes-run prefix g in
+    let led = prefix-led prefix (r.0) (r.1) (omega (arith, many)) in
     ap (scan_from 0 0 start) (sym (take-append-drop 8192 bytes)) ∙ led.scan (drop 8192 bytes) ∙ ap (λ m. scan_from m led.end (r.0) (drop 8192 bytes)) place
     ∙ scan-long 8192 led.end (r.0) bytes 8192 l (lit≤ tt)
 
@@ -109,29 +109,29 @@ whole-begins bytes h r =
     let P : List ℕ → Type 0 = λ v. AreHeaderLines v r.lengths in
     record { lengths = r.lengths; one = one-told h.told h.length r.lengths r.told r.none; lines = subst P (sym (append-nil bytes)) r.lines }
 
-unfit-stop : (bytes front : List ℕ) (place line b : ℕ) (h : Head) (s : Step) → IsUnfit bytes place → take (place + 1) bytes ≡ front ++ (b ∷ []) → length front ≡ place → Read h line front → step h b ≡ s → s ≡ Stop
-unfit-stop bytes front place line b h (On g) u next many r q =
+unfit-stop : (bytes prefix : List ℕ) (place line b : ℕ) (h : Head) (s : Step) → IsUnfit bytes place → take (place + 1) bytes ≡ prefix ++ (b ∷ []) → length prefix ≡ place → Read h line prefix → step h b ≡ s → s ≡ Stop
+unfit-stop bytes prefix place line b h (On g) u next many r q =
     let P : List ℕ → Type 0 = λ v. GoesOn v in
-    let on : GoesOn (take (place + 1) bytes) = subst P (sym next) (read-goes g _ (front ++ (b ∷ [])) (read-on h g line b front r q)) in
+    let on : GoesOn (take (place + 1) bytes) = subst P (sym next) (read-goes g _ (prefix ++ (b ∷ [])) (read-on h g line b prefix r q)) in
     absurd (u.none on.more on.begins)
-unfit-stop bytes front place line b h Done u next many r q =
+unfit-stop bytes prefix place line b h Done u next many r q =
     let P : List ℕ → Type 0 = λ v. BeginsLines v [] in
-    absurd (u.none [] (subst P (sym next) (whole-begins (front ++ (b ∷ [])) h (read-done h line b front r q))))
-unfit-stop bytes front place line b h Stop u next many r q = refl
-unfit-stop bytes front place line b h Twice u next many r q =
-    let P : List ℕ → Type 0 = λ v. SecondLength v line (length front) in
+    absurd (u.none [] (subst P (sym next) (whole-begins (prefix ++ (b ∷ [])) h (read-done h line b prefix r q))))
+unfit-stop bytes prefix place line b h Stop u next many r q = refl
+unfit-stop bytes prefix place line b h Twice u next many r q =
+    let P : List ℕ → Type 0 = λ v. SecondLength v line (length prefix) in
     let Q : ℕ → Type 0 = λ v. SecondLength (take (place + 1) bytes) line v in
-    absurd (u.no_second line (subst Q many (subst P (sym next) (second-met h line b front [] r q))))
+    absurd (u.no_second line (subst Q many (subst P (sym next) (second-met h line b prefix [] r q))))
 
 unfit-back : (bytes : List ℕ) (place : ℕ) → IsUnfit bytes place → scan_from 0 0 start bytes ≡ Bad place
 unfit-back bytes place u =
-    let front = take place bytes in
+    let prefix = take place bytes in
     let many : length (take place bytes) ≡ place = omega (arith, length-take place bytes, u.within) in
     let at : 0 + length (take place bytes) ≡ place = omega (arith, many) in
-    let r = goes-run front u.before in
-    let led = front-led front (r.0) (r.1) (omega (arith, many, u.short)) in
+    let r = goes-run prefix u.before in
+    let led = prefix-led prefix (r.0) (r.1) (omega (arith, many, u.short)) in
     let b = get_or bytes place 0 in
-    let stop : step (r.0) b ≡ Stop = unfit-stop bytes front place led.end b (r.0) (step (r.0) b) u (take_more bytes place 0 u.within) many led.read refl in
+    let stop : step (r.0) b ≡ Stop = unfit-stop bytes prefix place led.end b (r.0) (step (r.0) b) u (take_more bytes place 0 u.within) many led.read refl in
     ap (scan_from 0 0 start) (sym (take-append-drop place bytes)) ∙ led.scan (drop place bytes) ∙ ap (λ m. scan_from m led.end (r.0) (drop place bytes)) at
     ∙ scan-byte place led.end (r.0) bytes place u.within u.short
     ∙ ap (λ s. after place led.end (r.0) s (λ g. scan_from (place + 1) (line_after place led.end g.mode) g (drop (place + 1) bytes))) stop
@@ -170,7 +170,7 @@ second-back bytes place colon l s =
     let h : Head = known Line 0 true (one.0) s.first in
     let ran : run start flat ≡ Some h = ap (run start) (sym (append-nil flat)) ∙ one.1 ∙ run-nil h in
     let short : length flat + length s.name < 8192 = omega (arith, l, s.colon_place, s.place) in
-    let led = front-led flat h ran (omega (arith, short)) in
+    let led = prefix-led flat h ran (omega (arith, short)) in
     let begin : led.end ≡ length flat = line-begin flat 0 (one.0) s.first led.end true led.read in
     let twice : step (known Name (matched_by 0 s.name) true (one.0) s.first) 58 ≡ Twice = ap (λ k. step (known Name k true (one.0) s.first) 58) (matched-is s.name 0 (lit≤ tt) s.named) ∙ colon-twice (one.0) s.first in
     ap (scan_from 0 0 start) s.spelled ∙ led.scan (s.name ++ (58 ∷ s.rest))
@@ -194,10 +194,10 @@ pub one-place : (bytes : List ℕ) (a b : ℕ) → IsRefusedAt bytes a → IsRef
 one-place bytes a b p q = let same : Bad a ≡ Bad b = sym (refused-scan bytes a p) ∙ refused-scan bytes b q in cc
 
 -- bytes that aren't of header lines are refused
-ends-broken : (bytes : List ℕ) (r : Reading) → Ends [] bytes 0 r → ((more : List ℕ) → BeginsLines bytes more → ⊥) → ((front rest lengths : List ℕ) → bytes ≡ front ++ rest → AreHeaderLines front lengths → ⊥) → (place : ℕ) × IsRefusedAt bytes place
+ends-broken : (bytes : List ℕ) (r : Reading) → Ends [] bytes 0 r → ((more : List ℕ) → BeginsLines bytes more → ⊥) → ((prefix rest lengths : List ℕ) → bytes ≡ prefix ++ rest → AreHeaderLines prefix lengths → ⊥) → (place : ℕ) × IsRefusedAt bytes place
 ends-broken bytes More e none whole = let g = read-goes e.head e.line bytes e.read.read in absurd (none g.more g.begins)
-ends-broken bytes (Whole n h) e none whole = absurd (whole e.front e.rest e.part.lengths e.spelled e.part.lines)
+ends-broken bytes (Whole n h) e none whole = absurd (whole e.prefix e.rest e.part.lengths e.spelled e.part.lines)
 ends-broken bytes (Bad n) e none whole = (n, bad-place bytes n e)
 
-pub broken-refused : (bytes : List ℕ) → ((more : List ℕ) → BeginsLines bytes more → ⊥) → ((front rest lengths : List ℕ) → bytes ≡ front ++ rest → AreHeaderLines front lengths → ⊥) → (place : ℕ) × IsRefusedAt bytes place
+pub broken-refused : (bytes : List ℕ) → ((more : List ℕ) → BeginsLines bytes more → ⊥) → ((prefix rest lengths : List ℕ) → bytes ≡ prefix ++ rest → AreHeaderLines prefix lengths → ⊥) → (place : ℕ) × IsRefusedAt bytes place
 broken-refused bytes none whole = ends-broken bytes (scan_from 0 0 start bytes) (start-ends bytes) none whole

@@ -38,16 +38,16 @@ follows-more p q None before now bodies body f b g = tt
 follows-more p q (Some input) None now bodies body f b g = absurd f
 follows-more p q (Some input) (Some left) None bodies body f b g = absurd g.from
 follows-more p q (Some input) (Some left) (Some rest) bodies body f b g =
-    let front : List ℕ = p.held ++ g.taken in
-    let tail : List ℕ = take (budget - p.place - length front) rest in
-    let open_is : take (budget - p.place) (p.held ++ left) ≡ front ++ tail = window p left g.taken rest g.from (omega (arith, b, g.place)) in
-    let same : budget - p.place - length front ≡ budget - q.place - length q.held = omega (arith, g.place, b) in
+    let prefix : List ℕ = p.held ++ g.taken in
+    let tail : List ℕ = take (budget - p.place - length prefix) rest in
+    let open_is : take (budget - p.place) (p.held ++ left) ≡ prefix ++ tail = window p left g.taken rest g.from (omega (arith, b, g.place)) in
+    let same : budget - p.place - length prefix ≡ budget - q.place - length q.held = omega (arith, g.place, b) in
     let left_is : take (budget - q.place) (q.held ++ rest) ≡ q.held ++ tail =
     take_past (budget - q.place) q.held rest (omega (arith, b)) ∙ ap (λ m. q.held ++ take m rest) (sym same) in
     let whole_is : next_of p.place (take (budget - p.place) (p.held ++ left)) ≡ whole body (take (budget - q.place) (q.held ++ rest)) =
-    ap (next_of p.place) open_is ∙ next-more p.place front tail body q.held g.frame ∙ ap (whole body) (sym left_is) in
+    ap (next_of p.place) open_is ∙ next-more p.place prefix tail body q.held g.frame ∙ ap (whole body) (sym left_is) in
     let at : p.place + length (take (budget - p.place) (p.held ++ left)) - length (take (budget - q.place) (q.held ++ rest)) ≡ q.place =
-    ap (λ t. p.place + length t - length (take (budget - q.place) (q.held ++ rest))) open_is ∙ ap (λ t. p.place + length (front ++ tail) - length t) left_is ∙ place_is p q g.taken tail 0 g.place in (
+    ap (λ t. p.place + length t - length (take (budget - q.place) (q.held ++ rest))) open_is ∙ ap (λ t. p.place + length (prefix ++ tail) - length t) left_is ∙ place_is p q g.taken tail 0 g.place in (
       λ more end are.
           let P : ℕ → Type 0 = λ n. AreFrames n (take (budget - q.place) (q.held ++ rest)) more end in
           let all : AreFramesOf input (bodies ++ (body ∷ more)) end = f.0 (body ∷ more) end (take (budget - q.place) (q.held ++ rest), whole_is, subst P (sym at) are) in

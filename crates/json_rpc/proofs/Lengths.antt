@@ -29,8 +29,8 @@ long-told false b c x y n m k e = absurd cc
 
 part-begins : (bytes : List ℕ) (k : ℕ) (h : Head) (lengths : List ℕ) → (w : AtWhole [] bytes 0 k h) → w.part.lengths ≡ lengths → BeginsPart bytes lengths k
 part-begins bytes k h lengths w e =
-    let P : List ℕ → Type 0 = λ v. AreHeaderLines w.front v in
-    record { part = w.front; rest = w.rest; lines = subst P e w.part.lines; many = omega (arith, w.place); short = w.short; spelled = w.spelled }
+    let P : List ℕ → Type 0 = λ v. AreHeaderLines w.prefix v in
+    record { part = w.prefix; rest = w.rest; lines = subst P e w.part.lines; many = omega (arith, w.place); short = w.short; spelled = w.spelled }
 
 reading-no_length : (at : ℕ) (bytes : List ℕ) (k : ℕ) (r : Reading) → Ends [] bytes 0 r → by_reading at bytes r ≡ wrong (NoLength k) → (count : ℕ) × (k ≡ at + count) × BeginsPart bytes [] count
 unfolding by_reading by_length
@@ -59,14 +59,14 @@ next-too_long at bytes k q = reading-too_long at bytes k (scan_from 0 0 start by
 none-scan : (part rest : List ℕ) → AreHeaderLines part [] → length part ≤ 8192 → scan_from 0 0 start (part ++ rest) ≡ Whole (length part) (known LastEnd 0 false 0 0)
 none-scan part rest p l =
     let flat = flat_map line_text p.lines in
-    let front : List ℕ = flat ++ (13 ∷ []) in
-    let split : part ≡ front ++ (10 ∷ []) = p.spelled ∙ sym (append_assoc flat (13 ∷ []) (10 ∷ [])) in
-    let long : length front + 1 ≡ length part = omega (arith, ap length split, length-append front (10 ∷ [])) in
+    let prefix : List ℕ = flat ++ (13 ∷ []) in
+    let split : part ≡ prefix ++ (10 ∷ []) = p.spelled ∙ sym (append_assoc flat (13 ∷ []) (10 ∷ [])) in
+    let long : length prefix + 1 ≡ length part = omega (arith, ap length split, length-append prefix (10 ∷ [])) in
     let ran = run-none p.lines (13 ∷ []) 0 0 false p.each p.tell ∙ line-last 0 0 0 false in
-    let s = scan-run front (10 ∷ rest) 0 0 start (known LastEnd 0 false 0 0) ran (omega (arith, long, l)) in
-    let end : 0 + length front + 1 ≡ length part = omega (arith, long) in
-    let all : part ++ rest ≡ front ++ (10 ∷ rest) = ap (λ t. t ++ rest) split ∙ append_assoc front (10 ∷ []) rest in
-    ap (scan_from 0 0 start) all ∙ s.1 ∙ scan-done (0 + length front) (s.0) 0 0 0 false rest (omega (arith, long, l)) ∙ ap (λ m. Whole m (known LastEnd 0 false 0 0)) end
+    let s = scan-run prefix (10 ∷ rest) 0 0 start (known LastEnd 0 false 0 0) ran (omega (arith, long, l)) in
+    let end : 0 + length prefix + 1 ≡ length part = omega (arith, long) in
+    let all : part ++ rest ≡ prefix ++ (10 ∷ rest) = ap (λ t. t ++ rest) split ∙ append_assoc prefix (10 ∷ []) rest in
+    ap (scan_from 0 0 start) all ∙ s.1 ∙ scan-done (0 + length prefix) (s.0) 0 0 0 false rest (omega (arith, long, l)) ∙ ap (λ m. Whole m (known LastEnd 0 false 0 0)) end
 
 pub no_length-next : (at : ℕ) (bytes : List ℕ) (count : ℕ) → BeginsPart bytes [] count → next_of at bytes ≡ wrong (NoLength (at + count))
 unfolding by_reading by_length

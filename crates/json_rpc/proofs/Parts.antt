@@ -50,16 +50,16 @@ line-last k d v t = refl
 pub part-scan : (part rest : List ℕ) (n : ℕ) → IsHeaderPart part n → (e : ℕ) × (scan_from 0 0 start (part ++ rest) ≡ Whole (length part) (known LastEnd 0 true e n))
 part-scan part rest n p =
     let flat = flat_map line_text p.lines.lines in
-    let front : List ℕ = flat ++ (13 ∷ []) in
+    let prefix : List ℕ = flat ++ (13 ∷ []) in
     let one = run-one p.lines.lines (13 ∷ []) n 0 p.lines.each p.lines.tell in
-    let split : part ≡ front ++ (10 ∷ []) = p.lines.spelled ∙ sym (append_assoc flat (13 ∷ []) (10 ∷ [])) in
-    let long : length front + 1 ≡ length part = omega (arith, ap length split, length-append front (10 ∷ [])) in
-    let s = scan-run front (10 ∷ rest) 0 0 start (known LastEnd 0 true (one.0) n) (one.1 ∙ line-last 0 (one.0) n true) (omega (arith, long, p.short)) in
-    let end : 0 + length front + 1 ≡ length part = omega (arith, long) in
-    let all : part ++ rest ≡ front ++ (10 ∷ rest) = ap (λ t. t ++ rest) split ∙ append_assoc front (10 ∷ []) rest in (
+    let split : part ≡ prefix ++ (10 ∷ []) = p.lines.spelled ∙ sym (append_assoc flat (13 ∷ []) (10 ∷ [])) in
+    let long : length prefix + 1 ≡ length part = omega (arith, ap length split, length-append prefix (10 ∷ [])) in
+    let s = scan-run prefix (10 ∷ rest) 0 0 start (known LastEnd 0 true (one.0) n) (one.1 ∙ line-last 0 (one.0) n true) (omega (arith, long, p.short)) in
+    let end : 0 + length prefix + 1 ≡ length part = omega (arith, long) in
+    let all : part ++ rest ≡ prefix ++ (10 ∷ rest) = ap (λ t. t ++ rest) split ∙ append_assoc prefix (10 ∷ []) rest in (
       one.0,
       ap (scan_from 0 0 start) all ∙ s.1
-          ∙ scan-done (0 + length front) (s.0) 0 (one.0) n true rest (omega (arith, long, p.short))
+          ∙ scan-done (0 + length prefix) (s.0) 0 (one.0) n true rest (omega (arith, long, p.short))
           ∙ ap (λ m. Whole m (known LastEnd 0 true (one.0) n)) end,
     )
 

@@ -5,7 +5,7 @@ use Rattle.std.proofs.Math.Seq.{take-append-add}
 use Rattle.std.specs.Prelude.{Result, Ok, Err}
 use Rattle.std.specs.Io.KnownBytes.{Appends}
 use Rattle.outside.specs.Causes.{HasCause, Rose}
-use Rattle.outside.specs.Gathered.{WroteFront}
+use Rattle.outside.specs.Gathered.{WrotePrefix}
 use Rattle.std.specs.Char.{digit_char}
 use Rattle.json.specs.Print.{escape, escape_byte, escape_letter, quoted}
 use Rattle.json_rpc.specs.Replies.{HasRun, before_id, id_text, no_memory_reply, quote}
@@ -21,15 +21,15 @@ appends-both (Some p) None c xs ys h k = absurd h
 appends-both (Some p) (Some q) None xs ys h k = k
 appends-both (Some p) (Some q) (Some r) xs ys h k = k ∙ ap (λ t. t ++ ys) h ∙ append_assoc p xs ys
 
-pub front-left : (a b : Option (List ℕ)) (xs ys : List ℕ) → WroteFront a b xs → WroteFront a b (xs ++ ys)
-front-left a b xs ys w = record {
+pub prefix-left : (a b : Option (List ℕ)) (xs ys : List ℕ) → WrotePrefix a b xs → WrotePrefix a b (xs ++ ys)
+prefix-left a b xs ys w = record {
   count = w.count;
   within = omega (arith, w.within, length-append xs ys);
   wrote = let P : List ℕ → Type 0 = λ t. Appends a b t in subst P (sym (take-append-le w.count xs ys w.within)) w.wrote;
 }
 
-pub front-right : (a b c : Option (List ℕ)) (xs ys : List ℕ) → Appends a b xs → WroteFront b c ys → WroteFront a c (xs ++ ys)
-front-right a b c xs ys h w = record {
+pub prefix-right : (a b c : Option (List ℕ)) (xs ys : List ℕ) → Appends a b xs → WrotePrefix b c ys → WrotePrefix a c (xs ++ ys)
+prefix-right a b c xs ys h w = record {
   count = length xs + w.count;
   within = omega (arith, w.within, length-append xs ys);
   wrote = let P : List ℕ → Type 0 = λ t. Appends a c t in subst P (sym (take-append-add xs ys w.count)) (appends-both a b c xs (take w.count ys) h w.wrote);
@@ -132,12 +132,12 @@ run-written a b c bs d i l w h = record {
 }
 
 -- A fault while a run is written.
-pub run-front : (a b c : Option (List ℕ)) (bs : List ℕ) (d i : ℕ) → i < length bs → WroteFront b c (take (i - d) (drop d bs) ++ escape_byte (get_or bs i 0)) → HasRun a b bs d i → WroteFront a c (escape bs)
-run-front a b c bs d i l w h =
+pub run-prefix : (a b c : Option (List ℕ)) (bs : List ℕ) (d i : ℕ) → i < length bs → WrotePrefix b c (take (i - d) (drop d bs) ++ escape_byte (get_or bs i 0)) → HasRun a b bs d i → WrotePrefix a c (escape bs)
+run-prefix a b c bs d i l w h =
     let all : escape bs ≡ (escape (take d bs) ++ (take (i - d) (drop d bs) ++ escape_byte (get_or bs i 0))) ++ escape (drop (i + 1) bs) =
     escape-split bs (i + 1) ∙ ap (λ t. t ++ escape (drop (i + 1) bs)) (sym (run_is a b bs d i l h)) in
-    let P : List ℕ → Type 0 = λ t. WroteFront a c t in
-    subst P (sym all) (front-left a c _ (escape (drop (i + 1) bs)) (front-right a b c (escape (take d bs)) _ h.wrote w))
+    let P : List ℕ → Type 0 = λ t. WrotePrefix a c t in
+    subst P (sym all) (prefix-left a c _ (escape (drop (i + 1) bs)) (prefix-right a b c (escape (take d bs)) _ h.wrote w))
 
 -- What holds anyhow.
 pub on_err : {T E : Type 0} (result : Result T E) {P : Type 0} → P → OnErr result P
@@ -151,8 +151,8 @@ run_all a b bs d h = sym h.run ∙ escape-all bs
 pub run-end : (a b c : Option (List ℕ)) (bs : List ℕ) (d : ℕ) → HasRun a b bs d (length bs) → Appends b c (take (length bs - d) (drop d bs)) → Appends a c (escape bs)
 run-end a b c bs d h w = let P : List ℕ → Type 0 = λ t. Appends a c t in subst P (run_all a b bs d h) (appends-both a b c (escape (take d bs)) _ h.wrote w)
 
-pub run-end_front : (a b c : Option (List ℕ)) (bs : List ℕ) (d : ℕ) → HasRun a b bs d (length bs) → WroteFront b c (take (length bs - d) (drop d bs)) → WroteFront a c (escape bs)
-run-end_front a b c bs d h w = let P : List ℕ → Type 0 = λ t. WroteFront a c t in subst P (run_all a b bs d h) (front-right a b c (escape (take d bs)) _ h.wrote w)
+pub run-end_prefix : (a b c : Option (List ℕ)) (bs : List ℕ) (d : ℕ) → HasRun a b bs d (length bs) → WrotePrefix b c (take (length bs - d) (drop d bs)) → WrotePrefix a c (escape bs)
+run-end_prefix a b c bs d h w = let P : List ℕ → Type 0 = λ t. WrotePrefix a c t in subst P (run_all a b bs d h) (prefix-right a b c (escape (take d bs)) _ h.wrote w)
 
 pub length-reply : (id : Id) (n : ℕ) → n ≡ length (id_text id) → n + 69 ≡ length (no_memory_reply id)
 unfolding no_memory_reply before_id
@@ -160,6 +160,6 @@ length-reply id n e = omega (arith, e, length-append (id_text id) (codes ",\"jso
 
 pub ruleset escapes = (escape-short, escape-hex, escape-plain, short-is, length-more, escape-all, length-quoted)
 
-pub ruleset pieces = (appends-none, appends-both, front-left, front-right, cause-later, escape-all, length-reply, run-start, run-end, run-end_front)
+pub ruleset pieces = (appends-none, appends-both, prefix-left, prefix-right, cause-later, escape-all, length-reply, run-start, run-end, run-end_prefix)
 
 pub ruleset quotes = (quoted-is)

@@ -2,13 +2,13 @@
 use Rattle.std.proofs.Common.{◌≡◌, ℕ, ◌+◌, ◌<◌, ◌≤◌, ap, sym, ◌∙◌, get_or, drop, arith, List, [], ◌∷◌, ◌++◌, refl, true, false, length, nat_le, append_assoc, append-nil}
 use Rattle.std.proofs.lemmas.List.{drop_more, drop_all, length-append, drop-append-le}
 use Rattle.json_rpc.specs.Heads.{start, step, after, line_after, scan_from}
-use Rattle.json_rpc.specs.Fronts.{Leads, IsPartOf, IsFrontOf}
+use Rattle.json_rpc.specs.Prefixes.{Leads, IsPartOf, IsPrefixOf}
 use Rattle.json_rpc.proofs.Lines.{pick_false}
 use Rattle.json_rpc.proofs.Tails.{Settles, scan-settles}
 use Rattle.json_rpc.specs.declared.header.Head.{Head}
 use Rattle.json_rpc.specs.declared.header.Scan.{Scan}
-use Rattle.json_rpc.specs.declared.header.Front.{Front}
-use Rattle.json_rpc.specs.declared.header.Front.TheVariants.{Part, Body}
+use Rattle.json_rpc.specs.declared.header.Prefix.{Prefix}
+use Rattle.json_rpc.specs.declared.header.Prefix.TheVariants.{Part, Body}
 use Rattle.json_rpc.specs.declared.header.Step.TheVariants.{On}
 use Rattle.json_rpc.specs.declared.header.Reading.{Reading}
 use Rattle.json_rpc.specs.declared.header.Reading.TheVariants.{More, Whole, Bad}
@@ -50,7 +50,7 @@ leads-refl bytes old = record { goes = λ more. refl }
 pub leads-same : (bytes : List ℕ) (old new : Scan) → Leads bytes old new → scan_from old.read old.line old.head (drop old.read bytes) ≡ scan_from new.read new.line new.head (drop new.read bytes)
 leads-same bytes old new a = ap (scan_from old.read old.line old.head) (sym (append-nil (drop old.read bytes))) ∙ a.goes [] ∙ ap (scan_from new.read new.line new.head) (append-nil (drop new.read bytes))
 
--- A front of the held bytes, read so far.
+-- A prefix of the held bytes, read so far.
 pub part-start : (held : List ℕ) → IsPartOf held (record { read = 0; line = 0; head = start })
 part-start held = record { within = omega arith; line = omega arith; goes = λ more. refl }
 
@@ -75,10 +75,10 @@ settled More s from head t e = absurd cc
 settled (Whole n h) s from head t e = t ∙ e
 settled (Bad n) s from head t e = absurd cc
 
-pub front-more : (held taken : List ℕ) (front : Front) → IsFrontOf held front → IsFrontOf (held ++ taken) front
-front-more held taken (Part scan) f = part-more held taken scan f
-front-more held taken (Body from head) f = (omega (arith, f.0, length-append held taken), settled (scan_from 0 0 start held) (scan_from 0 0 start (held ++ taken)) from head (scan-settles 0 0 start held taken) f.1)
+pub prefix-more : (held taken : List ℕ) (prefix : Prefix) → IsPrefixOf held prefix → IsPrefixOf (held ++ taken) prefix
+prefix-more held taken (Part scan) f = part-more held taken scan f
+prefix-more held taken (Body from head) f = (omega (arith, f.0, length-append held taken), settled (scan_from 0 0 start held) (scan_from 0 0 start (held ++ taken)) from head (scan-settles 0 0 start held taken) f.1)
 
 pub ruleset scans = (scan-end, scan-long, scan-byte)
 
-pub ruleset fronts = (part-start, part-on, part-more, part-same, front-more, leads-on, leads-trans, leads-refl, leads-same)
+pub ruleset prefixes = (part-start, part-on, part-more, part-same, prefix-more, leads-on, leads-trans, leads-refl, leads-same)

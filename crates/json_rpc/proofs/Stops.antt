@@ -160,12 +160,12 @@ ends-one lines (n ∷ []) a e l =
     ends-run (flat_map line_text lines ++ (13 ∷ [])) (10 ∷ []) start _ (one.1 ∙ line-last 0 (one.0) n true) ∙ ends-last (one.0) n true
 ends-one lines (n ∷ m ∷ more) a e l = absurd (omega (arith, l))
 
-no-lines : (front more : List ℕ) (b : ℕ) (h : Head) → run start front ≡ Some h → step h b ≡ Stop → BeginsLines (front ++ (b ∷ [])) more → ⊥
-no-lines front more b h ran e g =
+no-lines : (prefix more : List ℕ) (b : ℕ) (h : Head) → run start prefix ≡ Some h → step h b ≡ Stop → BeginsLines (prefix ++ (b ∷ [])) more → ⊥
+no-lines prefix more b h ran e g =
     let lines = g.lines.lines in
-    let all : (front ++ (b ∷ [])) ++ more ≡ (flat_map line_text lines ++ (13 ∷ [])) ++ (10 ∷ []) = g.lines.spelled ∙ sym (append_assoc (flat_map line_text lines) (13 ∷ []) (10 ∷ [])) in
-    let yes : ends start ((front ++ (b ∷ [])) ++ more) ≡ true = ap (ends start) all ∙ ends-one lines g.lengths g.lines.each g.lines.tell g.one in
-    let no : ends start ((front ++ (b ∷ [])) ++ more) ≡ false = ap (ends start) (append_assoc front (b ∷ []) more) ∙ ends-run front (b ∷ more) start h ran ∙ ends-stop h b more e in
+    let all : (prefix ++ (b ∷ [])) ++ more ≡ (flat_map line_text lines ++ (13 ∷ [])) ++ (10 ∷ []) = g.lines.spelled ∙ sym (append_assoc (flat_map line_text lines) (13 ∷ []) (10 ∷ [])) in
+    let yes : ends start ((prefix ++ (b ∷ [])) ++ more) ≡ true = ap (ends start) all ∙ ends-one lines g.lengths g.lines.each g.lines.tell g.one in
+    let no : ends start ((prefix ++ (b ∷ [])) ++ more) ≡ false = ap (ends start) (append_assoc prefix (b ∷ []) more) ∙ ends-run prefix (b ∷ more) start h ran ∙ ends-stop h b more e in
     let clash : true ≡ false = sym yes ∙ no in
     cc
 
@@ -181,14 +181,14 @@ pub colon-twice : (d l : ℕ) → step (known Name 14 true d l) 58 ≡ Twice
 unfolding step at_name
 colon-twice d l = refl
 
-no-second : (front : List ℕ) (b line : ℕ) (h : Head) → run start front ≡ Some h → step h b ≡ Stop → SecondLength (front ++ (b ∷ [])) line (length front) → ⊥
-no-second front b line h ran e s =
+no-second : (prefix : List ℕ) (b line : ℕ) (h : Head) → run start prefix ≡ Some h → step h b ≡ Stop → SecondLength (prefix ++ (b ∷ [])) line (length prefix) → ⊥
+no-second prefix b line h ran e s =
     let flat = flat_map line_text s.lines in
     let begin : List ℕ = flat ++ s.name in
-    let all : front ++ (b ∷ []) ≡ begin ++ (58 ∷ s.rest) = s.spelled ∙ sym (append_assoc flat s.name (58 ∷ s.rest)) in
-    let long : length front ≡ length begin = s.colon_place ∙ ap (λ v. v + length s.name) s.place ∙ sym (length-append flat s.name) in
-    let same : front ≡ begin = sym (take-append_seam front (b ∷ [])) ∙ ap (λ v. take (length front) v) all ∙ ap (λ v. take v (begin ++ (58 ∷ s.rest))) long ∙ take-append_seam begin (58 ∷ s.rest) in
-    let tail : b ∷ [] ≡ 58 ∷ s.rest = sym (drop-append_seam front (b ∷ [])) ∙ ap (λ v. drop (length front) v) all ∙ ap (λ v. drop v (begin ++ (58 ∷ s.rest))) long ∙ drop-append_seam begin (58 ∷ s.rest) in
+    let all : prefix ++ (b ∷ []) ≡ begin ++ (58 ∷ s.rest) = s.spelled ∙ sym (append_assoc flat s.name (58 ∷ s.rest)) in
+    let long : length prefix ≡ length begin = s.colon_place ∙ ap (λ v. v + length s.name) s.place ∙ sym (length-append flat s.name) in
+    let same : prefix ≡ begin = sym (take-append_seam prefix (b ∷ [])) ∙ ap (λ v. take (length prefix) v) all ∙ ap (λ v. take v (begin ++ (58 ∷ s.rest))) long ∙ take-append_seam begin (58 ∷ s.rest) in
+    let tail : b ∷ [] ≡ 58 ∷ s.rest = sym (drop-append_seam prefix (b ∷ [])) ∙ ap (λ v. drop (length prefix) v) all ∙ ap (λ v. drop v (begin ++ (58 ∷ s.rest))) long ∙ drop-append_seam begin (58 ∷ s.rest) in
     let byte : b ≡ 58 = cc in
     let r = second-run s.lines s.name s.first s.each s.told s.named in
     let is : h ≡ known Name 14 true (r.0) s.first = let q : Some h ≡ Some (known Name 14 true (r.0) s.first) = sym ran ∙ ap (run start) same ∙ r.1 in cc in
@@ -221,10 +221,10 @@ twice-part LastEnd k d l b t e = never-twice (b == 10) _ _ _ e (λ q f. absurd c
 in-name : (m : Mode) (k d l line : ℕ) (t : Bool) (bytes : List ℕ) → m ≡ Name → Read (known m k t d l) line bytes → Read (known Name k t d l) line bytes
 in-name m k d l line t bytes e r = let P : Mode → Type 0 = λ v. Read (known v k t d l) line bytes in subst P e r
 
-pub second-met : (h : Head) (line b : ℕ) (front rest : List ℕ) → Read h line front → step h b ≡ Twice → SecondLength (front ++ (b ∷ rest)) line (length front)
-second-met h line b front rest r e =
+pub second-met : (h : Head) (line b : ℕ) (prefix rest : List ℕ) → Read h line prefix → step h b ≡ Twice → SecondLength (prefix ++ (b ∷ rest)) line (length prefix)
+second-met h line b prefix rest r e =
     let p = twice-part h.mode h.matched h.digits h.length b h.told e in
-    let q = in-name h.mode h.matched h.digits h.length line h.told front p.0 r in
+    let q = in-name h.mode h.matched h.digits h.length line h.told prefix p.0 r in
     let flat = flat_map line_text q.lines in
     record {
       lines = q.lines;
@@ -242,12 +242,12 @@ second-met h line b front rest r e =
 -- why a reading was refused
 pub bad-place : (bytes : List ℕ) (k : ℕ) → AtBad [] bytes 0 k → IsRefusedAt bytes k
 bad-place bytes k e =
-    let at : length e.front ≡ e.at = omega (arith, e.place) in
-    let front_is : take e.at bytes ≡ e.front = ap (take e.at) e.spelled ∙ ap (λ v. take v (e.front ++ (e.byte ∷ e.rest))) (sym at) ∙ take-append_seam e.front (e.byte ∷ e.rest) in
-    let next_is : take (e.at + 1) bytes ≡ e.front ++ (e.byte ∷ []) = ap (take (e.at + 1)) e.spelled ∙ ap (λ v. take (v + 1) (e.front ++ (e.byte ∷ e.rest))) (sym at) ∙ take-append-add e.front (e.byte ∷ e.rest) 1 in
-    let within : e.at < length bytes = omega (arith, at, ap length e.spelled, length-append e.front (e.byte ∷ e.rest)) in
+    let at : length e.prefix ≡ e.at = omega (arith, e.place) in
+    let prefix_is : take e.at bytes ≡ e.prefix = ap (take e.at) e.spelled ∙ ap (λ v. take v (e.prefix ++ (e.byte ∷ e.rest))) (sym at) ∙ take-append_seam e.prefix (e.byte ∷ e.rest) in
+    let next_is : take (e.at + 1) bytes ≡ e.prefix ++ (e.byte ∷ []) = ap (take (e.at + 1)) e.spelled ∙ ap (λ v. take (v + 1) (e.prefix ++ (e.byte ∷ e.rest))) (sym at) ∙ take-append-add e.prefix (e.byte ∷ e.rest) 1 in
+    let within : e.at < length bytes = omega (arith, at, ap length e.spelled, length-append e.prefix (e.byte ∷ e.rest)) in
     let P : List ℕ → Type 0 = λ v. GoesOn v in
-    let before : GoesOn (take e.at bytes) = subst P (sym front_is) (read-goes e.head e.line e.front e.read.read) in
+    let before : GoesOn (take e.at bytes) = subst P (sym prefix_is) (read-goes e.head e.line e.prefix e.read.read) in
     elim e.why [
       | inl w ↦ let top : e.at ≡ 8192 = omega (arith, w.1, e.fits) in
           inl (w.0 ∙ top, omega (arith, top, within), subst (λ v. GoesOn (take v bytes)) top before)
@@ -256,14 +256,14 @@ bad-place bytes k e =
           short = w.1;
           within = within;
           before = before;
-          none = λ more g. no-lines e.front more e.byte e.head e.read.ran w.2 (subst (λ x. BeginsLines x more) next_is g);
+          none = λ more g. no-lines e.prefix more e.byte e.head e.read.ran w.2 (subst (λ x. BeginsLines x more) next_is g);
           no_second = λ line s.
-              let moved : SecondLength (e.front ++ (e.byte ∷ [])) line e.at = subst (λ x. SecondLength x line e.at) next_is s in
-              no-second e.front e.byte line e.head e.read.ran w.2 (subst (λ x. SecondLength (e.front ++ (e.byte ∷ [])) line x) (sym at) moved);
+              let moved : SecondLength (e.prefix ++ (e.byte ∷ [])) line e.at = subst (λ x. SecondLength x line e.at) next_is s in
+              no-second e.prefix e.byte line e.head e.read.ran w.2 (subst (λ x. SecondLength (e.prefix ++ (e.byte ∷ [])) line x) (sym at) moved);
         })))
         | inr w ↦
-            let met : SecondLength bytes e.line (length e.front) = subst (λ x. SecondLength x e.line (length e.front)) (sym e.spelled) (second-met e.head e.line e.byte e.front e.rest e.read.read w.2) in
-            inr (inr (length e.front, omega (arith, at, w.1), subst (λ x. SecondLength bytes x (length e.front)) (sym w.0) met))
+            let met : SecondLength bytes e.line (length e.prefix) = subst (λ x. SecondLength x e.line (length e.prefix)) (sym e.spelled) (second-met e.head e.line e.byte e.prefix e.rest e.read.read w.2) in
+            inr (inr (length e.prefix, omega (arith, at, w.1), subst (λ x. SecondLength bytes x (length e.prefix)) (sym w.0) met))
       ]
     ]
 

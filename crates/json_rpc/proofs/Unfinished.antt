@@ -8,7 +8,7 @@ use Rattle.json_rpc.proofs.Lines.{pick_false, pick_true}
 use Rattle.json_rpc.proofs.Parts.{part-scan}
 use Rattle.json_rpc.proofs.Wholes.{Ends, start-ends}
 use Rattle.json_rpc.proofs.Stops.{read-goes}
-use Rattle.json_rpc.proofs.Backs.{goes-run, front-led}
+use Rattle.json_rpc.proofs.Backs.{goes-run, prefix-led}
 use Rattle.json_rpc.specs.declared.fault.FrameFault.TheVariants.{NoLength, TooLong}
 use Rattle.json_rpc.specs.declared.header.Head.{Head}
 use Rattle.json_rpc.specs.declared.header.Reading.{Reading}
@@ -27,14 +27,14 @@ reading-unfinished at bytes (Whole n h) e q =
     let p = part-told h.told (nat_le h.length 16777216) (nat_le (n + h.length) (length bytes)) _ _ _ _ q in
     let small : h.length ≤ 16777216 = grind (arith, p.1) in
     let few : length bytes < n + h.length = grind (arith, p.2) in
-    let P : List ℕ → Type 0 = λ v. AreHeaderLines e.front v in
+    let P : List ℕ → Type 0 = λ v. AreHeaderLines e.prefix v in
     inr (record {
       count = h.length;
-      part = e.front;
+      part = e.prefix;
       body = e.rest;
       header = record { lines = subst P (e.part.told p.0) e.part.lines; short = omega (arith, e.place, e.short) };
       small = small;
-      few = omega (arith, few, e.place, ap length e.spelled, length-append e.front e.rest);
+      few = omega (arith, few, e.place, ap length e.spelled, length-append e.prefix e.rest);
       spelled = e.spelled;
     })
 reading-unfinished at bytes (Bad n) e q = absurd cc
@@ -49,7 +49,7 @@ scan-none n line h = refl
 goes-scan : (bytes : List ℕ) → length bytes ≤ 8192 → GoesOn bytes → scan_from 0 0 start bytes ≡ More
 goes-scan bytes l g =
     let r = goes-run bytes g in
-    let led = front-led bytes (r.0) (r.1) l in
+    let led = prefix-led bytes (r.0) (r.1) l in
     ap (scan_from 0 0 start) (sym (append-nil bytes)) ∙ led.scan [] ∙ scan-none (0 + length bytes) led.end (r.0)
 
 body-next : (at : ℕ) (bytes : List ℕ) → BeginsBody bytes → next_of at bytes ≡ partial

@@ -42,12 +42,12 @@ pub record AtMore (bytes bs : List ℕ) (n : ℕ) : Type 0 where
   pub fits : n + length bs ≤ 8192
 
 pub record AtWhole (bytes bs : List ℕ) (n k : ℕ) (h : Head) : Type 0 where
-  pub front : List ℕ
+  pub prefix : List ℕ
   pub rest : List ℕ
-  pub spelled : bs ≡ front ++ rest
-  pub place : k ≡ n + length front
+  pub spelled : bs ≡ prefix ++ rest
+  pub place : k ≡ n + length prefix
   pub short : k ≤ 8192
-  pub part : IsRead (bytes ++ front) h
+  pub part : IsRead (bytes ++ prefix) h
 
 -- why a reading stops at k, where the byte at `at` can't be read: there are too many, or it can't stand there, or it
 -- begins the value of a second length
@@ -55,15 +55,15 @@ abbrev pub Stops : ℕ → ℕ → ℕ → Step → Type 0
 Stops k at line s = ((k ≡ at) × (8192 ≤ at)) ⊎ (((k ≡ at) × (at < 8192) × (s ≡ Stop)) ⊎ ((k ≡ line) × (at < 8192) × (s ≡ Twice)))
 
 pub record AtBad (bytes bs : List ℕ) (n k : ℕ) : Type 0 where
-  pub front : List ℕ
+  pub prefix : List ℕ
   pub byte : ℕ
   pub rest : List ℕ
-  pub spelled : bs ≡ front ++ (byte ∷ rest)
+  pub spelled : bs ≡ prefix ++ (byte ∷ rest)
   pub head : Head
   pub line : ℕ
-  pub read : Reached head line (bytes ++ front)
+  pub read : Reached head line (bytes ++ prefix)
   pub at : ℕ
-  pub place : at ≡ n + length front
+  pub place : at ≡ n + length prefix
   pub fits : at ≤ 8192
   pub why : Stops k at line (step head byte)
 
@@ -81,21 +81,21 @@ ends-later bytes bs n b More e = record {
   fits = omega (arith, e.fits);
 }
 ends-later bytes bs n b (Whole k h) e = record {
-  front = b ∷ e.front;
+  prefix = b ∷ e.prefix;
   rest = e.rest;
   spelled = ap (λ v. b ∷ v) e.spelled;
   place = omega (arith, e.place);
   short = e.short;
-  part = let P : List ℕ → Type 0 = λ v. IsRead v h in subst P (append_assoc bytes (b ∷ []) e.front) e.part;
+  part = let P : List ℕ → Type 0 = λ v. IsRead v h in subst P (append_assoc bytes (b ∷ []) e.prefix) e.part;
 }
 ends-later bytes bs n b (Bad k) e = record {
-  front = b ∷ e.front;
+  prefix = b ∷ e.prefix;
   byte = e.byte;
   rest = e.rest;
   spelled = ap (λ v. b ∷ v) e.spelled;
   head = e.head;
   line = e.line;
-  read = let P : List ℕ → Type 0 = λ v. Reached e.head e.line v in subst P (append_assoc bytes (b ∷ []) e.front) e.read;
+  read = let P : List ℕ → Type 0 = λ v. Reached e.head e.line v in subst P (append_assoc bytes (b ∷ []) e.prefix) e.read;
   at = e.at;
   place = omega (arith, e.place);
   fits = e.fits;
@@ -104,7 +104,7 @@ ends-later bytes bs n b (Bad k) e = record {
 
 ends-here : (h : Head) (line n k b : ℕ) (bytes bs : List ℕ) → Reached h line bytes → n ≤ 8192 → Stops k n line (step h b) → AtBad bytes (b ∷ bs) n k
 ends-here h line n k b bytes bs r l w = record {
-  front = [];
+  prefix = [];
   byte = b;
   rest = bs;
   spelled = refl;
@@ -120,7 +120,7 @@ ends-here h line n k b bytes bs r l w = record {
 step-ends : (h : Head) (line n b : ℕ) (bytes bs : List ℕ) (f : Head → Reading) (s : Step) → Reached h line bytes → n < 8192 → step h b ≡ s → ((k : Head) → step h b ≡ On k → Ends (bytes ++ (b ∷ [])) bs (n + 1) (f k)) → Ends bytes (b ∷ bs) n (after n line h s f)
 step-ends h line n b bytes bs f (On k) r l q more = ends-later bytes bs n b (f k) (more k q)
 step-ends h line n b bytes bs f Done r l q more = record {
-  front = b ∷ [];
+  prefix = b ∷ [];
   rest = bs;
   spelled = refl;
   place = omega arith;
@@ -160,24 +160,24 @@ reading-frame at bytes body rest More e q = absurd cc
 reading-frame at bytes body rest (Bad k) e q = absurd cc
 reading-frame at bytes body rest (Whole k h) e q =
     let s = length_whole h.told (nat_le h.length 16777216) (nat_le (k + h.length) (length bytes)) _ _ body rest _ _ q in
-    let place : length e.front ≡ k = omega (arith, e.place) in
+    let place : length e.prefix ≡ k = omega (arith, e.place) in
     let within : k + h.length ≤ length bytes = grind (arith, s.2) in
-    let left : drop k bytes ≡ e.rest = ap (drop k) e.spelled ∙ ap (λ v. drop v (e.front ++ e.rest)) (sym place) ∙ drop-append_seam e.front e.rest in
+    let left : drop k bytes ≡ e.rest = ap (drop k) e.spelled ∙ ap (λ v. drop v (e.prefix ++ e.rest)) (sym place) ∙ drop-append_seam e.prefix e.rest in
     let body_is : take h.length e.rest ≡ body = ap (take h.length) (sym left) ∙ s.3 in
-    let rest_is : drop h.length e.rest ≡ rest = sym (drop-append-add e.front e.rest h.length) ∙ ap (λ v. drop (v + h.length) (e.front ++ e.rest)) place ∙ ap (drop (k + h.length)) (sym e.spelled) ∙ s.4 in
+    let rest_is : drop h.length e.rest ≡ rest = sym (drop-append-add e.prefix e.rest h.length) ∙ ap (λ v. drop (v + h.length) (e.prefix ++ e.rest)) place ∙ ap (drop (k + h.length)) (sym e.spelled) ∙ s.4 in
     let long : length body ≡ h.length = omega (arith, ap length (sym body_is), length-take h.length e.rest, ap length left, length-drop k bytes, within) in
     let split : e.rest ≡ body ++ rest = sym (take-append-drop h.length e.rest) ∙ ap (λ v. v ++ drop h.length e.rest) body_is ∙ ap (λ v. body ++ v) rest_is in
     let told : e.part.lengths ≡ length body ∷ [] = e.part.told s.0 ∙ ap (λ v. v ∷ []) (sym long) in
-    let P : List ℕ → Type 0 = λ v. AreHeaderLines e.front v in
+    let P : List ℕ → Type 0 = λ v. AreHeaderLines e.prefix v in
     record {
-      frame = e.front ++ body;
+      frame = e.prefix ++ body;
       is = record {
-        part = e.front;
+        part = e.prefix;
         header = record { lines = subst P told e.part.lines; short = omega (arith, place, e.short) };
         short = grind (arith, s.1, long);
         spelled = refl;
       };
-      spelled = e.spelled ∙ ap (λ v. e.front ++ v) split ∙ sym (append_assoc e.front body rest);
+      spelled = e.spelled ∙ ap (λ v. e.prefix ++ v) split ∙ sym (append_assoc e.prefix body rest);
     }
 
 pub next-frame : (at : ℕ) (bytes body rest : List ℕ) → next_of at bytes ≡ whole body rest → BeginsFrame bytes body rest

@@ -1,4 +1,4 @@
-pub mod Fronts
+pub mod Prefixes
 pub mod Heads
 pub mod Messages
 pub mod Replies

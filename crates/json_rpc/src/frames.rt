@@ -1,10 +1,10 @@
 ghost use Rattle.std.specs.Prelude.{◌≡◌, ◌≢◌, IsNone, IfNone, ◌≤◌, ◌<◌, ◌+◌, ◌^◌, [], None, Some, drop, length, IfOk, IfSome, MatchResult, MatchOption, IsErrOf, OnOk, vec_len};
 ghost use Rattle.outside.specs.Causes.{Rose};
-ghost use Rattle.json_rpc.specs.Fronts.{IsPartOf};
+ghost use Rattle.json_rpc.specs.Prefixes.{IsPartOf};
 ghost use Rattle.json_rpc.specs.Streams.{IsLasting, TakesFrame, MeetsFault, Fills, FillFails, Gives, Ends, Fails, IsAsFar, budget, by_length, ended, next_of, partial};
 
 use crate::fault::FrameFault;
-use crate::header::{Front, Head, Reading, Scan};
+use crate::header::{Head, Prefix, Reading, Scan};
 use crate::held::Held;
 use outside::Source;
 use std::alloc::{AllocError, Global};
@@ -25,21 +25,21 @@ pub struct Frames {
     place: u64,
     held: Held,
     fault: Option<FrameFault>,
-    front: Front,
+    prefix: Prefix,
     /// What a read writes into, made at the first one.
     piece: Vec<u8>,
 }
 
 impl Model for Frames {
     ghost use Rattle.std.specs.Prelude.{◌≤◌, ◌+◌, length};
-    ghost use Rattle.json_rpc.specs.Fronts.{IsFrontOf};
+    ghost use Rattle.json_rpc.specs.Prefixes.{IsPrefixOf};
     ghost use Rattle.json_rpc.specs.Streams.{IsLasting, Progress, budget};
 
     ghost Value = { Progress };
 
     ghost view = { λ f. record { place = f.place; held = f.held; fault = f.fault } };
 
-    ghost invariant = { λ f. (f.place + length f.held ≤ budget) × IsLasting f.fault × IsFrontOf f.held f.front };
+    ghost invariant = { λ f. (f.place + length f.held ≤ budget) × IsLasting f.fault × IsPrefixOf f.held f.prefix };
 }
 
 /// Makes room for one read.
@@ -54,7 +54,7 @@ fn make_piece(alloc: Global, piece: &mut Vec<u8>) -> Result<(), AllocError>
 
 impl Frames {
     /// Nothing is taken yet.
-    #[tactic(auto, using(crate::proofs::Scans::fronts))]
+    #[tactic(auto, using(crate::proofs::Scans::prefixes))]
     pub fn new(alloc: Global) -> Frames
         ensures { result ≡ record { place = 0; held = []; fault = None } }
     {
@@ -62,7 +62,7 @@ impl Frames {
             place: 0,
             held: Held::new(alloc),
             fault: None,
-            front: Front::Part(Scan::start()),
+            prefix: Prefix::Part(Scan::start()),
             piece: Vec::new(alloc),
         }
     }
@@ -79,7 +79,7 @@ impl Frames {
     }
 
     /// The body after a header part of `from` bytes, where it is held.
-    #[tactic(auto, using(crate::proofs::Scans::fronts), unfolding(crate::specs::Streams::by_length))]
+    #[tactic(auto, using(crate::proofs::Scans::prefixes), unfolding(crate::specs::Streams::by_length))]
     fn take_body(
         &mut self,
         alloc: Global,
@@ -108,12 +108,12 @@ impl Frames {
         let end = from + length;
         let body = self.held.take(alloc, from, end)?;
         self.place += end as u64;
-        self.front = Front::Part(Scan::start());
+        self.prefix = Prefix::Part(Scan::start());
         Ok(Some(body))
     }
 
     /// The frame at the front of what is held.
-    #[tactic(auto, using(crate::proofs::Scans::fronts), unfolding(crate::specs::Streams::by_reading))]
+    #[tactic(auto, using(crate::proofs::Scans::prefixes), unfolding(crate::specs::Streams::by_reading))]
     fn take_frame(&mut self, alloc: Global) -> Result<Option<Vec<u8>>, FrameFault>
         requires { self.old.fault ≡ None }
         ensures frame { MatchResult result
@@ -121,14 +121,14 @@ impl Frames {
             (λ e. MeetsFault self.old self.new e) }
         ensures bytes { IsAsFar self.old self.new }
     {
-        match self.front {
-            Front::Body(from, head) => self.take_body(alloc, from, &head),
-            Front::Part(scan) => self.read_part(alloc, scan),
+        match self.prefix {
+            Prefix::Body(from, head) => self.take_body(alloc, from, &head),
+            Prefix::Part(scan) => self.read_part(alloc, scan),
         }
     }
 
     /// Reads on in a header part.
-    #[tactic(auto, using(crate::proofs::Scans::fronts), unfolding(crate::specs::Streams::by_reading))]
+    #[tactic(auto, using(crate::proofs::Scans::prefixes), unfolding(crate::specs::Streams::by_reading))]
     fn read_part(&mut self, alloc: Global, scan: Scan) -> Result<Option<Vec<u8>>, FrameFault>
         requires fault { self.old.fault ≡ None }
         requires part { IsPartOf self.old.held scan }
@@ -140,11 +140,11 @@ impl Frames {
         let mut scan = scan;
         match scan.read_on(self.held.as_slice()) {
             Reading::More => {
-                self.front = Front::Part(scan);
+                self.prefix = Prefix::Part(scan);
                 Ok(None)
             }
             Reading::Whole(from, head) => {
-                self.front = Front::Body(from, head);
+                self.prefix = Prefix::Body(from, head);
                 self.take_body(alloc, from, &head)
             }
             Reading::Bad(n) => {
@@ -155,7 +155,7 @@ impl Frames {
     }
 
     /// Takes bytes from the source; false at its end.
-    #[tactic(auto, using(crate::proofs::Scans::fronts))]
+    #[tactic(auto, using(crate::proofs::Scans::prefixes))]
     fn fill<S: Source>(&mut self, alloc: Global, source: &mut S) -> Result<bool, FrameFault>
         requires { self.old.fault ≡ None }
         ensures bytes { MatchResult result

@@ -1,5 +1,5 @@
 ghost use Rattle.std.specs.Prelude.{◌≡◌, ◌≢◌, ◌≤◌, ◌+◌, ◌<◌, ◌^◌, IsTrue, IsNone, IfSome, MatchOption, drop, length};
-ghost use Rattle.json_rpc.specs.Fronts.{Leads};
+ghost use Rattle.json_rpc.specs.Prefixes.{Leads};
 ghost use Rattle.json_rpc.specs.Heads.{start, step, next, digit, line_after, scan_from, is_name, is_value, is_blank, is_digit, matching, IsWithin, at_line, at_name, at_value, at_blank, at_digits, at_tail};
 
 /// What may stand next.
@@ -256,10 +256,10 @@ pub struct Scan {
     pub head: Head,
 }
 
-/// What is known of the front of the bytes that are held: a header part so far, or a whole one of so many
+/// What is known of the prefix of the bytes that are held: a header part so far, or a whole one of so many
 /// bytes, which the body follows.
 #[derive(Clone, Copy, Debug)]
-pub enum Front {
+pub enum Prefix {
     Part(Scan),
     Body(usize, Head),
 }
@@ -276,7 +276,7 @@ impl Scan {
     }
 
     /// Reads on to the end of the header part, or of the bytes.
-    #[tactic(auto, using(crate::proofs::Scans::fronts))]
+    #[tactic(auto, using(crate::proofs::Scans::prefixes))]
     pub fn read_on(&mut self, bytes: &[u8]) -> Reading
         requires read { self.old.read ≤ length bytes.now }
         requires line { self.old.line ≤ self.old.read }

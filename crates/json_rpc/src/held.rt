@@ -32,7 +32,7 @@ impl Model for Held {
 }
 
 /// Drops the first n bytes.
-fn drop_front(bytes: &mut Vec<u8>, n: usize)
+fn drop_prefix(bytes: &mut Vec<u8>, n: usize)
     requires { n ≤ vec_len bytes.old }
     ensures { bytes.new.items ≡ drop n bytes.old.items }
 {
@@ -75,7 +75,7 @@ impl Held {
     {
         let given = self.given;
         self.given = 0;
-        drop_front(&mut self.bytes, given);
+        drop_prefix(&mut self.bytes, given);
     }
 
     /// Takes at most `room` bytes from a source, by way of a piece, and answers how many.
@@ -113,7 +113,7 @@ impl Held {
             let bytes = mem::replace(&mut self.bytes, Vec::new(alloc));
             let start = self.given + from;
             self.given = 0;
-            return Ok(without_front(bytes, start));
+            return Ok(without_prefix(bytes, start));
         }
         let body = Vec::from_slice(alloc, &self.as_slice()[from..end])?;
         self.given += end;
@@ -122,11 +122,11 @@ impl Held {
 }
 
 /// The bytes after the first n.
-fn without_front(bytes: Vec<u8>, n: usize) -> Vec<u8>
+fn without_prefix(bytes: Vec<u8>, n: usize) -> Vec<u8>
     requires { n ≤ vec_len bytes }
     ensures { result.items ≡ drop n bytes.items }
 {
     let mut bytes = bytes;
-    drop_front(&mut bytes, n);
+    drop_prefix(&mut bytes, n);
     bytes
 }

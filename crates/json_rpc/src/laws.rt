@@ -10,7 +10,7 @@ pub fn frame_laws()
     ensures read { (at : ℕ) (frame body rest : List ℕ) → IsFrame frame body → next_of at (frame ++ rest) ≡ whole body rest }
     ensures refused { (at : ℕ) (bytes : List ℕ) (k : ℕ) → (next_of at bytes ≡ wrong (FrameFault.Header k)) ↔ ((place : ℕ) × (k ≡ at + place) × IsRefusedAt bytes place) }
     ensures one_place { (bytes : List ℕ) (a b : ℕ) → IsRefusedAt bytes a → IsRefusedAt bytes b → a ≡ b }
-    ensures broken { (bytes : List ℕ) → ((more : List ℕ) → BeginsLines bytes more → ⊥) → ((front rest lengths : List ℕ) → bytes ≡ front ++ rest → AreHeaderLines front lengths → ⊥) → (place : ℕ) × IsRefusedAt bytes place }
+    ensures broken { (bytes : List ℕ) → ((more : List ℕ) → BeginsLines bytes more → ⊥) → ((prefix rest lengths : List ℕ) → bytes ≡ prefix ++ rest → AreHeaderLines prefix lengths → ⊥) → (place : ℕ) × IsRefusedAt bytes place }
     ensures no_length { (at : ℕ) (bytes : List ℕ) (k : ℕ) → (next_of at bytes ≡ wrong (FrameFault.NoLength k)) ↔ ((count : ℕ) × (k ≡ at + count) × BeginsPart bytes [] count) }
     ensures too_long { (at : ℕ) (bytes : List ℕ) (n : ℕ) → (next_of at bytes ≡ wrong (FrameFault.TooLong n)) ↔ ((16777216 < n) × ((count : ℕ) × BeginsPart bytes (n ∷ []) count)) }
     ensures unfinished { (at : ℕ) (bytes : List ℕ) → (next_of at bytes ≡ partial) ↔ (((length bytes ≤ 8192) × GoesOn bytes) ⊎ BeginsBody bytes) }

@@ -2,7 +2,7 @@ ghost use Rattle.std.specs.Prelude.{◌≡◌, ◌≤◌, ◌<◌, ◌+◌, ◌*
 ghost use Rattle.std.specs.Char.{digit_char};
 ghost use Rattle.std.specs.Io.KnownBytes.{Appends};
 ghost use Rattle.outside.specs.Causes.{HasCause};
-ghost use Rattle.outside.specs.Gathered.{WroteFront};
+ghost use Rattle.outside.specs.Gathered.{WrotePrefix};
 ghost use Rattle.json.specs.Print.{escape, escape_byte, escape_letter};
 ghost use Rattle.json_rpc.specs.Replies.{HasRun, before_id, frame_of, head_of, id_text, length_mark, no_memory_reply, quote};
 
@@ -46,7 +46,7 @@ fn put_head(buffer: &mut [u8], digits: &[u8]) -> usize
 #[tactic(auto, using(crate::proofs::Pieces::pieces), unfolding(crate::specs::Replies::head_of))]
 fn write_head<K: Sink>(sink: &mut K, length: u128) -> Result<(), Failed>
     ensures all { OnOk result (Appends (K.written sink.old) (K.written sink.new) (head_of length)) }
-    ensures front { OnErr result (WroteFront (K.written sink.old) (K.written sink.new) (head_of length)) }
+    ensures prefix { OnErr result (WrotePrefix (K.written sink.old) (K.written sink.new) (head_of length)) }
     ensures cause { HasCause (K.faults sink.old) (K.faults sink.new) result }
 {
     let mut digits = Buffer::new();
@@ -55,11 +55,11 @@ fn write_head<K: Sink>(sink: &mut K, length: u128) -> Result<(), Failed>
     write_all(sink, &head[..end])
 }
 
-/// Writes a frame with this body, and takes no memory. After a fault a front of the frame is written.
+/// Writes a frame with this body, and takes no memory. After a fault a prefix of the frame is written.
 #[tactic(auto, using(crate::proofs::Pieces::pieces), unfolding(crate::specs::Replies::frame_of))]
 pub fn write_frame<K: Sink>(sink: &mut K, body: &[u8]) -> Result<(), Failed>
     ensures frame { OnOk result (Appends (K.written sink.old) (K.written sink.new) (frame_of body.now)) }
-    ensures front { OnErr result (WroteFront (K.written sink.old) (K.written sink.new) (frame_of body.now)) }
+    ensures prefix { OnErr result (WrotePrefix (K.written sink.old) (K.written sink.new) (frame_of body.now)) }
     ensures cause { HasCause (K.faults sink.old) (K.faults sink.new) result }
 {
     write_head(sink, body.len() as u128)?;
@@ -96,7 +96,7 @@ fn hex_digit(value: u8) -> u8
 #[tactic(auto, using(crate::proofs::Pieces::escapes))]
 fn write_byte<K: Sink>(sink: &mut K, byte: u8) -> Result<(), Failed>
     ensures all { OnOk result (Appends (K.written sink.old) (K.written sink.new) (escape_byte byte)) }
-    ensures front { OnErr result (WroteFront (K.written sink.old) (K.written sink.new) (escape_byte byte)) }
+    ensures prefix { OnErr result (WrotePrefix (K.written sink.old) (K.written sink.new) (escape_byte byte)) }
     ensures cause { HasCause (K.faults sink.old) (K.faults sink.new) result }
 {
     let letter = escape_letter(byte);
@@ -131,7 +131,7 @@ fn is_plain(byte: u8) -> bool
 #[tactic(auto, using(crate::proofs::Pieces::pieces))]
 fn write_run<K: Sink>(sink: &mut K, run: &[u8], byte: u8) -> Result<(), Failed>
     ensures all { OnOk result (Appends (K.written sink.old) (K.written sink.new) (run.now ++ escape_byte byte)) }
-    ensures front { OnErr result (WroteFront (K.written sink.old) (K.written sink.new) (run.now ++ escape_byte byte)) }
+    ensures prefix { OnErr result (WrotePrefix (K.written sink.old) (K.written sink.new) (run.now ++ escape_byte byte)) }
     ensures cause { HasCause (K.faults sink.old) (K.faults sink.new) result }
 {
     write_all(sink, run)?;
@@ -144,8 +144,8 @@ fn write_next<K: Sink>(sink: &mut K, bytes: &[u8], done: usize, i: usize) -> Res
     requires within { i < length bytes.now }
     ensures next { IfOk result (λ next. (start : Option (List ℕ)) →
         HasRun start (K.written sink.old) bytes.now done i → HasRun start (K.written sink.new) bytes.now next (i + 1)) }
-    ensures front { OnErr result ((start : Option (List ℕ)) →
-        HasRun start (K.written sink.old) bytes.now done i → WroteFront start (K.written sink.new) (escape bytes.now)) }
+    ensures prefix { OnErr result ((start : Option (List ℕ)) →
+        HasRun start (K.written sink.old) bytes.now done i → WrotePrefix start (K.written sink.new) (escape bytes.now)) }
     ensures cause { HasCause (K.faults sink.old) (K.faults sink.new) result }
 {
     let byte = bytes[i];
@@ -160,7 +160,7 @@ fn write_next<K: Sink>(sink: &mut K, bytes: &[u8], done: usize, i: usize) -> Res
 #[tactic(auto, using(crate::proofs::Pieces::pieces))]
 fn write_escaped<K: Sink>(sink: &mut K, bytes: &[u8]) -> Result<(), Failed>
     ensures all { OnOk result (Appends (K.written sink.old) (K.written sink.new) (escape bytes.now)) }
-    ensures front { OnErr result (WroteFront (K.written sink.old) (K.written sink.new) (escape bytes.now)) }
+    ensures prefix { OnErr result (WrotePrefix (K.written sink.old) (K.written sink.new) (escape bytes.now)) }
     ensures cause { HasCause (K.faults sink.old) (K.faults sink.new) result }
 {
     let mut done = 0;
@@ -174,7 +174,7 @@ fn write_escaped<K: Sink>(sink: &mut K, bytes: &[u8]) -> Result<(), Failed>
 #[tactic(auto, unfolding(crate::specs::Replies::quote))]
 fn write_quote<K: Sink>(sink: &mut K) -> Result<(), Failed>
     ensures all { OnOk result (Appends (K.written sink.old) (K.written sink.new) quote) }
-    ensures front { OnErr result (WroteFront (K.written sink.old) (K.written sink.new) quote) }
+    ensures prefix { OnErr result (WrotePrefix (K.written sink.old) (K.written sink.new) quote) }
     ensures cause { HasCause (K.faults sink.old) (K.faults sink.new) result }
 {
     write_all(sink, b"\"")
@@ -184,7 +184,7 @@ fn write_quote<K: Sink>(sink: &mut K) -> Result<(), Failed>
 #[tactic(auto, using(crate::proofs::Pieces::pieces))]
 fn write_to_quote<K: Sink>(sink: &mut K, bytes: &[u8]) -> Result<(), Failed>
     ensures all { OnOk result (Appends (K.written sink.old) (K.written sink.new) (escape bytes.now ++ quote)) }
-    ensures front { OnErr result (WroteFront (K.written sink.old) (K.written sink.new) (escape bytes.now ++ quote)) }
+    ensures prefix { OnErr result (WrotePrefix (K.written sink.old) (K.written sink.new) (escape bytes.now ++ quote)) }
     ensures cause { HasCause (K.faults sink.old) (K.faults sink.new) result }
 {
     write_escaped(sink, bytes)?;
@@ -195,7 +195,7 @@ fn write_to_quote<K: Sink>(sink: &mut K, bytes: &[u8]) -> Result<(), Failed>
 #[tactic(auto, using(crate::proofs::Pieces::pieces))]
 fn write_quoted<K: Sink>(sink: &mut K, bytes: &[u8]) -> Result<(), Failed>
     ensures all { OnOk result (Appends (K.written sink.old) (K.written sink.new) (quote ++ (escape bytes.now ++ quote))) }
-    ensures front { OnErr result (WroteFront (K.written sink.old) (K.written sink.new) (quote ++ (escape bytes.now ++ quote))) }
+    ensures prefix { OnErr result (WrotePrefix (K.written sink.old) (K.written sink.new) (quote ++ (escape bytes.now ++ quote))) }
     ensures cause { HasCause (K.faults sink.old) (K.faults sink.new) result }
 {
     write_quote(sink)?;
@@ -206,7 +206,7 @@ fn write_quoted<K: Sink>(sink: &mut K, bytes: &[u8]) -> Result<(), Failed>
 #[tactic(auto, unfolding(crate::specs::Replies::id_text), using(crate::proofs::Pieces::quotes))]
 fn write_id<K: Sink>(sink: &mut K, id: &Id) -> Result<(), Failed>
     ensures all { OnOk result (Appends (K.written sink.old) (K.written sink.new) (id_text id.now)) }
-    ensures front { OnErr result (WroteFront (K.written sink.old) (K.written sink.new) (id_text id.now)) }
+    ensures prefix { OnErr result (WrotePrefix (K.written sink.old) (K.written sink.new) (id_text id.now)) }
     ensures cause { HasCause (K.faults sink.old) (K.faults sink.new) result }
 {
     match id {
@@ -222,7 +222,7 @@ fn write_id<K: Sink>(sink: &mut K, id: &Id) -> Result<(), Failed>
 #[tactic(auto, using(crate::proofs::Pieces::pieces))]
 fn write_from_id<K: Sink>(sink: &mut K, id: &Id) -> Result<(), Failed>
     ensures all { OnOk result (Appends (K.written sink.old) (K.written sink.new) (id_text id.now ++ codes ",\"jsonrpc\":\"2.0\"}")) }
-    ensures front { OnErr result (WroteFront (K.written sink.old) (K.written sink.new) (id_text id.now ++ codes ",\"jsonrpc\":\"2.0\"}")) }
+    ensures prefix { OnErr result (WrotePrefix (K.written sink.old) (K.written sink.new) (id_text id.now ++ codes ",\"jsonrpc\":\"2.0\"}")) }
     ensures cause { HasCause (K.faults sink.old) (K.faults sink.new) result }
 {
     write_id(sink, id)?;
@@ -233,7 +233,7 @@ fn write_from_id<K: Sink>(sink: &mut K, id: &Id) -> Result<(), Failed>
 #[tactic(auto, unfolding(crate::specs::Replies::before_id))]
 fn write_before_id<K: Sink>(sink: &mut K) -> Result<(), Failed>
     ensures all { OnOk result (Appends (K.written sink.old) (K.written sink.new) before_id) }
-    ensures front { OnErr result (WroteFront (K.written sink.old) (K.written sink.new) before_id) }
+    ensures prefix { OnErr result (WrotePrefix (K.written sink.old) (K.written sink.new) before_id) }
     ensures cause { HasCause (K.faults sink.old) (K.faults sink.new) result }
 {
     write_all(
@@ -246,7 +246,7 @@ fn write_before_id<K: Sink>(sink: &mut K) -> Result<(), Failed>
 #[tactic(auto, using(crate::proofs::Pieces::pieces), unfolding(crate::specs::Replies::no_memory_reply))]
 fn write_reply<K: Sink>(sink: &mut K, id: &Id) -> Result<(), Failed>
     ensures all { OnOk result (Appends (K.written sink.old) (K.written sink.new) (no_memory_reply id.now)) }
-    ensures front { OnErr result (WroteFront (K.written sink.old) (K.written sink.new) (no_memory_reply id.now)) }
+    ensures prefix { OnErr result (WrotePrefix (K.written sink.old) (K.written sink.new) (no_memory_reply id.now)) }
     ensures cause { HasCause (K.faults sink.old) (K.faults sink.new) result }
 {
     write_before_id(sink)?;
@@ -294,11 +294,11 @@ fn id_length(id: &Id) -> u128
 }
 
 /// Writes the frame of the reply "no memory" to this id in pieces, and takes no memory: it counts the
-/// body's length first, and escapes the id as it writes. After a fault a front of the frame is written.
+/// body's length first, and escapes the id as it writes. After a fault a prefix of the frame is written.
 #[tactic(auto, using(crate::proofs::Pieces::pieces), unfolding(crate::specs::Replies::frame_of))]
 pub fn write_no_memory<K: Sink>(sink: &mut K, id: &Id) -> Result<(), Failed>
     ensures frame { OnOk result (Appends (K.written sink.old) (K.written sink.new) (frame_of (no_memory_reply id.now))) }
-    ensures front { OnErr result (WroteFront (K.written sink.old) (K.written sink.new) (frame_of (no_memory_reply id.now))) }
+    ensures prefix { OnErr result (WrotePrefix (K.written sink.old) (K.written sink.new) (frame_of (no_memory_reply id.now))) }
     ensures cause { HasCause (K.faults sink.old) (K.faults sink.new) result }
 {
     write_head(sink, id_length(id) + ROUND_ID)?;

@@ -132,7 +132,7 @@ pub extends : (base extra : List ClassSummary) → HasEachOnce base → KeepName
 unfolding IsAlike
 extends base extra once k = record {
   within = let l = merged-length base extra in omega (arith, l);
-  front = λ j b g.
+  prefix = λ j b g.
       let a = replaced-alike base extra once k j b g in
       let n = replaced-name extra b in (
         replaced extra b,
@@ -161,7 +161,7 @@ behind_base base known n e h = record {
   within = omega (arith, e, h.within);
   named = λ j c l g.
       let b = there base j (omega (arith, l, e)) in
-      let f = h.front j b.0 b.1 in
+      let f = h.prefix j b.0 b.1 in
       let same : f.0 ≡ c = (let r : Some f.0 ≡ Some c = sym f.1 ∙ g in cc) in
       (b.0, b.1, sym (ap (λ (x : ClassSummary). canonical known x.name) (sym same) ∙ f.5));
   closed = subst (IsClosedBelow known) (sym e) h.closed;
@@ -185,12 +185,12 @@ less-or i zero = (false, (λ e. absurd (no-true e)), λ e. omega arith)
 less-or zero (suc n) = (true, (λ e. omega arith), λ e. absurd (no-true (sym e)))
 less-or (suc i) (suc n) = let r = less-or i n in (r.0, (λ e. let l = r.1 e in omega (arith, l)), λ e. let l = r.2 e in omega (arith, l))
 
-IsFront : (ClassSummary → Bool) → (ClassSummary → Bool) → List ClassSummary → List ClassSummary → Type 0
-IsFront s t base known = (j : ℕ) (b : ClassSummary) → slice_get base j ≡ Some b → (c : ClassSummary) × (slice_get known j ≡ Some c) × (c.name ≡ b.name) × (t c ≡ s b)
+IsPrefix : (ClassSummary → Bool) → (ClassSummary → Bool) → List ClassSummary → List ClassSummary → Type 0
+IsPrefix s t base known = (j : ℕ) (b : ClassSummary) → slice_get base j ≡ Some b → (c : ClassSummary) × (slice_get known j ≡ Some c) × (c.name ≡ b.name) × (t c ≡ s b)
 
 -- what stands in the whole stands in the base or behind it
-where-is : (s t : ClassSummary → Bool) (base known : List ClassSummary) → IsFront s t base known → (P : ClassSummary → Type 0) → ((j : ℕ) (b c : ClassSummary) → slice_get base j ≡ Some b → c.name ≡ b.name → t c ≡ s b → P c) → ((k : ℕ) (d : ClassSummary) → slice_get (drop (length base) known) k ≡ Some d → P d) → (j : ℕ) (d : ClassSummary) → slice_get known j ≡ Some d → P d
-unfolding IsFront
+where-is : (s t : ClassSummary → Bool) (base known : List ClassSummary) → IsPrefix s t base known → (P : ClassSummary → Type 0) → ((j : ℕ) (b c : ClassSummary) → slice_get base j ≡ Some b → c.name ≡ b.name → t c ≡ s b → P c) → ((k : ℕ) (d : ClassSummary) → slice_get (drop (length base) known) k ≡ Some d → P d) → (j : ℕ) (d : ClassSummary) → slice_get known j ≡ Some d → P d
+unfolding IsPrefix
 where-is s t base known f P low high j d g =
     let r = less-or j (length base) in
     elim (two r.0) [
@@ -220,7 +220,7 @@ low-on : (t : ClassSummary → Bool) (cs : List ClassSummary) (n m : List ℕ) �
 unfolding Low
 low-on t cs n m l h j d g e = through m n d.name l (h j d g e)
 
-all-low : (s t : ClassSummary → Bool) (base known : List ClassSummary) → IsFront s t base known → (n : List ℕ) → Low s base n → Low t (drop (length base) known) n → Low t known n
+all-low : (s t : ClassSummary → Bool) (base known : List ClassSummary) → IsPrefix s t base known → (n : List ℕ) → Low s base n → Low t (drop (length base) known) n → Low t known n
 unfolding Low
 all-low s t base known f n low high = where-is s t base known f (λ d. t d ≡ true → NotLess d.name n)
     (λ j b c g e h p. subst (λ x. NotLess x n) (sym e) (low j b g (sym h ∙ p)))
@@ -238,7 +238,7 @@ joined-one : (t : ClassSummary → Bool) (known : List ClassSummary) (j : ℕ) (
 unfolding IsJoined
 joined-one t known j c g e h = (subst (IsLeast t known) (sym g) (least-is t known j c g e h), slice_get_within known j c g)
 
-joined-two : (b : Bool) (s t : ClassSummary → Bool) (base known : List ClassSummary) → IsFront s t base known → (a x c : ClassSummary) (r : ℕ) → slice_get known r ≡ Some (cond b c a) → is_lt (slice_cmp nat_cmp c.name a.name) ≡ b → IsLeastOf t (drop (length base) known) a → IsLeastOf s base x → c.name ≡ x.name → t c ≡ s x → IsJoined t known (Some r)
+joined-two : (b : Bool) (s t : ClassSummary → Bool) (base known : List ClassSummary) → IsPrefix s t base known → (a x c : ClassSummary) (r : ℕ) → slice_get known r ≡ Some (cond b c a) → is_lt (slice_cmp nat_cmp c.name a.name) ≡ b → IsLeastOf t (drop (length base) known) a → IsLeastOf s base x → c.name ≡ x.name → t c ≡ s x → IsJoined t known (Some r)
 unfolding NotLess order
 joined-two true s t base known f a x c r g e h k n p =
     let low : Low s base c.name = subst (Low s base) (sym n) (low-some s base x k) in
@@ -248,8 +248,8 @@ joined-two false s t base known f a x c r g e h k n p =
     let low : Low s base c.name = subst (Low s base) (sym n) (low-some s base x k) in
     joined-one t known r a g h.passes (all-low s t base known f a.name (low-on s base c.name a.name e low) (low-some t (drop (length base) known) a h))
 
-joined : (s t : ClassSummary → Bool) (base known : List ClassSummary) → IsFront s t base known → (a b : Option ClassSummary) (p q r : Option ℕ) → IsPlaceOf known a p → IsLeast t (drop (length base) known) a → IsPlaceOf base b q → IsLeast s base b → IsLesserOf known p q r → IsJoined t known r
-unfolding IsJoined IsFront
+joined : (s t : ClassSummary → Bool) (base known : List ClassSummary) → IsPrefix s t base known → (a b : Option ClassSummary) (p q r : Option ℕ) → IsPlaceOf known a p → IsLeast t (drop (length base) known) a → IsPlaceOf base b q → IsLeast s base b → IsLesserOf known p q r → IsJoined t known r
+unfolding IsJoined IsPrefix
 joined s t base known f a b None None r ha la hb lb e =
     let none : IsLeast t known None = where-is s t base known f (λ d. t d ≡ false) (λ j x c g n h. h ∙ (subst (IsLeast s base) hb lb) j x g) (subst (IsLeast t (drop (length base) known)) ha la) in
     subst (IsJoined t known) (sym e) (none, tt)
@@ -278,11 +278,11 @@ place-of known x None e h = e
 place-of known x (Some i) e h = (h, e)
 
 pub joined_canonical : (base known : List ClassSummary) (from : ℕ) (name : List ℕ) (own other r : Option ℕ) → from ≡ length base → Extends base known → HasEachOnce known → IsPlaceOf known (class_by_canonical known (drop from known) name) own → IsPlaceOf base (class_by_canonical base base name) other → IsLesserOf known own other r → IsPlaceOf known (class_by_canonical known known name) r
-unfolding IsJoined IsFront
+unfolding IsJoined IsPrefix
 joined_canonical base known from name own other r e h once p q l =
     let s : ClassSummary → Bool = λ c. bytes_eq name (canonical base c.name) in
     let t : ClassSummary → Bool = λ c. bytes_eq name (canonical known c.name) in
-    let f : IsFront s t base known = λ j b g. let c = h.front j b g in (c.0, c.1, c.2, ap (bytes_eq name) c.5) in
+    let f : IsPrefix s t base known = λ j b g. let c = h.prefix j b g in (c.0, c.1, c.2, ap (bytes_eq name) c.5) in
     let high : IsLeast t (drop (length base) known) (class_by_canonical known (drop (length base) known) name) = subst (IsLeast t (drop (length base) known)) (sym (called-by known (drop (length base) known) name)) (is-least t (drop (length base) known)) in
     let low : IsLeast s base (class_by_canonical base base name) = subst (IsLeast s base) (sym (called-by base base name)) (is-least s base) in
     let j = joined s t base known f _ _ own other r (subst (λ n. IsPlaceOf known (class_by_canonical known (drop n known) name) own) e p) high q low l in
@@ -292,10 +292,10 @@ nested-alike : (outer name : List ℕ) (b c : ClassSummary) → outer_in c.nesti
 nested-alike outer name b c e f = ap (λ o. same_text o outer && same_text (simple_in c.nesting) name) e ∙ ap (λ o. same_text (outer_in b.nesting) outer && same_text o name) f
 
 pub joined_nested : (base known : List ClassSummary) (from : ℕ) (outer name : List ℕ) (own other r : Option ℕ) → from ≡ length base → Extends base known → HasEachOnce known → IsPlaceOf known (nested_class outer name (drop from known)) own → IsPlaceOf base (nested_class outer name base) other → IsLesserOf known own other r → IsPlaceOf known (nested_class outer name known) r
-unfolding IsJoined IsFront
+unfolding IsJoined IsPrefix
 joined_nested base known from outer name own other r e h once p q l =
     let t : ClassSummary → Bool = λ c. is_nested outer name c.nesting in
-    let f : IsFront t t base known = λ j b g. let c = h.front j b g in (c.0, c.1, c.2, nested-alike outer name b c.0 c.3 c.4) in
+    let f : IsPrefix t t base known = λ j b g. let c = h.prefix j b g in (c.0, c.1, c.2, nested-alike outer name b c.0 c.3 c.4) in
     let high : IsLeast t (drop (length base) known) (nested_class outer name (drop (length base) known)) = subst (IsLeast t (drop (length base) known)) (sym (nested-by outer name (drop (length base) known))) (is-least t (drop (length base) known)) in
     let low : IsLeast t base (nested_class outer name base) = subst (IsLeast t base) (sym (nested-by outer name base)) (is-least t base) in
     let j = joined t t base known f _ _ own other r (subst (λ n. IsPlaceOf known (nested_class outer name (drop n known)) own) e p) high q low l in
@@ -305,16 +305,16 @@ pub behind_surrounds : (known : List ClassSummary) (from : ℕ) (n : List ℕ) �
 behind_surrounds known from n e = let r = surrounds_of (drop from known) n e in surrounds_at known (from + r.0) r.1 n (sym (get-drop from r.0 known) ∙ r.2) r.3
 
 pub joined_surrounds : (base known : List ClassSummary) (from : ℕ) (n : List ℕ) → from ≡ length base → Extends base known → surrounds (drop from known) n ≡ false → surrounds base n ≡ surrounds known n
-unfolding IsFront
+unfolding IsPrefix
 joined_surrounds base known from n e h f = same-truth (surrounds base n) (surrounds known n)
-    (λ t. let r = surrounds_of base n t in let c = h.front r.0 r.1 r.2 in surrounds_at known r.0 c.0 n c.1 (c.3 ∙ r.3))
+    (λ t. let r = surrounds_of base n t in let c = h.prefix r.0 r.1 r.2 in surrounds_at known r.0 c.0 n c.1 (c.3 ∙ r.3))
     (λ t.
     let r = surrounds_of known n t in
     let o = less-or r.0 (length base) in
     elim (two o.0) [
       | inl y ↦
           let b = there base r.0 (o.1 y) in
-          let c = h.front r.0 b.0 b.1 in
+          let c = h.prefix r.0 b.0 b.1 in
           let same : c.0 ≡ r.1 = (let q : Some c.0 ≡ Some r.1 = sym c.1 ∙ r.2 in cc) in
           surrounds_at base r.0 b.0 n b.1 (sym c.3 ∙ ap (λ (x : ClassSummary). outer_in x.nesting) same ∙ r.3)
       | inr z ↦
@@ -327,6 +327,6 @@ joined_surrounds base known from n e h f = same-truth (surrounds base n) (surrou
 pub base_name : (base known : List ClassSummary) (place : ℕ) (text : List ℕ) → Extends base known → place < length base → ((b : ClassSummary) → slice_get base place ≡ Some b → text ≡ canonical base b.name) → (c : ClassSummary) → slice_get known place ≡ Some c → text ≡ canonical known c.name
 base_name base known place text h l f c g =
     let b = there base place l in
-    let x = h.front place b.0 b.1 in
+    let x = h.prefix place b.0 b.1 in
     let same : x.0 ≡ c = (let q : Some x.0 ≡ Some c = sym x.1 ∙ g in cc) in
     f b.0 b.1 ∙ sym x.5 ∙ ap (λ (y : ClassSummary). canonical known y.name) same

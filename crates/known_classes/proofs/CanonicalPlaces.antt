@@ -25,8 +25,8 @@ called_start known name n e = record {
   place = ap (λ (r : List ClassSummary). class_by_canonical known r name) (drop_all n known (omega arith)) ∙ called-none known name;
 }
 
-front : (known : List ClassSummary) (left k : ℕ) (c : ClassSummary) → k + 1 ≡ left → slice_get known k ≡ Some c → drop k known ≡ c ∷ drop left known
-front known left k c e g =
+prefix : (known : List ClassSummary) (left k : ℕ) (c : ClassSummary) → k + 1 ≡ left → slice_get known k ≡ Some c → drop k known ≡ c ∷ drop left known
+prefix known left k c e g =
     drop_more known k c (slice_get_within known k c g) ∙ (ap (λ (x : ClassSummary). x ∷ drop (k + 1) known) (get_or_from_slice_get known k c c g) ∙ ap (λ (n : ℕ). c ∷ drop n known) e)
 
 class_of : (known : List ClassSummary) (x : Option ClassSummary) (best : Option ℕ) → IsPlaceOf known x best → x ≡ class_at known best
@@ -34,7 +34,7 @@ class_of known x None h = h
 class_of known x (Some i) h = h.1
 
 next : (known : List ClassSummary) (name : List ℕ) (left k : ℕ) (c : ClassSummary) → k + 1 ≡ left → slice_get known k ≡ Some c → class_by_canonical known (drop k known) name ≡ cond (bytes_eq name (canonical known c.name)) (Some (lesser c (class_by_canonical known (drop left known) name))) (class_by_canonical known (drop left known) name)
-next known name left k c e g = ap (λ (r : List ClassSummary). class_by_canonical known r name) (front known left k c e g) ∙ called-cons known c (drop left known) name
+next known name left k c e g = ap (λ (r : List ClassSummary). class_by_canonical known r name) (prefix known left k c e g) ∙ called-cons known c (drop left known) name
 
 pub called_past : (known : List ClassSummary) (name : List ℕ) (left k : ℕ) (c : ClassSummary) (best : Option ℕ) → k + 1 ≡ left → slice_get known k ≡ Some c → bytes_eq name (canonical known c.name) ≡ false → IsBestCalled known name left best → IsBestCalled known name k best
 called_past known name left k c best e g n h =

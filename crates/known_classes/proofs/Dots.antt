@@ -28,9 +28,9 @@ pub cut_dots : (bs : List ℕ) (r : Option (Bor (List ℕ) × Bor (List ℕ))) �
 cut_dots bs None text h = dots-clean bs h
 cut_dots bs (Some x) text h = (dots-cut bs x.0.now x.1.now h.0 h.1, omega (arith, simp length-append at (ap length h.0)), utf8_past x.0.now 47 x.1.now bs (omega arith) text h.0)
 
-pub dots_on : (whole old rest front more mid new : List ℕ) → dotted rest ≡ front ++ (46 ∷ dotted more) → mid ≡ old ++ front → new ≡ mid ++ (46 ∷ []) → whole ≡ old ++ dotted rest → whole ≡ new ++ dotted more
-dots_on whole old rest front more mid new e m n h =
-    h ∙ (ap (λ (r : List ℕ). old ++ r) e ∙ (sym (append_assoc old front (46 ∷ dotted more)) ∙ (ap (λ (r : List ℕ). r ++ (46 ∷ dotted more)) (sym m) ∙ (sym (append_assoc mid (46 ∷ []) (dotted more)) ∙ ap (λ (r : List ℕ). r ++ dotted more) (sym n)))))
+pub dots_on : (whole old rest prefix more mid new : List ℕ) → dotted rest ≡ prefix ++ (46 ∷ dotted more) → mid ≡ old ++ prefix → new ≡ mid ++ (46 ∷ []) → whole ≡ old ++ dotted rest → whole ≡ new ++ dotted more
+dots_on whole old rest prefix more mid new e m n h =
+    h ∙ (ap (λ (r : List ℕ). old ++ r) e ∙ (sym (append_assoc old prefix (46 ∷ dotted more)) ∙ (ap (λ (r : List ℕ). r ++ (46 ∷ dotted more)) (sym m) ∙ (sym (append_assoc mid (46 ∷ []) (dotted more)) ∙ ap (λ (r : List ℕ). r ++ dotted more) (sym n)))))
 
 pub dots_end : (whole old rest new : List ℕ) → dotted rest ≡ rest → new ≡ old ++ rest → whole ≡ old ++ dotted rest → new ≡ whole
 dots_end whole old rest new e n h = n ∙ (ap (λ (r : List ℕ). old ++ r) (sym e) ∙ sym h)

@@ -10,7 +10,7 @@ use Rattle.known_classes.specs.Nested.{same_text, is_nested, nested_class, surro
 use Rattle.known_classes.specs.NameTables.{Table, in_table, in_numbered, member_place, IsNumbered, PutsAt, AreMemberTables}
 use Rattle.known_classes.proofs.Merging.{equal, itself}
 use Rattle.known_classes.proofs.MergedPlaces.{there}
-use Rattle.known_classes.proofs.NestedPlaces.{best_first, best_past, best_hit, front}
+use Rattle.known_classes.proofs.NestedPlaces.{best_first, best_past, best_hit, prefix}
 
 and-false : (b : Bool) → (b && false) ≡ false
 and-false true = refl
@@ -24,10 +24,10 @@ no-true : false ≡ true → ⊥
 no-true e = absurd cc
 
 -- a new outer class gets the next table
-get-front : {A : Type 0} (xs ys : List A) (i : ℕ) → i < length xs → slice_get (xs ++ ys) i ≡ slice_get xs i
-get-front [] ys i l = absurd (omega (arith, l))
-get-front (x ∷ xs) ys zero l = refl
-get-front (x ∷ xs) ys (suc i) l = get-front xs ys i (omega (arith, l))
+get-prefix : {A : Type 0} (xs ys : List A) (i : ℕ) → i < length xs → slice_get (xs ++ ys) i ≡ slice_get xs i
+get-prefix [] ys i l = absurd (omega (arith, l))
+get-prefix (x ∷ xs) ys zero l = refl
+get-prefix (x ∷ xs) ys (suc i) l = get-prefix xs ys i (omega (arith, l))
 
 get-next : {A : Type 0} (xs : List A) (y : A) → slice_get (xs ++ y ∷ []) (length xs) ≡ Some y
 get-next [] y = refl
@@ -86,7 +86,7 @@ new_numbered outer numbers after tables more h n = record {
 
 stays-old : (tables more : List Table) (empty : Table) (o : Option ℕ) (name : List ℕ) → ((i : ℕ) → o ≡ Some i → i < length tables) → more ≡ tables ++ empty ∷ [] → in_numbered o more name ≡ in_numbered o tables name
 stays-old tables more empty None name f e = refl
-stays-old tables more empty (Some i) name f e = ap (λ t. in_table t name) (ap (λ (ts : List Table). slice_get ts i) e ∙ get-front tables (empty ∷ []) i (f i refl))
+stays-old tables more empty (Some i) name f e = ap (λ t. in_table t name) (ap (λ (ts : List Table). slice_get ts i) e ∙ get-prefix tables (empty ∷ []) i (f i refl))
 
 stays-by : (b : Bool) (outer : List ℕ) (numbers after : Table) (tables more : List Table) → IsNewOuter outer numbers tables after more → IsNumbered numbers tables → (other name : List ℕ) → bytes_eq outer other ≡ b → in_numbered (if b then Some (length tables) else numbers other) more name ≡ member_place numbers tables other name
 stays-by true outer numbers after tables more h n other name e =
@@ -144,7 +144,7 @@ unfolding surrounds
 surrounds-cons c cs name = refl
 
 surrounds-on : (known : List ClassSummary) (k : ℕ) (c : ClassSummary) (name : List ℕ) → slice_get known k ≡ Some c → surrounds (drop k known) name ≡ (same_text (outer_in c.nesting) name || surrounds (drop (k + 1) known) name)
-surrounds-on known k c name g = ap (λ cs. surrounds cs name) (front known (k + 1) k c refl g) ∙ surrounds-cons c (drop (k + 1) known) name
+surrounds-on known k c name g = ap (λ cs. surrounds cs name) (prefix known (k + 1) k c refl g) ∙ surrounds-cons c (drop (k + 1) known) name
 
 -- a class that stands in none
 pub members_none : (known : List ClassSummary) (k : ℕ) (c : ClassSummary) (numbers : Table) (tables : List Table) → slice_get known k ≡ Some c → outer_in c.nesting ≡ None → AreMemberTables known (k + 1) numbers tables → AreMemberTables known k numbers tables

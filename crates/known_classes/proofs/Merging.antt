@@ -202,10 +202,10 @@ split_at (x ∷ xs) ys (suc i) d e = elim (split_at xs ys i d e) [
   | inr s ↦ let z : suc i ≡ length (x ∷ xs) + s.0 = omega (arith, s.1.1) in inr (s.0, (s.1.0, z))
 ]
 
-pub get-front : {A : Type 0} (xs ys : List A) (i : ℕ) (d : A) → slice_get xs i ≡ Some d → slice_get (xs ++ ys) i ≡ Some d
-get-front [] ys i d e = absurd cc
-get-front (x ∷ xs) ys zero d e = e
-get-front (x ∷ xs) ys (suc i) d e = get-front xs ys i d e
+pub get-prefix : {A : Type 0} (xs ys : List A) (i : ℕ) (d : A) → slice_get xs i ≡ Some d → slice_get (xs ++ ys) i ≡ Some d
+get-prefix [] ys i d e = absurd cc
+get-prefix (x ∷ xs) ys zero d e = e
+get-prefix (x ∷ xs) ys (suc i) d e = get-prefix xs ys i d e
 
 pub get-behind : {A : Type 0} (xs ys : List A) (k : ℕ) → slice_get (xs ++ ys) (length xs + k) ≡ slice_get ys k
 get-behind [] ys k = let z : 0 + k ≡ k = omega arith in ap (slice_get ys) z
@@ -215,7 +215,7 @@ get-behind (x ∷ xs) ys k = let z : length (x ∷ xs) + k ≡ suc (length xs + 
 pub merged-base : (base extra : List ClassSummary) (i : ℕ) (c : ClassSummary) → slice_get base i ≡ Some c → slice_get (merged base extra) i ≡ Some (replaced extra c)
 merged-base base extra i c e =
     ap (λ (r : List ClassSummary). slice_get r i) (merged-is base extra)
-    ∙ get-front (map (replaced extra) base) (added base extra) i (replaced extra c) (slice_get-map (replaced extra) base i ∙ ap (option_map (replaced extra)) e)
+    ∙ get-prefix (map (replaced extra) base) (added base extra) i (replaced extra c) (slice_get-map (replaced extra) base i ∙ ap (option_map (replaced extra)) e)
 
 -- an added class behind the base
 pub merged-added : (base extra : List ClassSummary) (k : ℕ) → slice_get (merged base extra) (length base + k) ≡ slice_get (added base extra) k

@@ -29,8 +29,8 @@ best_first known outer name n e = record {
   place = ap (nested_class outer name) (drop_all n known (omega arith)) ∙ nested-none outer name;
 }
 
-pub front : (known : List ClassSummary) (left k : ℕ) (c : ClassSummary) → k + 1 ≡ left → slice_get known k ≡ Some c → drop k known ≡ c ∷ drop left known
-front known left k c e g =
+pub prefix : (known : List ClassSummary) (left k : ℕ) (c : ClassSummary) → k + 1 ≡ left → slice_get known k ≡ Some c → drop k known ≡ c ∷ drop left known
+prefix known left k c e g =
     drop_more known k c (slice_get_within known k c g) ∙ (ap (λ (x : ClassSummary). x ∷ drop (k + 1) known) (get_or_from_slice_get known k c c g) ∙ ap (λ (n : ℕ). c ∷ drop n known) e)
 
 class_of : (known : List ClassSummary) (x : Option ClassSummary) (best : Option ℕ) → IsPlaceOf known x best → x ≡ class_at known best
@@ -43,13 +43,13 @@ best_in known x (Some i) h = h.0
 
 pub best_past : (known : List ClassSummary) (outer name : List ℕ) (left k : ℕ) (c : ClassSummary) (best : Option ℕ) → k + 1 ≡ left → slice_get known k ≡ Some c → is_nested outer name c.nesting ≡ false → IsBest known outer name left best → IsBest known outer name k best
 best_past known outer name left k c best e g n h =
-    let same : nested_class outer name (drop left known) ≡ nested_class outer name (drop k known) = sym (ap (nested_class outer name) (front known left k c e g) ∙ nested-on outer name c (drop left known) n) in
+    let same : nested_class outer name (drop left known) ≡ nested_class outer name (drop k known) = sym (ap (nested_class outer name) (prefix known left k c e g) ∙ nested-on outer name c (drop left known) n) in
     let P : Option ClassSummary → Type 0 = λ x. IsPlaceOf known x best in
     record { within = omega (arith, h.within); place = subst P same h.place }
 
 pub best_hit : (known : List ClassSummary) (outer name : List ℕ) (left k : ℕ) (c : ClassSummary) (best : Option ℕ) (r : ℕ) → k + 1 ≡ left → slice_get known k ≡ Some c → is_nested outer name c.nesting ≡ true → r < length known → IsLesser known k best r → IsBest known outer name left best → IsBest known outer name k (Some r)
 best_hit known outer name left k c best r e g n l s h =
-    let same : nested_class outer name (drop k known) ≡ Some (lesser c (class_at known best)) = ap (nested_class outer name) (front known left k c e g) ∙ (nested-hit outer name c (drop left known) n ∙ ap (λ (x : Option ClassSummary). Some (lesser c x)) (class_of known (nested_class outer name (drop left known)) best h.place)) in
+    let same : nested_class outer name (drop k known) ≡ Some (lesser c (class_at known best)) = ap (nested_class outer name) (prefix known left k c e g) ∙ (nested-hit outer name c (drop left known) n ∙ ap (λ (x : Option ClassSummary). Some (lesser c x)) (class_of known (nested_class outer name (drop left known)) best h.place)) in
     record { within = omega (arith, h.within); place = (l, same ∙ sym (s c g)) }
 
 pub best_end : (known : List ClassSummary) (outer name : List ℕ) (left : ℕ) (best : Option ℕ) → left ≤ 0 → IsBest known outer name left best → IsPlaceOf known (nested_class outer name known) best

@@ -141,8 +141,8 @@ pub record IsMade (base extra : List ClassSummary) (numbers : List ℕ) (t : Lis
   pub each : map (slice_get extra) (reverse numbers) ≡ map Some (added base (drop left extra))
   pub table : IsTable base extra (drop left extra) t
 
-front : (extra : List ClassSummary) (left k : ℕ) (e : ClassSummary) → k + 1 ≡ left → slice_get extra k ≡ Some e → drop k extra ≡ e ∷ drop left extra
-front extra left k e l g =
+prefix : (extra : List ClassSummary) (left k : ℕ) (e : ClassSummary) → k + 1 ≡ left → slice_get extra k ≡ Some e → drop k extra ≡ e ∷ drop left extra
+prefix extra left k e l g =
     drop_more extra k e (slice_get_within extra k e g) ∙ (ap (λ (x : ClassSummary). x ∷ drop (k + 1) extra) (get_or_from_slice_get extra k e e g) ∙ ap (λ (n : ℕ). e ∷ drop n extra) l)
 
 picked-length : (extra new : List ClassSummary) (numbers : List ℕ) → map (slice_get extra) (reverse numbers) ≡ map Some new → length numbers ≡ length new
@@ -160,7 +160,7 @@ made_first base extra numbers t n l z e =
 pub made_skip : (base extra : List ClassSummary) (numbers : List ℕ) (t : List ℕ → Option ℕ) (left k : ℕ) (e : ClassSummary) → k + 1 ≡ left → slice_get extra k ≡ Some e → is_some (t e.name) ≡ true → IsMade base extra numbers t left → IsMade base extra numbers t k
 made_skip base extra numbers t left k e l g s h =
     let part : List ClassSummary = drop left extra in
-    let d : drop k extra ≡ e ∷ part = front extra left k e l g in
+    let d : drop k extra ≡ e ∷ part = prefix extra left k e l g in
     let a : added base (e ∷ part) ≡ added base part = added-skip base e part (known-later base part e.name (sym (h.table.has e.name) ∙ s)) in
     record {
       within = omega (arith, h.within);
@@ -171,7 +171,7 @@ made_skip base extra numbers t left k e l g s h =
 pub made_base : (base extra : List ClassSummary) (numbers : List ℕ) (t u : List ℕ → Option ℕ) (left k : ℕ) (e c : ClassSummary) → k + 1 ≡ left → slice_get extra k ≡ Some e → is_some (t e.name) ≡ false → class_named base e.name ≡ Some c → Puts e.name k t u → IsMade base extra numbers t left → IsMade base extra numbers u k
 made_base base extra numbers t u left k e c l g s b p h =
     let part : List ClassSummary = drop left extra in
-    let d : drop k extra ≡ e ∷ part = front extra left k e l g in
+    let d : drop k extra ≡ e ∷ part = prefix extra left k e l g in
     let a : added base (e ∷ part) ≡ added base part = added-skip base e part (known-first base part e.name (ap is_some b)) in
     record {
       within = omega (arith, h.within);
@@ -182,7 +182,7 @@ made_base base extra numbers t u left k e c l g s b p h =
 pub made_new : (base extra : List ClassSummary) (numbers more : List ℕ) (t u : List ℕ → Option ℕ) (left k n : ℕ) (e : ClassSummary) → k + 1 ≡ left → slice_get extra k ≡ Some e → is_some (t e.name) ≡ false → class_named base e.name ≡ None → n ≡ length numbers → more ≡ numbers ++ k ∷ [] → Puts e.name n t u → IsMade base extra numbers t left → IsMade base extra more u k
 made_new base extra numbers more t u left k n e l g s b m q p h =
     let part : List ClassSummary = drop left extra in
-    let d : drop k extra ≡ e ∷ part = front extra left k e l g in
+    let d : drop k extra ≡ e ∷ part = prefix extra left k e l g in
     let a : added base (e ∷ part) ≡ e ∷ added base part = added-take base e part (not-known base part e.name b (sym (h.table.has e.name) ∙ s)) in
     record {
       within = omega (arith, h.within);

@@ -134,8 +134,8 @@ next_plain cs place c outer text once g o s b h t = record {
 }
 
 -- a class with an outer class before it, and a simple name
-pub next_nested : (cs : List ClassSummary) (place : ℕ) (c : ClassSummary) (outer simple front text : List ℕ) → HasEachOnce cs → slice_get cs place ≡ Some c → outer_in c.nesting ≡ Some outer → simple_in c.nesting ≡ Some simple → IsBefore cs place outer → IsClosedBelow cs place → front ≡ canonical cs outer → text ≡ front ++ 46 ∷ simple → IsNextName cs place text
-next_nested cs place c outer simple front text once g o s b h f t = record {
+pub next_nested : (cs : List ClassSummary) (place : ℕ) (c : ClassSummary) (outer simple prefix text : List ℕ) → HasEachOnce cs → slice_get cs place ≡ Some c → outer_in c.nesting ≡ Some outer → simple_in c.nesting ≡ Some simple → IsBefore cs place outer → IsClosedBelow cs place → prefix ≡ canonical cs outer → text ≡ prefix ++ 46 ∷ simple → IsNextName cs place text
+next_nested cs place c outer simple prefix text once g o s b h f t = record {
   named = λ d e.
       let q : c ≡ d = (let r : Some c ≡ Some d = sym g ∙ e in cc) in
       t ∙ ap (λ x. x ++ 46 ∷ simple) f
@@ -172,10 +172,10 @@ pub found_class : (cs : List ClassSummary) (outer : List ℕ) (around : ℕ) →
 found_class cs outer around h = let p = there cs around h.0 in (p.0, p.1, class-name cs outer p.0 (h.1 ∙ p.1))
 
 -- one name more
-get-front : {A : Type 0} (xs ys : List A) (i : ℕ) → i < length xs → slice_get (xs ++ ys) i ≡ slice_get xs i
-get-front [] ys i l = absurd (omega (arith, l))
-get-front (x ∷ xs) ys zero l = refl
-get-front (x ∷ xs) ys (suc i) l = get-front xs ys i (omega (arith, l))
+get-prefix : {A : Type 0} (xs ys : List A) (i : ℕ) → i < length xs → slice_get (xs ++ ys) i ≡ slice_get xs i
+get-prefix [] ys i l = absurd (omega (arith, l))
+get-prefix (x ∷ xs) ys zero l = refl
+get-prefix (x ∷ xs) ys (suc i) l = get-prefix xs ys i (omega (arith, l))
 
 get-next : {A : Type 0} (xs : List A) (y : A) → slice_get (xs ++ y ∷ []) (length xs) ≡ Some y
 get-next [] y = refl
@@ -193,7 +193,7 @@ names_on cs from place old new text e t h = record {
   each = λ i c l g.
       let s : length new ≡ length old + 1 = ap length e ∙ length-append old (text ∷ []) in
       elim (last-or i (length old) (let m = l in omega (arith, m, s))) [
-        | inl b ↦ ap (λ (r : List (List ℕ)). slice_get r i) e ∙ get-front old (text ∷ []) i b ∙ h.each i c b g
+        | inl b ↦ ap (λ (r : List (List ℕ)). slice_get r i) e ∙ get-prefix old (text ∷ []) i b ∙ h.each i c b g
         | inr q ↦
             let at : from + i ≡ place = omega (arith, q, h.size) in
             ap (λ (r : List (List ℕ)). slice_get r i) e ∙ ap (slice_get (old ++ text ∷ [])) q ∙ get-next old text ∙ ap Some (t c (sym (ap (slice_get cs) at) ∙ g))

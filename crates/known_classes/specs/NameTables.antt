@@ -88,7 +88,7 @@ pub record IsNextName (known : KnownClasses) (place : ℕ) (text : List ℕ) : T
 -- The classes of the base come first; each keeps its name, its canonical name, its outer class and its simple name.
 pub record Extends (base known : KnownClasses) : Type 0 where
   pub within : length base ≤ length known
-  pub front : (j : ℕ) (b : ClassSummary) → slice_get base j ≡ Some b → (c : ClassSummary) × (slice_get known j ≡ Some c) × (c.name ≡ b.name) × (outer_in c.nesting ≡ outer_in b.nesting) × (simple_in c.nesting ≡ simple_in b.nesting) × (canonical known c.name ≡ canonical base b.name)
+  pub prefix : (j : ℕ) (b : ClassSummary) → slice_get base j ≡ Some b → (c : ClassSummary) × (slice_get known j ≡ Some c) × (c.name ≡ b.name) × (outer_in c.nesting ≡ outer_in b.nesting) × (simple_in c.nesting ≡ simple_in b.nesting) × (canonical known c.name ≡ canonical base b.name)
   pub closed : IsClosedBelow known (length base)
 
 -- The tables are those of all classes, or of those behind the base, which comes first.

@@ -22,8 +22,8 @@ pub fn push_dotted(text: &mut Text, name: &str) -> Result<(), AllocError>
     ensures { OnOk result (text.new ≡ text.old ++ dotted name.now) }
 {
     let mut rest = name;
-    while let Some((front, more)) = cut_at_slash(rest) {
-        text.push_str(front)?;
+    while let Some((prefix, more)) = cut_at_slash(rest) {
+        text.push_str(prefix)?;
         text.push_str(".")?;
         rest = more;
     }

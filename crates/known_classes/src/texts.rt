@@ -19,10 +19,10 @@ fn dotted_text(alloc: Global, name: &Text) -> Result<Text, AllocError>
 }
 
 /// A text, `.` and a simple name.
-fn nested_text(alloc: Global, front: &Text, simple: &Text) -> Result<Text, AllocError>
-    ensures { IfOk result (λ text. text ≡ front.now ++ 46 ∷ simple.now) }
+fn nested_text(alloc: Global, prefix: &Text, simple: &Text) -> Result<Text, AllocError>
+    ensures { IfOk result (λ text. text ≡ prefix.now ++ 46 ∷ simple.now) }
 {
-    let mut text = front.copy(alloc)?;
+    let mut text = prefix.copy(alloc)?;
     text.push_str(".")?;
     text.push_str(simple.as_str())?;
     Ok(text)
@@ -90,8 +90,8 @@ fn text_at<C: Classes, L: ClassList>(
         let text = dotted_text(alloc, &class.name)?;
         return Ok(Some(text));
     };
-    let front = outer_text(alloc, base, classes, from, texts, outer)?;
-    let text = nested_text(alloc, &front, simple)?;
+    let prefix = outer_text(alloc, base, classes, from, texts, outer)?;
+    let text = nested_text(alloc, &prefix, simple)?;
     Ok(Some(text))
 }
 

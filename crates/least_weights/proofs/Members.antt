@@ -20,14 +20,14 @@ each-more P xs i x d low at before here m h =
 pub each-all : (P : ℕ → Type 0) (xs : List ℕ) (i : ℕ) → length xs ≤ i → ((m : ℕ) → has m (take i xs) ≡ true → P m) → (m : ℕ) → has m xs ≡ true → P m
 each-all P xs i past before m h = before m (ap (has m) (take_all i xs past) ∙ h)
 
--- sums of fronts
+-- sums of prefixes
 pub total-more : (f : ℕ → ℕ) (xs : List ℕ) (i x d : ℕ) → i < length xs → x ≡ get_or xs i d → total f (take (i + 1) xs) ≡ total f (take i xs) + f x
 total-more f xs i x d low at =
     let split = ap (total f) (take_more xs i d low ∙ ap (λ y. take i xs ++ y ∷ []) (sym at)) ∙ total-append f (take i xs) (x ∷ []) in
     omega (arith, split)
 
-pub total-front : (f : ℕ → ℕ) (xs : List ℕ) (i : ℕ) → total f (take i xs) ≤ total f xs
-total-front f [] zero = omega arith
-total-front f [] (suc i) = omega arith
-total-front f (x ∷ xs) zero = omega arith
-total-front f (x ∷ xs) (suc i) = (let r = total-front f xs i in omega (arith, r))
+pub total-prefix : (f : ℕ → ℕ) (xs : List ℕ) (i : ℕ) → total f (take i xs) ≤ total f xs
+total-prefix f [] zero = omega arith
+total-prefix f [] (suc i) = omega arith
+total-prefix f (x ∷ xs) zero = omega arith
+total-prefix f (x ∷ xs) (suc i) = (let r = total-prefix f xs i in omega (arith, r))

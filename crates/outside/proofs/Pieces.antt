@@ -4,7 +4,7 @@ use Rattle.std.proofs.lemmas.List.{take_all}
 use Rattle.std.specs.Prelude.{Result, Ok, Err, OnErr}
 use Rattle.std.proofs.Math.Seq.{take-add, take-append-add, take-append_seam}
 use Rattle.std.specs.Io.KnownBytes.{Appends}
-use Rattle.outside.specs.Gathered.{Gathered, WroteFront}
+use Rattle.outside.specs.Gathered.{Gathered, WrotePrefix}
 
 pub appends_more : (a b c : Option (List ℕ)) (d n : ℕ) (p rest : List ℕ) → rest ≡ drop d p → Appends a b (take d p) → Appends b c (take n rest) → Appends a c (take (d + n) p)
 appends_more None b c d n p rest is h k = tt
@@ -25,24 +25,24 @@ appends_both (Some xs) (Some ys) None p q h k = k
 appends_both (Some xs) (Some ys) (Some zs) p q h k = k ∙ ap (λ t. t ++ q) h ∙ append_assoc xs p q
 
 -- what is held is written up to a place
-pub front_of_held : (start now later : Option (List ℕ)) (held all : List ℕ) → Gathered start now held all → WroteFront now later held → WroteFront start later all
-front_of_held start now later held all g w = record {
+pub prefix_of_held : (start now later : Option (List ℕ)) (held all : List ℕ) → Gathered start now held all → WrotePrefix now later held → WrotePrefix start later all
+prefix_of_held start now later held all g w = record {
   count = length g.handed + w.count;
   within = omega (arith, ap length g.whole, length-append g.handed held, w.within);
   wrote =
       let joined = appends_both start now later g.handed (take w.count held) g.wrote w.wrote in
-      let front = take-append-add g.handed held w.count in
-      rw (sym g.whole, front) joined;
+      let prefix = take-append-add g.handed held w.count in
+      rw (sym g.whole, prefix) joined;
 }
 
 -- nothing more is written
-pub front_stands : (start now : Option (List ℕ)) (held all more : List ℕ) → Gathered start now held all → WroteFront start now (all ++ more)
-front_stands start now held all more g = record {
+pub prefix_stands : (start now : Option (List ℕ)) (held all more : List ℕ) → Gathered start now held all → WrotePrefix start now (all ++ more)
+prefix_stands start now held all more g = record {
   count = length g.handed;
   within = omega (arith, ap length g.whole, length-append g.handed held, length-append all more);
   wrote =
-      let front = take-append_seam g.handed (held ++ more) in
-      rw (sym g.whole, append_assoc g.handed held more, front) g.wrote;
+      let prefix = take-append_seam g.handed (held ++ more) in
+      rw (sym g.whole, append_assoc g.handed held more, prefix) g.wrote;
 }
 
 -- bytes are held in addition

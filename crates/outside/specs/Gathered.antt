@@ -8,8 +8,8 @@ pub record Gathered (start now : Option (List ℕ)) (held all : List ℕ) : Type
   pub wrote : Appends start now handed
   pub whole : handed ++ held ≡ all
 
--- a front of these bytes was written, and nothing else
-pub record WroteFront (start now : Option (List ℕ)) (all : List ℕ) : Type 0 where
+-- a prefix of these bytes was written, and nothing else
+pub record WrotePrefix (start now : Option (List ℕ)) (all : List ℕ) : Type 0 where
   pub count : ℕ
   pub within : count ≤ length all
   pub wrote : Appends start now (take count all)

@@ -1,7 +1,7 @@
 ghost use Rattle.std.specs.Prelude.{◌≡◌, ◌≤◌, ◌++◌, ℕ, List, Option, [], OnOk, OnErr, IsErrOf};
 ghost use Rattle.std.specs.Io.KnownBytes.{Appends};
 ghost use Rattle.outside.specs.Causes.{Rose, HasCause};
-ghost use Rattle.outside.specs.Gathered.{Gathered, WroteFront};
+ghost use Rattle.outside.specs.Gathered.{Gathered, WrotePrefix};
 ghost use Rattle.outside.specs.declared.gathering.WriteFault.TheVariants.{Failed, OutOfMemory};
 
 use crate::sink::{Sink, write_all};
@@ -61,14 +61,14 @@ impl Gathering {
     }
 
     /// Adds bytes to what is held, and hands all of it over where it is long enough. After a fault a
-    /// front of all bytes was written.
+    /// prefix of all bytes was written.
     pub fn put<K: Sink>(&mut self, sink: &mut K, bytes: &[u8]) -> Result<(), WriteFault>
         ensures added { OnOk result ((start : Option (List ℕ)) → (all : List ℕ) →
             Gathered start (K.written sink.old) self.old all
             → Gathered start (K.written sink.new) self.new (all ++ bytes.now)) }
-        ensures front { OnErr result ((start : Option (List ℕ)) → (all : List ℕ) →
+        ensures prefix { OnErr result ((start : Option (List ℕ)) → (all : List ℕ) →
             Gathered start (K.written sink.old) self.old all
-            → WroteFront start (K.written sink.new) (all ++ bytes.now)) }
+            → WrotePrefix start (K.written sink.new) (all ++ bytes.now)) }
         ensures later { K.faults sink.old ≤ K.faults sink.new }
         ensures cause { IsErrOf result WriteFault.Failed → Rose (K.faults sink.old) (K.faults sink.new) }
     {
@@ -80,15 +80,15 @@ impl Gathering {
         Ok(())
     }
 
-    /// Hands over all that is held. It takes no memory. After a fault a front of all bytes was written.
+    /// Hands over all that is held. It takes no memory. After a fault a prefix of all bytes was written.
     pub fn flush<K: Sink>(&mut self, sink: &mut K) -> Result<(), source::Failed>
         ensures empty { OnOk result (self.new ≡ []) }
         ensures all { OnOk result ((start : Option (List ℕ)) → (all : List ℕ) →
             Gathered start (K.written sink.old) self.old all
             → Appends start (K.written sink.new) all) }
-        ensures front { OnErr result ((start : Option (List ℕ)) → (all : List ℕ) →
+        ensures prefix { OnErr result ((start : Option (List ℕ)) → (all : List ℕ) →
             Gathered start (K.written sink.old) self.old all
-            → WroteFront start (K.written sink.new) all) }
+            → WrotePrefix start (K.written sink.new) all) }
         ensures cause { HasCause (K.faults sink.old) (K.faults sink.new) result }
     {
         write_all(sink, self.held.as_slice())?;

@@ -1,7 +1,7 @@
 ghost use Rattle.std.specs.Prelude.{◌≡◌, ◌<◌, ◌≤◌, ℕ, List, Option, length, take, OnOk, OnErr, IfOk};
 ghost use Rattle.std.specs.Io.KnownBytes.{WriteAppends, Appends};
 ghost use Rattle.outside.specs.Causes.{HasCause};
-ghost use Rattle.outside.specs.Gathered.{WroteFront};
+ghost use Rattle.outside.specs.Gathered.{WrotePrefix};
 
 use crate::source::Failed;
 
@@ -15,7 +15,7 @@ pub trait Sink {
     fn faults(&self) -> u64
         ensures { result ≡ faults self.now };
 
-    /// Takes a front of the piece, of one byte or more where the piece has any, and answers how many.
+    /// Takes a prefix of the piece, of one byte or more where the piece has any, and answers how many.
     fn write(&mut self, piece: &[u8]) -> Result<usize, Failed>
         ensures taken { IfOk result (λ n. (n ≤ length piece.now) × (0 < length piece.now → 0 < n)) }
         ensures bytes { WriteAppends (written self.old) (written self.new) result piece.now }
@@ -25,7 +25,7 @@ pub trait Sink {
 /// Writes all of the piece, by as many writes as it takes. It takes no memory.
 pub fn write_all<K: Sink>(sink: &mut K, piece: &[u8]) -> Result<(), Failed>
     ensures all { OnOk result (Appends (K.written sink.old) (K.written sink.new) piece.now) }
-    ensures front { OnErr result (WroteFront (K.written sink.old) (K.written sink.new) piece.now) }
+    ensures prefix { OnErr result (WrotePrefix (K.written sink.old) (K.written sink.new) piece.now) }
     ensures cause { HasCause (K.faults sink.old) (K.faults sink.new) result }
 {
     let mut done = 0;

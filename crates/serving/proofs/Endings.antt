@@ -3,7 +3,7 @@ use Rattle.std.proofs.Common.{rules, ◌≡◌, ◌⊎◌, inl, inr, ⊎_elim, �
 use Rattle.std.specs.Prelude.{nat_le}
 use Rattle.std.specs.Io.KnownBytes.{Consumes, IsAtEnd, Keeps}
 use Rattle.outside.specs.Causes.{Rose}
-use Rattle.outside.specs.Gathered.{WroteFront}
+use Rattle.outside.specs.Gathered.{WrotePrefix}
 use Rattle.terms.specs.Expr.{Expr}
 use Rattle.terms.specs.Listing.{IsWhole}
 use Rattle.terms.specs.Faults.{IsValid}
@@ -49,8 +49,8 @@ listed l l' w w' bs g read ended sheet written = record {
   wrote = written.wrote;
 }
 
-pub begun : (l l' w w' : Option (List ℕ)) (bs : List ℕ) (g : Parts) → Consumes l l' bs → (length bs < 16777217 → IsAtEnd l') → IsSheet bs g → IsValid g → ((list : List Expr) → IsWhole g list → WroteFront w w' (list_text g list)) → HasBegun l l' w w'
-begun l l' w w' bs g read ended sheet valid front =
+pub begun : (l l' w w' : Option (List ℕ)) (bs : List ℕ) (g : Parts) → Consumes l l' bs → (length bs < 16777217 → IsAtEnd l') → IsSheet bs g → IsValid g → ((list : List Expr) → IsWhole g list → WrotePrefix w w' (list_text g list)) → HasBegun l l' w w'
+begun l l' w w' bs g read ended sheet valid prefix =
     let whole = has_whole g (valid-heavy g valid) in
     record {
       bytes = bs;
@@ -59,7 +59,7 @@ begun l l' w w' bs g read ended sheet valid front =
       sheet = sheet;
       list = whole.0;
       front = whole.1.front;
-      wrote = front whole.0 whole.1;
+      wrote = prefix whole.0 whole.1;
     }
 
 pub refused : (l l' w : Option (List ℕ)) (bs : List ℕ) (line cause : ℕ) → Consumes l l' bs → (length bs < 16777217 → IsAtEnd l') → sheet_fault bs ≡ Some (record { line = line; cause = cause }) → HasRefused l l' w w line cause

@@ -6,7 +6,7 @@ use Rattle.std.specs.Io.KnownBytes.{Appends}
 use Rattle.std.proofs.lemmas.List.{take_all, take-append-drop, take-append-le, take_more, length-take, length-map}
 use Rattle.std.proofs.lemmas.List.Elements.{recursion_from_All, All-take, All-drop}
 use Rattle.std.proofs.Math.Seq.{take-add, take-append_seam}
-use Rattle.outside.specs.Gathered.{Gathered, WroteFront}
+use Rattle.outside.specs.Gathered.{Gathered, WrotePrefix}
 use Rattle.listing.specs.declared.item.Item.{Item}
 use Rattle.listing.specs.declared.page.Page.{Page}
 use Rattle.listing.specs.Found.{Listed, IsListed, term_of, terms_of, IsItem}
@@ -27,8 +27,8 @@ nothing None = tt
 nothing (Some xs) = sym (append-nil xs)
 
 -- nothing was written yet
-pub front-none : (a : Option (List ℕ)) (all : List ℕ) → WroteFront a a all
-front-none a all = record {
+pub prefix-none : (a : Option (List ℕ)) (all : List ℕ) → WrotePrefix a a all
+prefix-none a all = record {
   count = 0;
   within = omega arith;
   wrote = nothing a;
@@ -41,17 +41,17 @@ gathered-none a = record {
   whole = refl;
 }
 
--- a front of a front
-pub front-more : (start now : Option (List ℕ)) (all more : List ℕ) → WroteFront start now all → WroteFront start now (all ++ more)
-front-more start now all more w = record {
+-- a prefix of a prefix
+pub prefix-more : (start now : Option (List ℕ)) (all more : List ℕ) → WrotePrefix start now all → WrotePrefix start now (all ++ more)
+prefix-more start now all more w = record {
   count = w.count;
   within = omega (arith, w.within, length-append all more);
   wrote = rw (take-append-le w.count all more w.within) w.wrote;
 }
 
--- what was handed over is a front
-pub front-handed : (start now : Option (List ℕ)) (held all : List ℕ) → Gathered start now held all → WroteFront start now all
-front-handed start now held all g = record {
+-- what was handed over is a prefix
+pub prefix-handed : (start now : Option (List ℕ)) (held all : List ℕ) → Gathered start now held all → WrotePrefix start now all
+prefix-handed start now held all g = record {
   count = length g.handed;
   within = omega (arith, ap length g.whole, length-append g.handed held);
   wrote = rw (sym g.whole, take-append_seam g.handed held) g.wrote;
@@ -79,7 +79,7 @@ items-are g is all = items-rec g is (recursion_from_All (IsItem g) is all)
 pub given-none : (g : Parts) (w : Option (List ℕ)) (h : List ℕ) → HasGiven g 0 w w h h
 given-none g w h = record {
   given = [];
-  front = λ list whole. refl;
+  prefix = λ list whole. refl;
   gathered = λ start all gathered. subst (λ t. Gathered start w h t) (sym (append-nil all)) gathered;
 }
 
@@ -98,31 +98,31 @@ given-more g from count len w0 w1 w2 h0 h1 h2 page given items slice l put =
     ∙ ap (λ t. all ++ t) (ap (λ t. list_text g given.given ++ t) (items-are g page items) ∙ sym (flat-join (line_text g) given.given (terms_of page))) in
     record {
       given = given.given ++ terms_of page;
-      front = λ list whole.
-          ap (λ t. t ++ terms_of page) (given.front list whole)
+      prefix = λ list whole.
+          ap (λ t. t ++ terms_of page) (given.prefix list whole)
           ∙ ap (λ t. take from list ++ t) (sym (short (drop from list) (terms_of page) count len (slice list whole) long))
           ∙ sym (take-add from len list);
       gathered = λ start all gathered. subst (λ t. Gathered start w2 h2 t) (lines all) (put start (all ++ list_text g given.given) (given.gathered start all gathered));
     }
 
--- a front of the lines of a front
-front-whole : (start w : Option (List ℕ)) (g : Parts) (all : List ℕ) (es rest list : List Expr) → es ++ rest ≡ list → WroteFront start w (all ++ list_text g es) → WroteFront start w (all ++ list_text g list)
-front-whole start w g all es rest list e f =
+-- a prefix of the lines of a prefix
+prefix-whole : (start w : Option (List ℕ)) (g : Parts) (all : List ℕ) (es rest list : List Expr) → es ++ rest ≡ list → WrotePrefix start w (all ++ list_text g es) → WrotePrefix start w (all ++ list_text g list)
+prefix-whole start w g all es rest list e f =
     let lines : all ++ list_text g es ++ list_text g rest ≡ all ++ list_text g list =
     append_assoc all (list_text g es) (list_text g rest) ∙ ap (λ t. all ++ t) (sym (flat-join (line_text g) es rest) ∙ ap (list_text g) e) in
-    subst (λ t. WroteFront start w t) lines (front-more start w (all ++ list_text g es) (list_text g rest) f)
+    subst (λ t. WrotePrefix start w t) lines (prefix-more start w (all ++ list_text g es) (list_text g rest) f)
 
--- where it stops between two pages a front of the list was written
-pub given-front : (g : Parts) (from : ℕ) (w0 w1 : Option (List ℕ)) (h0 h1 : List ℕ) → HasGiven g from w0 w1 h0 h1 → (list : List Expr) → IsWhole g list → (start : Option (List ℕ)) (all : List ℕ) → Gathered start w0 h0 all → WroteFront start w1 (all ++ list_text g list)
-given-front g from w0 w1 h0 h1 given list whole start all gathered =
-    front-whole start w1 g all given.given (drop from list) list
-    (ap (λ t. t ++ drop from list) (given.front list whole) ∙ take-append-drop from list)
-    (front-handed start w1 h1 (all ++ list_text g given.given) (given.gathered start all gathered))
+-- where it stops between two pages a prefix of the list was written
+pub given-prefix : (g : Parts) (from : ℕ) (w0 w1 : Option (List ℕ)) (h0 h1 : List ℕ) → HasGiven g from w0 w1 h0 h1 → (list : List Expr) → IsWhole g list → (start : Option (List ℕ)) (all : List ℕ) → Gathered start w0 h0 all → WrotePrefix start w1 (all ++ list_text g list)
+given-prefix g from w0 w1 h0 h1 given list whole start all gathered =
+    prefix-whole start w1 g all given.given (drop from list) list
+    (ap (λ t. t ++ drop from list) (given.prefix list whole) ∙ take-append-drop from list)
+    (prefix-handed start w1 h1 (all ++ list_text g given.given) (given.gathered start all gathered))
 
 -- and so it is where it stops within a page
-pub page-front : (g : Parts) (from count : ℕ) (w0 w1 w2 : Option (List ℕ)) (h0 h1 : List ℕ) (page : List Item) → HasGiven g from w0 w1 h0 h1 → All (IsItem g) page → ((list : List Expr) → IsWhole g list → terms_of page ≡ take count (drop from list))
-    → ((start : Option (List ℕ)) (all : List ℕ) → Gathered start w1 h1 all → WroteFront start w2 (all ++ items_text page)) → (list : List Expr) → IsWhole g list → (start : Option (List ℕ)) (all : List ℕ) → Gathered start w0 h0 all → WroteFront start w2 (all ++ list_text g list)
-page-front g from count w0 w1 w2 h0 h1 page given items slice put list whole start all gathered =
+pub page-prefix : (g : Parts) (from count : ℕ) (w0 w1 w2 : Option (List ℕ)) (h0 h1 : List ℕ) (page : List Item) → HasGiven g from w0 w1 h0 h1 → All (IsItem g) page → ((list : List Expr) → IsWhole g list → terms_of page ≡ take count (drop from list))
+    → ((start : Option (List ℕ)) (all : List ℕ) → Gathered start w1 h1 all → WrotePrefix start w2 (all ++ items_text page)) → (list : List Expr) → IsWhole g list → (start : Option (List ℕ)) (all : List ℕ) → Gathered start w0 h0 all → WrotePrefix start w2 (all ++ list_text g list)
+page-prefix g from count w0 w1 w2 h0 h1 page given items slice put list whole start all gathered =
     let es = given.given ++ terms_of page in
     let lines : all ++ list_text g given.given ++ items_text page ≡ all ++ list_text g es =
     append_assoc all (list_text g given.given) (items_text page)
@@ -131,14 +131,14 @@ page-front g from count w0 w1 w2 h0 h1 page given items slice put list whole sta
     let split : es ++ rest ≡ list =
     append_assoc given.given (terms_of page) rest
     ∙ ap (λ t. given.given ++ t) (ap (λ t. t ++ rest) (slice list whole) ∙ take-append-drop count (drop from list))
-    ∙ ap (λ t. t ++ drop from list) (given.front list whole)
+    ∙ ap (λ t. t ++ drop from list) (given.prefix list whole)
     ∙ take-append-drop from list in
-    front-whole start w2 g all es rest list split (subst (λ t. WroteFront start w2 t) lines (put start (all ++ list_text g given.given) (given.gathered start all gathered)))
+    prefix-whole start w2 g all es rest list split (subst (λ t. WrotePrefix start w2 t) lines (put start (all ++ list_text g given.given) (given.gathered start all gathered)))
 
 -- all of the list was given out
 pub given-all : (g : Parts) (from : ℕ) (list : List Expr) (w0 w1 : Option (List ℕ)) (h0 h1 : List ℕ) → HasGiven g from w0 w1 h0 h1 → IsWhole g list → length list ≤ from → (list : List Expr) × IsWhole g list × ((start : Option (List ℕ)) → (all : List ℕ) → Gathered start w0 h0 all → Gathered start w1 h1 (all ++ list_text g list))
 given-all g from list w0 w1 h0 h1 given whole l =
-    let all_is : given.given ≡ list = given.front list whole ∙ take_all from list l in
+    let all_is : given.given ≡ list = given.prefix list whole ∙ take_all from list l in
     (list, whole, λ start all gathered. subst (λ es. Gathered start w1 h1 (all ++ list_text g es)) all_is (given.gathered start all gathered))
 
 -- one line more of some items
@@ -148,13 +148,13 @@ items-step is n d line all l e =
     ∙ items-more (take n is) (get_or is n d) all
     ∙ ap (λ xs. all ++ items_text xs) (sym (take_more is n d l))
 
--- a front of the lines of the first items is one of the lines of all
-pub items-front : (start w : Option (List ℕ)) (is : List Item) (n : ℕ) (all : List ℕ) → WroteFront start w (all ++ items_text (take n is)) → WroteFront start w (all ++ items_text is)
-items-front start w is n all f =
+-- a prefix of the lines of the first items is one of the lines of all
+pub items-prefix : (start w : Option (List ℕ)) (is : List Item) (n : ℕ) (all : List ℕ) → WrotePrefix start w (all ++ items_text (take n is)) → WrotePrefix start w (all ++ items_text is)
+items-prefix start w is n all f =
     let lines : all ++ items_text (take n is) ++ items_text (drop n is) ≡ all ++ items_text is =
     append_assoc all (items_text (take n is)) (items_text (drop n is))
     ∙ ap (λ t. all ++ t) (sym (flat-join item_text (take n is) (drop n is)) ∙ ap items_text (take-append-drop n is)) in
-    subst (λ t. WroteFront start w t) lines (front-more start w (all ++ items_text (take n is)) (items_text (drop n is)) f)
+    subst (λ t. WrotePrefix start w t) lines (prefix-more start w (all ++ items_text (take n is)) (items_text (drop n is)) f)
 
 -- the page of a listing: how long it is, and that it lies within what is found
 pub page-within : (from count found first len : ℕ) → first ≡ min from found → len ≡ min count (found - from) → first + len ≤ found
@@ -195,17 +195,17 @@ held-none : (w : Option (List ℕ)) (h : List ℕ) → h ≡ [] → Gathered w w
 held-none w h is = subst (λ x. Gathered w w x []) (sym is) (gathered-none w)
 
 -- a list that was written up to a fault, from nothing on
-pub list-front : (g p : Parts) (w0 w1 : Option (List ℕ)) (h : List ℕ) → p ≡ g → h ≡ [] → ((list : List Expr) → IsWhole p list → (start : Option (List ℕ)) (all : List ℕ) → Gathered start w0 h all → WroteFront start w1 (all ++ list_text p list)) → (list : List Expr) → IsWhole g list → WroteFront w0 w1 (list_text g list)
-list-front g p w0 w1 h e is f =
-    let P : Parts → Type 0 = λ q. (list : List Expr) → IsWhole q list → WroteFront w0 w1 (list_text q list) in
+pub list-prefix : (g p : Parts) (w0 w1 : Option (List ℕ)) (h : List ℕ) → p ≡ g → h ≡ [] → ((list : List Expr) → IsWhole p list → (start : Option (List ℕ)) (all : List ℕ) → Gathered start w0 h all → WrotePrefix start w1 (all ++ list_text p list)) → (list : List Expr) → IsWhole g list → WrotePrefix w0 w1 (list_text g list)
+list-prefix g p w0 w1 h e is f =
+    let P : Parts → Type 0 = λ q. (list : List Expr) → IsWhole q list → WrotePrefix w0 w1 (list_text q list) in
     subst P e (λ list whole. f list whole w0 [] (held-none w0 h is))
 
 -- the list went through the gathering, and all that was held was handed over up to a fault
-pub flush-front : (g p : Parts) (w0 w1 w2 : Option (List ℕ)) (h0 h1 : List ℕ) → p ≡ g → h0 ≡ [] → (list : List Expr) × IsWhole p list × ((start : Option (List ℕ)) → (all : List ℕ) → Gathered start w0 h0 all → Gathered start w1 h1 (all ++ list_text p list)) → ((start : Option (List ℕ)) (all : List ℕ) → Gathered start w1 h1 all → WroteFront start w2 all) → (list : List Expr) → IsWhole g list → WroteFront w0 w2 (list_text g list)
-flush-front g p w0 w1 w2 h0 h1 e is put flush =
-    let P : Parts → Type 0 = λ q. (list : List Expr) → IsWhole q list → WroteFront w0 w2 (list_text q list) in
-    let front = flush w0 (list_text p put.0) (put.2 w0 [] (held-none w0 h0 is)) in
-    subst P e (λ list whole. subst (λ es. WroteFront w0 w2 (list_text p es)) (one_whole p put.0 list put.1 whole) front)
+pub flush-prefix : (g p : Parts) (w0 w1 w2 : Option (List ℕ)) (h0 h1 : List ℕ) → p ≡ g → h0 ≡ [] → (list : List Expr) × IsWhole p list × ((start : Option (List ℕ)) → (all : List ℕ) → Gathered start w0 h0 all → Gathered start w1 h1 (all ++ list_text p list)) → ((start : Option (List ℕ)) (all : List ℕ) → Gathered start w1 h1 all → WrotePrefix start w2 all) → (list : List Expr) → IsWhole g list → WrotePrefix w0 w2 (list_text g list)
+flush-prefix g p w0 w1 w2 h0 h1 e is put flush =
+    let P : Parts → Type 0 = λ q. (list : List Expr) → IsWhole q list → WrotePrefix w0 w2 (list_text q list) in
+    let prefix = flush w0 (list_text p put.0) (put.2 w0 [] (held-none w0 h0 is)) in
+    subst P e (λ list whole. subst (λ es. WrotePrefix w0 w2 (list_text p es)) (one_whole p put.0 list put.1 whole) prefix)
 
 -- and all of it was handed over
 pub list-written : (g p : Parts) (w0 w1 w2 : Option (List ℕ)) (h0 h1 : List ℕ) → p ≡ g → h0 ≡ [] → (list : List Expr) × IsWhole p list × ((start : Option (List ℕ)) → (all : List ℕ) → Gathered start w0 h0 all → Gathered start w1 h1 (all ++ list_text p list)) → ((start : Option (List ℕ)) (all : List ℕ) → Gathered start w1 h1 all → Appends start w2 all) → HasWritten g w0 w2

@@ -3,7 +3,7 @@ use Rattle.std.specs.Prelude.{◌≡◌, ◌⊎◌, ℕ, ◌<◌, ◌==◌, List
 use Rattle.std.specs.List.{flat_map}
 use Rattle.std.specs.Io.KnownBytes.{Consumes, IsAtEnd, Appends, Keeps}
 use Rattle.outside.specs.Causes.{Rose}
-use Rattle.outside.specs.Gathered.{Gathered, WroteFront}
+use Rattle.outside.specs.Gathered.{Gathered, WrotePrefix}
 use Rattle.listing.specs.declared.item.Item.{Item}
 use Rattle.terms.specs.Expr.{Expr}
 use Rattle.terms.specs.Place.{total_of}
@@ -40,7 +40,7 @@ pub record HasWritten (g : Parts) (written written' : Option (List ℕ)) : Type 
 -- the first terms of the list were given out, so many of them, and their lines went through the gathering
 pub record HasGiven (g : Parts) (from : ℕ) (written written' : Option (List ℕ)) (held held' : List ℕ) : Type 0 where
   pub given : List Expr
-  pub front : (list : List Expr) → IsWhole g list → given ≡ take from list
+  pub prefix : (list : List Expr) → IsWhole g list → given ≡ take from list
   pub gathered : (start : Option (List ℕ)) (all : List ℕ) → Gathered start written held all → Gathered start written' held' (all ++ list_text g given)
 
 -- the source was read to its end, and this is what was left in it
@@ -66,7 +66,7 @@ pub record HasRefused (left left' written written' : Option (List ℕ)) (line ca
   pub fault : sheet_fault bytes ≡ Some (record { line = line; cause = cause })
   pub silent : Keeps written written'
 
--- the input is a sheet, and first bytes of the lines of a front of its list were written and nothing else
+-- the input is a sheet, and first bytes of the lines of a prefix of its list were written and nothing else
 pub record HasBegun (left left' written written' : Option (List ℕ)) : Type 0 where
   pub bytes : List ℕ
   pub input : ReadAll left left' bytes
@@ -74,7 +74,7 @@ pub record HasBegun (left left' written written' : Option (List ℕ)) : Type 0 w
   pub sheet : IsSheet bytes parts
   pub list : List Expr
   pub front : IsFront parts list
-  pub wrote : WroteFront written written' (list_text parts list)
+  pub wrote : WrotePrefix written written' (list_text parts list)
 
 -- how a run ended, by what was left, what was written, and how often source and sink had failed, before and after
 abbrev pub EndsBy : Ending → Option (List ℕ) → Option (List ℕ) → Option (List ℕ) → Option (List ℕ) → ℕ → ℕ → ℕ → ℕ → Type 0

@@ -1,6 +1,6 @@
 ghost use Rattle.std.specs.Prelude.{◌≡◌, ◌≤◌, ◌++◌, ℕ, List, Option, IfOk, OnOk, OnErr, IsErrOf, string_bytes};
 ghost use Rattle.outside.specs.Causes.{Rose};
-ghost use Rattle.outside.specs.Gathered.{Gathered, WroteFront};
+ghost use Rattle.outside.specs.Gathered.{Gathered, WrotePrefix};
 ghost use Rattle.serving.specs.Runs.{item_text, items_text, list_text, HasWritten};
 ghost use Rattle.terms.specs.Expr.{Expr};
 ghost use Rattle.terms.specs.Listing.{IsWhole};
@@ -39,9 +39,9 @@ fn put_items<K: Sink>(
     ensures added { OnOk result ((start : Option (List ℕ)) → (all : List ℕ) →
         Gathered start (K.written sink.old) gathering.old all
         → Gathered start (K.written sink.new) gathering.new (all ++ items_text items.now)) }
-    ensures front { OnErr result ((start : Option (List ℕ)) → (all : List ℕ) →
+    ensures prefix { OnErr result ((start : Option (List ℕ)) → (all : List ℕ) →
         Gathered start (K.written sink.old) gathering.old all
-        → WroteFront start (K.written sink.new) (all ++ items_text items.now)) }
+        → WrotePrefix start (K.written sink.new) (all ++ items_text items.now)) }
     ensures later { K.faults sink.old ≤ K.faults sink.new }
     ensures cause { IsErrOf result WriteFault.Failed → Rose (K.faults sink.old) (K.faults sink.new) }
 {
@@ -62,9 +62,9 @@ fn put_pages<E: Levels, K: Sink>(
     ensures whole { OnOk result ((list : List Expr) × IsWhole listing.old.parts list
         × ((start : Option (List ℕ)) → (all : List ℕ) → Gathered start (K.written sink.old) gathering.old all
         → Gathered start (K.written sink.new) gathering.new (all ++ list_text listing.old.parts list))) }
-    ensures front { OnErr result ((list : List Expr) → IsWhole listing.old.parts list
+    ensures prefix { OnErr result ((list : List Expr) → IsWhole listing.old.parts list
         → (start : Option (List ℕ)) → (all : List ℕ) → Gathered start (K.written sink.old) gathering.old all
-        → WroteFront start (K.written sink.new) (all ++ list_text listing.old.parts list)) }
+        → WrotePrefix start (K.written sink.new) (all ++ list_text listing.old.parts list)) }
     ensures later { K.faults sink.old ≤ K.faults sink.new }
     ensures cause { IsErrOf result WriteFault.Failed → Rose (K.faults sink.old) (K.faults sink.new) }
 {
@@ -86,8 +86,8 @@ fn put_pages<E: Levels, K: Sink>(
 /// Writes the list of an environment, one line for each term.
 pub fn write_list<K: Sink>(alloc: Global, env: Env, sink: &mut K) -> Result<(), WriteFault>
     ensures whole { OnOk result (HasWritten env (K.written sink.old) (K.written sink.new)) }
-    ensures front { OnErr result ((list : List Expr) → IsWhole env list
-        → WroteFront (K.written sink.old) (K.written sink.new) (list_text env list)) }
+    ensures prefix { OnErr result ((list : List Expr) → IsWhole env list
+        → WrotePrefix (K.written sink.old) (K.written sink.new) (list_text env list)) }
     ensures later { K.faults sink.old ≤ K.faults sink.new }
     ensures cause { IsErrOf result WriteFault.Failed → Rose (K.faults sink.old) (K.faults sink.new) }
 {

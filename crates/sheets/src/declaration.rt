@@ -7,7 +7,7 @@ ghost use Rattle.terms.specs.declared.parts.Arg.TheVariants.{Plain};
 
 use crate::kind::FormWord;
 use crate::names::Names;
-use crate::words::{front, number, tail, word};
+use crate::words::{number, prefix, tail, word};
 use lists::{Items, Text};
 use std::alloc::{AllocError, Global};
 use terms::{Arg, Decl, Form};
@@ -34,7 +34,7 @@ fn args_in<'w, 'a>(form: FormWord, words: &'w [&'a str]) -> &'w [&'a str]
     ensures { texts result.now ≡ args_in form (texts words.now) }
 {
     if is_lambda(form) {
-        return front(tail(words, 5), words.len().saturating_sub(7));
+        return prefix(tail(words, 5), words.len().saturating_sub(7));
     }
     if is_this(form) {
         return tail(words, 4);

@@ -115,7 +115,7 @@ pub fn tail<'w, 'a>(words: &'w [&'a str], count: usize) -> &'w [&'a str]
 
 /// The first words.
 #[tactic(auto, using(crate::proofs::Walks::words))]
-pub fn front<'w, 'a>(words: &'w [&'a str], count: usize) -> &'w [&'a str]
+pub fn prefix<'w, 'a>(words: &'w [&'a str], count: usize) -> &'w [&'a str]
     ensures { texts result.now ≡ take count (texts words.now) }
 {
     if count > words.len() {

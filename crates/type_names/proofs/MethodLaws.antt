@@ -188,9 +188,9 @@ pub utf8_after : (rest : List ℕ) (kind : Erased) (next : List ℕ) → IsUtf8 
 utf8_after rest kind next text e =
     let t = taken rest kind next e in
     let l = base_last kind.base in
-    let front = replicate kind.dims 91 in
-    let whole : rest ≡ (front ++ l.0) ++ (l.1 ∷ next) = t.0 ∙ ap (λ (x : List ℕ). (front ++ x) ++ next) l.3 ∙ ap (λ (x : List ℕ). x ++ next) (sym (append_assoc front l.0 (l.1 ∷ []))) ∙ append_assoc (front ++ l.0) (l.1 ∷ []) next in
-    utf8_past (front ++ l.0) l.1 next rest l.2 text whole
+    let prefix = replicate kind.dims 91 in
+    let whole : rest ≡ (prefix ++ l.0) ++ (l.1 ∷ next) = t.0 ∙ ap (λ (x : List ℕ). (prefix ++ x) ++ next) l.3 ∙ ap (λ (x : List ℕ). x ++ next) (sym (append_assoc prefix l.0 (l.1 ∷ []))) ∙ append_assoc (prefix ++ l.0) (l.1 ∷ []) next in
+    utf8_past (prefix ++ l.0) l.1 next rest l.2 text whole
 
 pub no_pair : {A : Type 0} (x : A) → None ≡ Some x → ⊥
 no_pair x e = cc

@@ -51,7 +51,7 @@ when_longer [] ys first whole one some e is = absurd (omega (arith, some))
 when_longer (x ∷ xs) [] first whole one some e is = e ∙ ap (λ (o : Ordering). ordering_then o Greater) is ∙ ends_greater x xs
 when_longer (x ∷ xs) (y ∷ ys) first whole one some e is = absurd (omega (arith, one))
 
--- the fronts of one length decide, and else what follows them
+-- the prefixes of one length decide, and else what follows them
 pub parted : (n : ℕ) (xs ys end : List ℕ) → n ≤ length xs → n ≤ length ys → ordering_then (by_bytes (take n xs) (take n ys)) (by_bytes (drop n xs ++ end) (drop n ys ++ end)) ≡ by_bytes (xs ++ end) (ys ++ end)
 parted zero xs ys end le more = refl
 parted (suc n) [] ys end le more = absurd (omega (arith, le))

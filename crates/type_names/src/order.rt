@@ -55,9 +55,11 @@ fn compare_names(name: &[u8], other: &[u8]) -> Ordering
     ensures { result ≡ slice_cmp nat_cmp (name.now ++ 59 ∷ []) (other.now ++ 59 ∷ []) }
 {
     let common = name.len().min(other.len());
-    let (front, rest) = name.split_at(common);
-    let (other_front, other_rest) = other.split_at(common);
-    front.cmp(&other_front).then(compare_ends(rest, other_rest))
+    let (prefix, rest) = name.split_at(common);
+    let (other_prefix, other_rest) = other.split_at(common);
+    prefix
+        .cmp(&other_prefix)
+        .then(compare_ends(rest, other_rest))
 }
 
 /// The order of two bases by their spellings.

@@ -37,9 +37,9 @@ or_right : (a b : Bool) → b ≡ true → (a || b) ≡ true
 or_right true b e = refl
 or_right false b e = e
 
-has_front : (n : Needed) (xs ys : List Needed) → has xs n ≡ true → has (xs ++ ys) n ≡ true
-has_front n [] ys e = absurd cc
-has_front n (x ∷ xs) ys e = go (same n x) e (has_front n xs ys)
+has_prefix : (n : Needed) (xs ys : List Needed) → has xs n ≡ true → has (xs ++ ys) n ≡ true
+has_prefix n [] ys e = absurd cc
+has_prefix n (x ∷ xs) ys e = go (same n x) e (has_prefix n xs ys)
   where
     go : (b : Bool) → (b || has xs n) ≡ true → (has xs n ≡ true → has (xs ++ ys) n ≡ true) → (b || has (xs ++ ys) n) ≡ true
     go true e more = refl
@@ -54,7 +54,7 @@ has_kept n m pool e = go (has pool m)
   where
     go : (b : Bool) → has (cond b pool (pool ++ m ∷ [])) n ≡ true
     go true = e
-    go false = has_front n pool (m ∷ []) e
+    go false = has_prefix n pool (m ∷ []) e
 
 has_added : (n : Needed) (pool : List Needed) → has (add pool n) n ≡ true
 has_added n pool = go (has pool n) refl
@@ -168,7 +168,7 @@ entries_fit all (text t ∷ ns) h = (h.0.1, entries_fit all ns h.1)
 
 pub head_fits : (pool : List Needed) (s : ClassShape) → 45 ≤ s.major → length pool < 65535 → IsWritten pool s → IsHead (head_in pool s)
 head_fits pool s new small w = record {
-  front = record { minor = w.minor; major = w.major; new = new; count = omega (arith, small) };
+  header = record { minor = w.minor; major = w.major; new = new; count = omega (arith, small) };
   each = entries_fit pool pool w.spelled;
   full = omega (arith, places_are pool pool);
 }

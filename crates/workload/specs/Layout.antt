@@ -61,7 +61,7 @@ abbrev pub body_in : List Needed → ClassShape → Body
 body_in pool s = record { own = own_in pool s; lists = lists_in pool s }
 
 abbrev pub head_in : List Needed → ClassShape → Head
-head_in pool s = record { front = record { minor = s.minor; major = s.major; count = length pool + 1 }; entries = entries_in pool }
+head_in pool s = record { header = record { minor = s.minor; major = s.major; count = length pool + 1 }; entries = entries_in pool }
 
 -- No entry stands twice.
 abbrev pub AreDistinct : List Entry → Type 0

@@ -1,6 +1,6 @@
 ghost use Rattle.std.specs.Prelude.{◌≡◌, ◌≤◌, ◌<◌, ◌++◌, OnOk, IfOk, IfErr, true, false, length};
 ghost use Rattle.std.specs.List.{list_any};
-ghost use Rattle.class_pool.specs.Spelling.{Head, IsPoolOf, head, front};
+ghost use Rattle.class_pool.specs.Spelling.{Head, IsPoolOf, head, header_bytes};
 ghost use Rattle.class_shape.specs.Parts.{body};
 ghost use Rattle.class_shape.specs.Shapes.{IsClassFile};
 ghost use Rattle.workload.specs.declared.fault.WriteFault.TheVariants.{TooBig};
@@ -28,9 +28,9 @@ fn has_long_list(shape: &ClassShape) -> bool
 }
 
 /// Adds the ten bytes of the header at the end.
-fn put_front(out: &mut Vec<u8>, plan: &PoolPlan<'_>, shape: &ClassShape) -> Result<(), AllocError>
+fn put_header(out: &mut Vec<u8>, plan: &PoolPlan<'_>, shape: &ClassShape) -> Result<(), AllocError>
     requires { length plan.now < 65535 }
-    ensures written { OnOk result (out.new.items ≡ out.old.items ++ front (head_in plan.now shape.now).front) }
+    ensures written { OnOk result (out.new.items ≡ out.old.items ++ header_bytes (head_in plan.now shape.now).header) }
     ensures minor { OnOk result (shape.now.minor < 65536) }
     ensures major { OnOk result (shape.now.major < 65536) }
 {
@@ -49,7 +49,7 @@ fn bytes_of(alloc: Global, plan: &PoolPlan<'_>, shape: &ClassShape) -> Result<Ve
     ensures big { IfErr result (λ e. e ≡ TooBig → list_any is_long_text plan.now ≡ true) }
 {
     let mut out = Vec::new(alloc);
-    put_front(&mut out, plan, shape)?;
+    put_header(&mut out, plan, shape)?;
     put_entries(alloc, &mut out, plan, plan.as_slice())?;
     put_own(&mut out, plan, shape)?;
     put_lists(&mut out, plan, shape)?;

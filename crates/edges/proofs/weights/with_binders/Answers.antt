@@ -1,6 +1,6 @@
 use Rattle.std.proofs.Common.{◌<◌, ◌+◌, length, ◌∷◌, [], ap, ◌∙◌, rules, arith}
 use Rattle.terms.specs.Reading.{binders}
-use Rattle.edges.proofs.Binders.{binders-more, binders-front, binders-none, binders-plain, binders-fun}
+use Rattle.edges.proofs.Binders.{binders-more, binders-prefix, binders-none, binders-plain, binders-fun}
 use Rattle.edges.proofs.weights.with_binders.Goals as goal
 use Rattle.edges.proofs.weights.with_binders.Goals.{in-Fun+else-more-limit, in_default}
 
@@ -11,11 +11,11 @@ pub returns-then-more-limit : goal.returns-then-more-limit
 returns-then-more-limit c =
     let low : c.loop-arg.arg-index < length c.args.args.now = search rules in
     let more = binders-more c.args.args.now c.loop-arg.arg-index c.arg-item.result _ low c.arg-item.is in
-    let front = binders-front c.args.args.now (c.loop-arg.arg-index + 1) in
+    let prefix = binders-prefix c.args.args.now (c.loop-arg.arg-index + 1) in
     let here = ap (λ a. binders (a ∷ [])) c.in-Fun.is ∙ binders-fun c.in-Fun.params c.in-Fun.field-1 in
     let shown = ap length c.as_slice-more.ensures in
     let so_far = c.loop-arg.invariant.so_far in
-    record { value = omega (arith, more, front, here, shown, so_far, c.if-more-limit.true) }
+    record { value = omega (arith, more, prefix, here, shown, so_far, c.if-more-limit.true) }
 
 pub loop-arg-preserved : goal.loop-arg-preserved
 loop-arg-preserved c =

@@ -8,4 +8,4 @@ returns-then-is_empty c = held-none c.args.lexemes.now (sym c.is_empty.ensures �
 pub returns : goal.returns
 returns c =
     let some = length-some c.args.lexemes.now (sym c.is_empty.ensures ∙ c.if-is_empty.false) in
-    (c.front.ensures.first ∙ ap (take _) c.tail.ensures.rest) ∙ held-some c.args.lexemes.now _ some
+    (c.prefix.ensures.first ∙ ap (take _) c.tail.ensures.rest) ∙ held-some c.args.lexemes.now _ some

@@ -41,4 +41,4 @@ returns g c =
     let found : IsPlaceOf known (class_named known outer) c.find.result = search rules in
     let near : IfSome c.find.result (λ q. q < c.args.place) = c.is_before.ensures c.if-not-is_before.false in
     let before : IsBefore known c.args.place outer = before_by known c.args.place outer c.find.result c.requires.once found near in
-    next_nested known c.args.place c.at-class.result.now outer simple c.in_ok-front.front c.in_ok-text-3.text c.requires.once c.at-class.ensures out sim before c.requires.closed c.in_ok-front.ensures c.in_ok-text-3.ensures
+    next_nested known c.args.place c.at-class.result.now outer simple c.in_ok-prefix.prefix c.in_ok-text-3.text c.requires.once c.at-class.ensures out sim before c.requires.closed c.in_ok-prefix.ensures c.in_ok-text-3.ensures

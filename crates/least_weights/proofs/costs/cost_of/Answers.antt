@@ -1,16 +1,16 @@
 use Rattle.std.proofs.Common.{◌+◌, ◌<◌, length, refl, rules, arith, get_or}
 use Rattle.least_weights.specs.Numbers.{number_at}
-use Rattle.least_weights.proofs.Members.{total-more, total-front}
+use Rattle.least_weights.proofs.Members.{total-more, total-prefix}
 use Rattle.least_weights.proofs.costs.cost_of.Goals as goal
 
 pub returns-then-more-limit : goal.returns-then-more-limit
 returns-then-more-limit c =
     let low : c.loop-tail.tail-index < length c.args.tails.now = search rules in
     let more = total-more (number_at c.args.limit c.args.numbers.now) c.args.tails.now c.loop-tail.tail-index (get_or c.args.tails.now c.loop-tail.tail-index 0) 0 low refl in
-    let front = total-front (number_at c.args.limit c.args.numbers.now) c.args.tails.now (c.loop-tail.tail-index + 1) in
+    let prefix = total-prefix (number_at c.args.limit c.args.numbers.now) c.args.tails.now (c.loop-tail.tail-index + 1) in
     let value = c.number_at-more.ensures.value in
     let so_far = c.loop-tail.invariant.so_far in
-    record { value = omega (arith, more, front, value, so_far, c.if-more-limit.true) }
+    record { value = omega (arith, more, prefix, value, so_far, c.if-more-limit.true) }
 
 pub loop-tail-preserved : goal.loop-tail-preserved
 loop-tail-preserved c =

@@ -7,7 +7,7 @@ invariant-loop-bytes g l =
     let left = g.S.Source.left in
     let faults = g.S.Source.faults in
     record {
-      front : Consumes (left l.fn.source) (left l.source) l.bytes.items;
+      prefix : Consumes (left l.fn.source) (left l.source) l.bytes.items;
       bound : length l.bytes.items ≤ l.limit;
       later : faults l.fn.source ≤ faults l.source;
     }

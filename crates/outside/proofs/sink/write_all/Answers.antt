@@ -8,6 +8,6 @@ loop-done-preserved g c =
     let p = c.args.piece.now in
     record {
       within = grind (arith, rest_is p d, c.in_ok-done.ensures.taken.0);
-      front = appends_more _ _ _ d c.in_ok-done.field-0 p _ (rest_is p d) c.loop-done.invariant.front c.in_ok-done.ensures.bytes;
+      prefix = appends_more _ _ _ d c.in_ok-done.field-0 p _ (rest_is p d) c.loop-done.invariant.prefix c.in_ok-done.ensures.bytes;
       later = omega (arith, c.loop-done.invariant.later, c.in_ok-done.ensures.cause.later);
     }

@@ -7,4 +7,4 @@ use Rattle.class_pool.proofs.pool.Pool.minor.Goals as goal
 pub returns : goal.returns
 returns c =
     let f = found_in c.self.inside.bytes.now (index_seen c.self.inside.index) c.self.invariant in
-    record { is = f.minor_is ∙ sym (ap (λ (h : Head). h.front.minor) f.is) ∙ ap (λ (h : Head). h.front.minor) c.self.view_is }
+    record { is = f.minor_is ∙ sym (ap (λ (h : Head). h.header.minor) f.is) ∙ ap (λ (h : Head). h.header.minor) c.self.view_is }

@@ -1,5 +1,5 @@
 use Rattle.std.proofs.Common.{◌≤◌, ◌-◌, length}
-use Rattle.json_rpc.specs.Fronts.{Leads}
+use Rattle.json_rpc.specs.Prefixes.{Leads}
 use Rattle.json_rpc.proofs.header.Scan.read_on.Given as goal
 
 abbrev pub invariant-loop-self : goal.invariant-loop-self

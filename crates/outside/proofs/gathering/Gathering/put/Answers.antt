@@ -1,10 +1,10 @@
 use Rattle.std.proofs.Common.{rules, ◌≡◌, ◌++◌, List, ℕ, subst, sym}
 use Rattle.outside.specs.Gathered.{Gathered}
-use Rattle.outside.proofs.Pieces.{front_stands, gathered_more, gathered_none, on_err}
+use Rattle.outside.proofs.Pieces.{prefix_stands, gathered_more, gathered_none, on_err}
 use Rattle.outside.proofs.gathering.Gathering.put.Goals as goal
 
-pub returns-in_err-extend_from_slice-clause-front : goal.returns-in_err-extend_from_slice-clause-front
-returns-in_err-extend_from_slice-clause-front g c = on_err c.from_residual.result (λ start all gathered. front_stands start _ _ all _ gathered)
+pub returns-in_err-extend_from_slice-clause-prefix : goal.returns-in_err-extend_from_slice-clause-prefix
+returns-in_err-extend_from_slice-clause-prefix g c = on_err c.from_residual.result (λ start all gathered. prefix_stands start _ _ all _ gathered)
 
 pub returns-clause-added : goal.returns-clause-added
 returns-clause-added g c = λ start all gathered.

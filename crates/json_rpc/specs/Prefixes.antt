@@ -1,9 +1,9 @@
--- How far the front of the bytes that are held has been read.
+-- How far the prefix of the bytes that are held has been read.
 use Rattle.std.specs.Prelude.{◌≡◌, ℕ, ◌≤◌, List, ◌++◌, length, drop}
 use Rattle.json_rpc.specs.Heads.{start, scan_from}
 use Rattle.json_rpc.specs.declared.header.Scan.{Scan}
-use Rattle.json_rpc.specs.declared.header.Front.{Front}
-use Rattle.json_rpc.specs.declared.header.Front.TheVariants.{Part, Body}
+use Rattle.json_rpc.specs.declared.header.Prefix.{Prefix}
+use Rattle.json_rpc.specs.declared.header.Prefix.TheVariants.{Part, Body}
 use Rattle.json_rpc.specs.declared.header.Reading.TheVariants.{Whole}
 
 -- Whatever follows these bytes, a reading goes on from the one scan as from the other.
@@ -16,7 +16,7 @@ pub record IsPartOf (held : List ℕ) (scan : Scan) : Type 0 where
   pub line : scan.line ≤ scan.read
   pub goes : (more : List ℕ) → scan_from 0 0 start (held ++ more) ≡ scan_from scan.read scan.line scan.head (drop scan.read held ++ more)
 
--- What is known of the front of the bytes held: a header part that is read so far, or a whole one of this many bytes.
-abbrev pub IsFrontOf : List ℕ → Front → Type 0
-IsFrontOf held (Part scan) = IsPartOf held scan
-IsFrontOf held (Body from head) = (from ≤ length held) × (scan_from 0 0 start held ≡ Whole from head)
+-- What is known of the prefix of the bytes held: a header part that is read so far, or a whole one of this many bytes.
+abbrev pub IsPrefixOf : List ℕ → Prefix → Type 0
+IsPrefixOf held (Part scan) = IsPartOf held scan
+IsPrefixOf held (Body from head) = (from ≤ length held) × (scan_from 0 0 start held ≡ Whole from head)

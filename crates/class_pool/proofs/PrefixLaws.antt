@@ -1,16 +1,16 @@
--- A front of what a part spells, which isn't the whole of it, ends within the part.
+-- A prefix of what a part spells, which isn't the whole of it, ends within the part.
 use Rattle.std.proofs.Common.{◌≡◌, ℕ, zero, suc, ◌-◌, ◌<◌, ◌^◌, Bool, true, false, leb, ltb, List, [], ◌∷◌, ◌++◌, length, drop, get_or, Result, Ok, Err, refl, sym, ap, ◌∙◌, arith, rules, inl, inr, ◌⊎◌}
 use Rattle.std.proofs.lemmas.Bool.{lt-ltb}
 use Rattle.std.proofs.lemmas.List.{length-append}
 use Rattle.std.proofs.lemmas.List.Concat.{flat_map-cons}
 use Rattle.byteorder.specs.Endian.{big_bytes}
 use Rattle.class_pool.specs.declared.fault.ClassFault.{ClassFault}
-use Rattle.class_pool.specs.Spelling.{Entry, utf8, fixed, takes_two, entry, entries, places, magic, front, IsFront, head, IsHead}
+use Rattle.class_pool.specs.Spelling.{Entry, utf8, fixed, takes_two, entry, entries, places, magic, header_bytes, IsFileHeader, head, IsHead}
 use Rattle.class_pool.specs.Faults.{Room}
-use Rattle.class_pool.specs.Reading.{◌>>=◌, cut, number_at, block_at, text_at, fixed_at, entry_at, entries_at, front_at, head_at}
+use Rattle.class_pool.specs.Reading.{◌>>=◌, cut, number_at, block_at, text_at, fixed_at, entry_at, entries_at, header_at, head_at}
 use Rattle.class_pool.proofs.Codec.{Codec, IsWide, wide_2, wide_4, number_2, number_4}
 use Rattle.class_pool.proofs.Entries.{no_test, not_text, entry_codec, Fills, width-gap}
-use Rattle.class_pool.proofs.Heads.{front_takes, front_again}
+use Rattle.class_pool.proofs.Heads.{header_takes, header_again}
 
 head_is : (x y : ℕ) (xs ys : List ℕ) → x ∷ xs ≡ y ∷ ys → x ≡ y
 head_is x y xs ys e = ap (λ (t : List ℕ). get_or t 0 0) e
@@ -18,7 +18,7 @@ head_is x y xs ys e = ap (λ (t : List ℕ). get_or t 0 0) e
 tail_is : (x y : ℕ) (xs ys : List ℕ) → x ∷ xs ≡ y ∷ ys → xs ≡ ys
 tail_is x y xs ys e = ap (λ (t : List ℕ). drop 1 t) e
 
--- a front of two texts ends within the first, or after it
+-- a prefix of two texts ends within the first, or after it
 pub split : (xs ys start : List ℕ) (next : ℕ) (more : List ℕ) → xs ++ ys ≡ start ++ (next ∷ more) → ((later : List ℕ) × (xs ≡ start ++ (next ∷ later))) ⊎ ((rest : List ℕ) × (start ≡ xs ++ rest) × (ys ≡ rest ++ (next ∷ more)))
 split [] ys start next more e = inr (start, refl, e)
 split (x ∷ xs) ys [] next more e = inl (xs, ap (λ (k : ℕ). k ∷ xs) (head_is x next (xs ++ ys) more e))
@@ -29,13 +29,13 @@ split (x ∷ xs) ys (s ∷ start) next more e =
       | inr h ↦ inr (h.0, ap (λ (k : ℕ). k ∷ start) (sym first) ∙ ap (λ (t : List ℕ). x ∷ t) h.1, h.2)
     ]
 
-pub front_short : (x start : List ℕ) (next : ℕ) (more : List ℕ) → x ≡ start ++ (next ∷ more) → length start < length x
-front_short x start next more e = omega (arith, ap length e, length-append start (next ∷ more))
+pub prefix_short : (x start : List ℕ) (next : ℕ) (more : List ℕ) → x ≡ start ++ (next ∷ more) → length start < length x
+prefix_short x start next more e = omega (arith, ap length e, length-append start (next ∷ more))
 
-pub no_front : (start : List ℕ) (next : ℕ) (more : List ℕ) → [] ≡ start ++ (next ∷ more) → ⊥
-no_front start next more e = omega (arith, front_short [] start next more e)
+pub no_prefix : (start : List ℕ) (next : ℕ) (more : List ℕ) → [] ≡ start ++ (next ∷ more) → ⊥
+no_prefix start next more e = omega (arith, prefix_short [] start next more e)
 
--- each front of a part's spelling is cut off
+-- each prefix of a part's spelling is cut off
 abbrev pub Cuts : {A B : Type 0} → (A → List ℕ) → (A → Type 0) → ℕ → (List ℕ → Result B ClassFault) → Type 0
 Cuts {A = A} spell Fits total read = (x : A) (start : List ℕ) (next : ℕ) (more : List ℕ) → Fits x → spell x ≡ start ++ (next ∷ more) → read start ≡ Err (cut total)
 
@@ -49,7 +49,7 @@ cut_then {spell = spell} {read = read} total codec cuts f x ys start next more f
 
 pub number_cuts : (total n limit : ℕ) → IsWide n limit → Cuts (big_bytes n) (λ x. x < limit) total (number_at total n)
 number_cuts total n limit wide x start next more fits e =
-    let short : ltb (length start) n ≡ true = lt-ltb _ _ (omega (arith, front_short (big_bytes n x) start next more e, wide.len x)) in
+    let short : ltb (length start) n ≡ true = lt-ltb _ _ (omega (arith, prefix_short (big_bytes n x) start next more e, wide.len x)) in
     rw short refl
 
 pub cuts_2 : (total : ℕ) → Cuts (big_bytes 2) (λ x. x < 65536) total (number_at total 2)
@@ -60,7 +60,7 @@ cuts_4 total = number_cuts total 4 (2 ^ 32) wide_4
 
 pub block_cuts : (total n : ℕ) (x start : List ℕ) (next : ℕ) (more : List ℕ) → length x ≡ n → x ≡ start ++ (next ∷ more) → block_at total n start ≡ Err (cut total)
 block_cuts total n x start next more len e =
-    let short : ltb (length start) n ≡ true = lt-ltb _ _ (omega (arith, front_short x start next more e, len)) in
+    let short : ltb (length start) n ≡ true = lt-ltb _ _ (omega (arith, prefix_short x start next more e, len)) in
     rw short refl
 
 text_cuts : (total : ℕ) (x start : List ℕ) (next : ℕ) (more : List ℕ) → length x < 65536 → big_bytes 2 (length x) ++ x ≡ start ++ (next ∷ more) → text_at total start ≡ Err (cut total)
@@ -84,7 +84,7 @@ entries_cuts : (total : ℕ) (skip : Bool) (left : ℕ) (xs : List Entry) (start
 unfolding entries_at places
 entries_cuts total true zero xs start next more fits e = absurd (omega (arith, fits.1))
 entries_cuts total true (suc left) xs start next more fits e = entries_cuts total false left xs start next more (fits.0, omega (arith, fits.1)) e
-entries_cuts total false zero [] start next more fits e = absurd (no_front start next more e)
+entries_cuts total false zero [] start next more fits e = absurd (no_prefix start next more e)
 entries_cuts total false zero (x ∷ xs) start next more fits e = absurd (omega (arith, fits.1, width-gap (takes_two x)))
 entries_cuts total false (suc left) [] start next more fits e = absurd (omega (arith, fits.1))
 entries_cuts total false (suc left) (x ∷ xs) start next more fits e =
@@ -92,9 +92,9 @@ entries_cuts total false (suc left) (x ∷ xs) start next more fits e =
     cut_then total (entry_codec total left) (entry_cuts total left) _ x (entries xs) start next more (fits.0.0, omega (arith, fits.1, w)) (sym (flat_map-cons entry x xs) ∙ e) (λ rest is.
     rw (entries_cuts total (takes_two x) left xs rest next more (fits.0.1, omega (arith, fits.1, w)) is) refl)
 
-front_cuts : (total : ℕ) → Cuts front IsFront total (front_at total)
-unfolding front_at
-front_cuts total x start next more fits e =
+header_cuts : (total : ℕ) → Cuts header_bytes IsFileHeader total (header_at total)
+unfolding header_at
+header_cuts total x start next more fits e =
     let b = big_bytes 2 x.minor in let c = big_bytes 2 x.major in let d = big_bytes 2 x.count in
     let new : leb 45 x.major ≡ true = search (rules, fits.new) in
     cut_then total (number_4 total) (cuts_4 total) _ magic (b ++ (c ++ d)) start next more (omega arith) e (λ rest is.
@@ -102,11 +102,11 @@ front_cuts total x start next more fits e =
     cut_then total (number_2 total) (cuts_2 total) _ x.major d rest2 next more fits.major is2 (λ rest3 is3.
     rw (new, cuts_2 total x.count rest3 next more fits.count is3) refl)))
 
-front_codec : (total : ℕ) → Codec front IsFront (front_at total)
-front_codec total = record { takes = front_takes total; again = front_again total }
+header_codec : (total : ℕ) → Codec header_bytes IsFileHeader (header_at total)
+header_codec total = record { takes = header_takes total; again = header_again total }
 
 pub head_cuts : (total : ℕ) → Cuts head IsHead total (head_at total)
 unfolding head_at
 head_cuts total x start next more fits e =
-    cut_then total (front_codec total) (front_cuts total) _ x.front (entries x.entries) start next more fits.front e (λ rest is.
-    rw (entries_cuts total false (x.front.count - 1) x.entries rest next more (fits.each, omega (arith, fits.full)) is) refl)
+    cut_then total (header_codec total) (header_cuts total) _ x.header (entries x.entries) start next more fits.header e (λ rest is.
+    rw (entries_cuts total false (x.header.count - 1) x.entries rest next more (fits.each, omega (arith, fits.full)) is) refl)
