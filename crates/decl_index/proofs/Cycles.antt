@@ -1,14 +1,17 @@
 -- From paths of places to ways of names, and back.
-use Rattle.std.proofs.Common.{◌≡◌, ℕ, zero, suc, ◌<◌, ◌≤◌, Bool, true, false, cond, List, [], ◌∷◌, length, get_or, drop, Option, Some, None, Less, refl, sym, ap, subst, ◌∙◌, arith, ◌⊎◌, inl, inr}
+use Rattle.graphs.proofs.Paths.{first-step}
+use Rattle.graphs.proofs.Elements.{none_in}
+use Rattle.graphs.specs.Paths.{IsPathBy}
+use Rattle.std.proofs.Common.{◌≡◌, ℕ, zero, suc, ◌<◌, ◌≤◌, Bool, true, false, cond, List, [], ◌∷◌, length, get_or, drop, Option, Some, None, Less, refl, sym, ap, subst, ◌∙◌, arith, ◌⊎◌, inl, inr, Contains}
 use Rattle.std.specs.Prelude.{unwrap_or}
 use Rattle.std.specs.List.{slice_get}
 use Rattle.std.proofs.lemmas.Option.{slice_get_within}
 use Rattle.known_classes.specs.declared.summary.ClassSummary.{ClassSummary}
 use Rattle.known_classes.specs.Known.{class_named, IsPlaceOf, HasEachOnce}
-use Rattle.graphs.specs.Graph.{IsIn, edges, IsPath, Reaches, InRange, IsLeastCycle, IsAcyclic}
-use Rattle.graphs.proofs.Ranks.{first_edge, from_node}
+use Rattle.graphs.specs.Graph.{edges, Reaches, InRange, IsLeastCycle, IsAcyclic, IsEdge}
+use Rattle.graphs.proofs.Ranks.{from_node}
 use Rattle.decl_index.specs.History.{Name, order, Rises}
-use Rattle.decl_index.specs.Refusals.{IsOneOf, Steps, IsWay, ReachesItself, IsLeastNamedCycle, HasNoCycle}
+use Rattle.decl_index.specs.Refusals.{Steps, ReachesItself, IsLeastNamedCycle, HasNoCycle}
 use Rattle.decl_index.specs.Rows.{IsGraph}
 use Rattle.decl_index.specs.Places.{heads}
 use Rattle.decl_index.proofs.Names.{same, same-true, same-of, less_differs, less_back, apart}
@@ -82,16 +85,16 @@ got_within (x ∷ xs) zero l = (x, refl)
 got_within (x ∷ xs) (suc i) l = got_within xs i (omega arith)
 
 -- Paths and ways.
-pub first_known : (to : ClassSummary → List Name) (cs : List ClassSummary) (n : Name) (ms : List Name) (m : Name) → IsWay to cs n ms m → (c : ClassSummary) × (class_named cs n ≡ Some c)
-unfolding IsWay
+pub first_known : (to : ClassSummary → List Name) (cs : List ClassSummary) (n : Name) (ms : List Name) (m : Name) → IsPathBy (Steps to cs) n ms m → (c : ClassSummary) × (class_named cs n ≡ Some c)
+unfolding IsPathBy
 first_known to cs n [] m w = (w.class, w.known)
 first_known to cs n (x ∷ ms) m w = (w.0.class, w.0.known)
 
 abbrev EndsAt : (ClassSummary → List Name) → List ClassSummary → Name → ℕ → Type 0
-EndsAt to cs n b = (d : ClassSummary) × ((slice_get cs b ≡ Some d) × ((ms : List Name) × IsWay to cs n ms d.name))
+EndsAt to cs n b = (d : ClassSummary) × ((slice_get cs b ≡ Some d) × ((ms : List Name) × IsPathBy (Steps to cs) n ms d.name))
 
-path_way : (to : ClassSummary → List Name) (cs : List ClassSummary) (rows : List (List ℕ)) → Rises cs → IsGraph to cs rows → (a : ℕ) (c : ClassSummary) → slice_get cs a ≡ Some c → (bs : List ℕ) (b : ℕ) → IsPath rows a bs b → EndsAt to cs c.name b
-unfolding IsPath IsWay
+path_way : (to : ClassSummary → List Name) (cs : List ClassSummary) (rows : List (List ℕ)) → Rises cs → IsGraph to cs rows → (a : ℕ) (c : ClassSummary) → slice_get cs a ≡ Some c → (bs : List ℕ) (b : ℕ) → IsPathBy (IsEdge rows) a bs b → EndsAt to cs c.name b
+unfolding IsPathBy
 path_way to cs rows r g a c e [] b p =
     let s = (g.row a c e).sound b p in
     (s.0, (s.1.0, ([], record { class = c; known = named_at cs a c r e; leads = s.1.1 })))
@@ -100,15 +103,15 @@ path_way to cs rows r g a c e (x ∷ bs) b p =
     let t = path_way to cs rows r g x s.0 s.1.0 bs b p.1 in
     (t.0, (t.1.0, (s.0.name ∷ t.1.1.0, (record { class = c; known = named_at cs a c r e; leads = s.1.1 }, t.1.1.1))))
 
-step_edge : (to : ClassSummary → List Name) (cs : List ClassSummary) (rows : List (List ℕ)) → Rises cs → IsGraph to cs rows → (a b : ℕ) (c d : ClassSummary) (n m : Name) → slice_get cs a ≡ Some c → c.name ≡ n → slice_get cs b ≡ Some d → d.name ≡ m → Steps to cs n m → IsIn b (edges rows a)
+step_edge : (to : ClassSummary → List Name) (cs : List ClassSummary) (rows : List (List ℕ)) → Rises cs → IsGraph to cs rows → (a b : ℕ) (c d : ClassSummary) (n m : Name) → slice_get cs a ≡ Some c → c.name ≡ n → slice_get cs b ≡ Some d → d.name ≡ m → Steps to cs n m → Contains (edges rows a) b
 step_edge to cs rows r g a b c d n m e s f t w =
     let here : class_named cs n ≡ Some c = ap (class_named cs) (sym s) ∙ named_at cs a c r e in
     let known = w.known in
     let one : w.class ≡ c = cc in
-    (g.row a c e).complete b d f (subst (λ k. IsOneOf k (to c)) (sym t) (subst (λ k. IsOneOf m (to k)) one w.leads))
+    (g.row a c e).complete b d f (subst (λ k. Contains (to c) k) (sym t) (subst (λ k. Contains (to k) m) one w.leads))
 
-way_path : (to : ClassSummary → List Name) (cs : List ClassSummary) (rows : List (List ℕ)) → Rises cs → IsGraph to cs rows → (a b : ℕ) (c d : ClassSummary) (n : Name) (ms : List Name) (m : Name) → slice_get cs a ≡ Some c → c.name ≡ n → slice_get cs b ≡ Some d → d.name ≡ m → IsWay to cs n ms m → Reaches rows a b
-unfolding IsPath IsWay
+way_path : (to : ClassSummary → List Name) (cs : List ClassSummary) (rows : List (List ℕ)) → Rises cs → IsGraph to cs rows → (a b : ℕ) (c d : ClassSummary) (n : Name) (ms : List Name) (m : Name) → slice_get cs a ≡ Some c → c.name ≡ n → slice_get cs b ≡ Some d → d.name ≡ m → IsPathBy (Steps to cs) n ms m → Reaches rows a b
+unfolding IsPathBy
 way_path to cs rows r g a b c d n [] m e s f t w = ([], step_edge to cs rows r g a b c d n m e s f t w)
 way_path to cs rows r g a b c d n (x ∷ ms) m e s f t w =
     let k = first_known to cs x ms m w.1 in
@@ -121,7 +124,7 @@ cycle_at to cs rows r g a c e p =
     let t = path_way to cs rows r g a c e p.0 a p.1 in
     let f : slice_get cs a ≡ Some t.0 = t.1.0 in
     let s : t.0 ≡ c = cc in
-    (t.1.1.0, subst (λ d. IsWay to cs c.name t.1.1.0 d.name) s t.1.1.1)
+    (t.1.1.0, subst (λ d. IsPathBy (Steps to cs) c.name t.1.1.0 d.name) s t.1.1.1)
 
 cycle_back : (to : ClassSummary → List Name) (cs : List ClassSummary) (rows : List (List ℕ)) → Rises cs → IsGraph to cs rows → (a : ℕ) (c : ClassSummary) (n : Name) → slice_get cs a ≡ Some c → c.name ≡ n → ReachesItself to cs n → Reaches rows a a
 cycle_back to cs rows r g a c n e s w = way_path to cs rows r g a a c c n w.0 n e s e s w.1
@@ -151,21 +154,17 @@ skip-found cs n (Some p) r is = record {
 }
 
 -- What the graph's cycles say of names.
-none_here : {P : Type 0} (b : ℕ) → IsIn b [] → P
-unfolding IsIn
-none_here b h = absurd h
-
 beyond : {A : Type 0} (xs : List A) (i : ℕ) (d : A) → length xs ≤ i → get_or xs i d ≡ d
 beyond [] i d l = refl
 beyond (x ∷ xs) zero d l = absurd (omega (arith, l))
 beyond (x ∷ xs) (suc i) d l = beyond xs i d (omega arith)
 
-range_by : (to : ClassSummary → List Name) (cs : List ClassSummary) (rows : List (List ℕ)) → IsGraph to cs rows → (a b : ℕ) → IsIn b (edges rows a) → (a < length rows) ⊎ (length rows ≤ a) → b < length rows
+range_by : (to : ClassSummary → List Name) (cs : List ClassSummary) (rows : List (List ℕ)) → IsGraph to cs rows → (a b : ℕ) → Contains (edges rows a) b → (a < length rows) ⊎ (length rows ≤ a) → b < length rows
 range_by to cs rows g a b i (inl l) =
     let c = got_within cs a (omega (arith, l, g.size)) in
     let s = (g.row a c.0 c.1).sound b i in
     omega (arith, g.size, slice_get_within cs b s.0 s.1.0)
-range_by to cs rows g a b i (inr l) = none_here b (subst (λ xs. IsIn b xs) (beyond rows a [] l) i)
+range_by to cs rows g a b i (inr l) = none_in b (subst (λ xs. Contains xs b) (beyond rows a [] l) i)
 
 either : (i j : ℕ) → (i < j) ⊎ (j ≤ i)
 either i j = elim (three i j) [
@@ -181,7 +180,7 @@ graph_range to cs rows g a b i = range_by to cs rows g a b i (either a (length r
 
 pub cycle_within : (to : ClassSummary → List Name) (cs : List ClassSummary) (rows : List (List ℕ)) → IsGraph to cs rows → (a : ℕ) → Reaches rows a a → a < length cs
 cycle_within to cs rows g a p =
-    let f = first_edge rows a p.0 a p.1 in
+    let f = first-step (IsEdge rows) a p.0 a p.1 in
     omega (arith, g.size, from_node rows a f.0 f.1 (either a (length rows)))
 
 pub no_cycle : (to : ClassSummary → List Name) (but : Option Name) (cs : List ClassSummary) (rows : List (List ℕ)) (skip : ℕ) → Rises cs → IsGraph to cs rows → IsSkip but cs skip → IsAcyclic rows skip → HasNoCycle to but cs

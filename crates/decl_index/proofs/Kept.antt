@@ -1,10 +1,12 @@
 -- A new cycle passes through a class that was put in.
+use Rattle.graphs.proofs.Paths.{leads-join, then-step}
+use Rattle.graphs.specs.Paths.{IsPathBy, Leads}
 use Rattle.std.proofs.Common.{◌≡◌, suc, Bool, true, false, cond, List, [], ◌∷◌, ◌++◌, map, Option, Some, None, refl, sym, subst, ◌∙◌, ◌⊎◌, inl, inr}
 use Rattle.std.specs.Prelude.{bytes_eq}
 use Rattle.known_classes.specs.declared.summary.ClassSummary.{ClassSummary}
 use Rattle.known_classes.specs.Known.{class_named}
 use Rattle.decl_index.specs.History.{Name, put, remove, decided}
-use Rattle.decl_index.specs.Refusals.{supers_of, outers_of, object_name, Steps, IsWay, ReachesItself, HasNoCycle}
+use Rattle.decl_index.specs.Refusals.{supers_of, outers_of, object_name, Steps, ReachesItself, HasNoCycle}
 use Rattle.decl_index.specs.Places.{told_or, Leaves}
 use Rattle.decl_index.specs.Changed.{Each, AvoidsItself, IsFree}
 use Rattle.decl_index.proofs.Names.{same-true}
@@ -56,12 +58,6 @@ kept P removes puts old new l h n c e =
     (subst (λ o. IsToldBy P n o (told_or (decided n (map remove removes)) (class_named old n))) (sym all) (told_puts P n puts (told_or (decided n (map remove removes)) (class_named old n)) h))
     (told_removes n removes (class_named old n))
 
--- Two ways, one after the other.
-way-join : (to : ClassSummary → List Name) (cs : List ClassSummary) (a : Name) (ms : List Name) (b : Name) (ks : List Name) (c : Name) → IsWay to cs a ms b → IsWay to cs b ks c → IsWay to cs a (ms ++ b ∷ ks) c
-unfolding IsWay
-way-join to cs a [] b ks c v w = (v, w)
-way-join to cs a (m ∷ ms) b ks c v w = (v.0, way-join to cs m ms b ks c v.1 w)
-
 -- Each class was there, or it doesn't reach itself.
 abbrev AreKept : (ClassSummary → List Name) → List ClassSummary → List ClassSummary → Type 0
 AreKept to old new = (n : Name) (c : ClassSummary) → class_named new n ≡ Some c → (class_named old n ≡ Some c) ⊎ (ReachesItself to new n → ⊥)
@@ -73,13 +69,12 @@ step-back to old new k a b w s = elim (k a s.class s.known) [
 ]
 
 -- A way of which each name lies on a cycle was there.
-way-back : (to : ClassSummary → List Name) (old new : List ClassSummary) → AreKept to old new → (n a : Name) (ms : List Name) → ReachesItself to new a → (IsWay to new a ms n → (ks : List Name) × IsWay to new n ks a) → IsWay to new a ms n → IsWay to old a ms n
-unfolding IsWay
+way-back : (to : ClassSummary → List Name) (old new : List ClassSummary) → AreKept to old new → (n a : Name) (ms : List Name) → ReachesItself to new a → (IsPathBy (Steps to new) a ms n → Leads (Steps to new) n a) → IsPathBy (Steps to new) a ms n → IsPathBy (Steps to old) a ms n
+unfolding IsPathBy
 way-back to old new k n a [] r f w = step-back to old new k a n r w
 way-back to old new k n a (m ∷ ms) r f w =
-    let round = f w in
-    let first : (ks : List Name) × IsWay to new n ks m = (round.0 ++ a ∷ [], way-join to new n round.0 a [] m round.1 w.0) in
-    (step-back to old new k a m r w.0, way-back to old new k n m ms (ms ++ n ∷ first.0, way-join to new m ms n first.0 m w.1 first.1) (λ v. first) w.1)
+    let first : Leads (Steps to new) n m = then-step (Steps to new) n a m (f w) w.0 in
+    (step-back to old new k a m r w.0, way-back to old new k n m ms (leads-join (Steps to new) m n m (ms, w.1) first) (λ v. first) w.1)
 
 pub cycle-back : (to : ClassSummary → List Name) (old new : List ClassSummary) → AreKept to old new → (n : Name) → ReachesItself to new n → ReachesItself to old n
 cycle-back to old new k n r = (r.0, way-back to old new k n n r.0 r (λ v. r) r.1)

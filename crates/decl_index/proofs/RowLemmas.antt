@@ -1,65 +1,42 @@
 -- Rows of places, one name and one class further.
-use Rattle.std.proofs.Common.{◌≡◌, ℕ, zero, suc, ◌+◌, ◌<◌, ◌≤◌, List, [], ◌∷◌, ◌++◌, length, map, get_or, take, Some, None, refl, sym, ap, subst, ◌∙◌, arith, ◌⊎◌, inl, inr, length-append}
+use Rattle.graphs.proofs.Elements.{in-one, none_in}
+use Rattle.std.proofs.lemmas.List.Elements.{Contains-append_left, Contains-append_cases, Contains-push, Contains-push_cases}
+use Rattle.std.proofs.Common.{◌≡◌, ℕ, zero, suc, ◌+◌, ◌<◌, ◌≤◌, List, [], ◌∷◌, ◌++◌, length, map, get_or, take, Some, None, refl, sym, ap, subst, ◌∙◌, arith, ◌⊎◌, inl, inr, length-append, Contains}
 use Rattle.std.specs.List.{slice_get}
 use Rattle.std.proofs.lemmas.List.{take_more, take_all}
 use Rattle.std.proofs.lemmas.Option.{slice_get_within}
 use Rattle.known_classes.specs.declared.summary.ClassSummary.{ClassSummary}
 use Rattle.known_classes.specs.Known.{class_named, IsPlaceOf}
-use Rattle.graphs.specs.Graph.{IsIn, edges}
-use Rattle.graphs.proofs.Marks.{in-left, in-either, in-one, none_in}
-use Rattle.graphs.proofs.Lists.{last_in}
+use Rattle.graphs.specs.Graph.{edges}
 use Rattle.decl_index.specs.History.{Name, Rises}
-use Rattle.decl_index.specs.Refusals.{IsOneOf}
 use Rattle.decl_index.specs.Rows.{IsRow, IsGraph}
 use Rattle.decl_index.proofs.Cycles.{named_at, place_named, once_at, got_within}
 
-pub oneof-left : (n : Name) (xs ys : List Name) → IsOneOf n xs → IsOneOf n (xs ++ ys)
-unfolding IsOneOf
-oneof-left n [] ys h = absurd h
-oneof-left n (x ∷ xs) ys (inl e) = inl e
-oneof-left n (x ∷ xs) ys (inr h) = inr (oneof-left n xs ys h)
-
-pub oneof-last : (n : Name) (xs : List Name) → IsOneOf n (xs ++ n ∷ [])
-unfolding IsOneOf
-oneof-last n [] = inl refl
-oneof-last n (x ∷ xs) = inr (oneof-last n xs)
-
-pub oneof-either : (n m : Name) (xs : List Name) → IsOneOf n (xs ++ m ∷ []) → IsOneOf n xs ⊎ (m ≡ n)
-unfolding IsOneOf
-oneof-either n m [] (inl e) = inr e
-oneof-either n m [] (inr h) = absurd h
-oneof-either n m (x ∷ xs) (inl e) = inl (inl e)
-oneof-either n m (x ∷ xs) (inr h) = elim (oneof-either n m xs h) [ inl k ↦ inl (inr k) | inr e ↦ inr e ]
-
-pub oneof-none : {P : Type 0} (n : Name) → IsOneOf n [] → P
-unfolding IsOneOf
-oneof-none n h = absurd h
-
 pub row_none : (cs : List ClassSummary) → IsRow cs [] []
-row_none cs = record { sound = λ b h. none_in b h; complete = λ b d e h. oneof-none d.name h }
+row_none cs = record { sound = λ b h. none_in b h; complete = λ b d e h. none_in d.name h }
 
 row_hit : (cs : List ClassSummary) (xs : List Name) (row : List ℕ) (n : Name) (p : ℕ) → Rises cs → IsPlaceOf cs (class_named cs n) (Some p) → IsRow cs xs row → IsRow cs (xs ++ n ∷ []) (row ++ p ∷ [])
 row_hit cs xs row n p r at is = record {
-  sound = λ b h. elim (in-either b row (p ∷ []) h) [
-    | inl k ↦ let s = is.sound b k in (s.0, (s.1.0, oneof-left s.0.name xs (n ∷ []) s.1.1))
+  sound = λ b h. elim (Contains-append_cases row (p ∷ []) b h) [
+    | inl k ↦ let s = is.sound b k in (s.0, (s.1.0, Contains-append_left xs (n ∷ []) s.0.name s.1.1))
     | inr k ↦
         let c = got_within cs p at.0 in
         let q = place_named cs n c.0 (at.1 ∙ c.1) in
-        (c.0, (ap (slice_get cs) (sym (in-one b p k)) ∙ c.1, subst (λ m. IsOneOf m (xs ++ n ∷ [])) (sym q.1.1) (oneof-last n xs)))
+        (c.0, (ap (slice_get cs) (sym (in-one b p k)) ∙ c.1, subst (λ m. Contains (xs ++ n ∷ []) m) (sym q.1.1) (Contains-push xs n)))
   ];
-  complete = λ b d e h. elim (oneof-either d.name n xs h) [
-    | inl k ↦ in-left b row (p ∷ []) (is.complete b d e k)
+  complete = λ b d e h. elim (Contains-push_cases xs n d.name h) [
+    | inl k ↦ Contains-append_left row (p ∷ []) b (is.complete b d e k)
     | inr k ↦
         let f : slice_get cs p ≡ Some d = sym at.1 ∙ ap (class_named cs) k ∙ named_at cs b d r e in
         let s : p ≡ b = once_at cs p b d d r f e refl in
-        subst (λ x. IsIn x (row ++ p ∷ [])) s (last_in p row)
+        subst (λ x. Contains (row ++ p ∷ []) x) s (Contains-push row p)
   ];
 }
 
 row_miss : (cs : List ClassSummary) (xs : List Name) (row : List ℕ) (n : Name) → Rises cs → class_named cs n ≡ None → IsRow cs xs row → IsRow cs (xs ++ n ∷ []) row
 row_miss cs xs row n r none is = record {
-  sound = λ b h. let s = is.sound b h in (s.0, (s.1.0, oneof-left s.0.name xs (n ∷ []) s.1.1));
-  complete = λ b d e h. elim (oneof-either d.name n xs h) [
+  sound = λ b h. let s = is.sound b h in (s.0, (s.1.0, Contains-append_left xs (n ∷ []) s.0.name s.1.1));
+  complete = λ b d e h. elim (Contains-push_cases xs n d.name h) [
     | inl k ↦ is.complete b d e k
     | inr k ↦ let f : class_named cs n ≡ Some d = ap (class_named cs) k ∙ named_at cs b d r e in absurd cc
   ];

@@ -1,9 +1,9 @@
 -- What a search from the changed classes alone finds, and what such classes keep.
-use Rattle.std.specs.Prelude.{◌≡◌, ℕ, List, ◌++◌, slice_get, Some, None}
+use Rattle.std.specs.Prelude.{◌≡◌, ℕ, List, ◌++◌, slice_get, Some, None, Contains}
 use Rattle.known_classes.specs.declared.summary.ClassSummary.{ClassSummary}
 use Rattle.known_classes.specs.Known.{class_named}
 use Rattle.decl_index.specs.History.{Name}
-use Rattle.decl_index.specs.Refusals.{IsOneOf, supers_of, outers_of, object_name, ReachesItself, HasNoCycle}
+use Rattle.decl_index.specs.Refusals.{supers_of, outers_of, object_name, ReachesItself, HasNoCycle}
 
 -- P holds of each element.
 abbrev pub Each : {A : Type 0} → (A → Type 0) → List A → Type 0
@@ -13,12 +13,12 @@ Each {A} P xs = (i : ℕ) (x : A) → slice_get xs i ≡ Some x → P x
 pub record Meets (names old new : List Name) : Type 0 where
   pub more : List Name
   pub grown : new ≡ old ++ more
-  pub met : (n : Name) → IsOneOf n names → IsOneOf n new
+  pub met : (n : Name) → Contains names n → Contains new n
 
 -- Each super of the class, and the class around it, is one of the names.
 pub record HasLinks (c : ClassSummary) (names : List Name) : Type 0 where
-  pub supers : (n : Name) → IsOneOf n (supers_of c) → IsOneOf n names
-  pub outers : (n : Name) → IsOneOf n (outers_of c) → IsOneOf n names
+  pub supers : (n : Name) → Contains (supers_of c) n → Contains names n
+  pub outers : (n : Name) → Contains (outers_of c) n → Contains names n
 
 -- The names to which a class leads are added at the end.
 pub record Follows (c : ClassSummary) (old new : List Name) : Type 0 where
@@ -28,7 +28,7 @@ pub record Follows (c : ClassSummary) (old new : List Name) : Type 0 where
 
 -- Where the class of a name leads is among the names.
 abbrev pub IsClosed : List ClassSummary → List Name → Type 0
-IsClosed cs names = (n : Name) (c : ClassSummary) → IsOneOf n names → class_named cs n ≡ Some c → HasLinks c names
+IsClosed cs names = (n : Name) (c : ClassSummary) → Contains names n → class_named cs n ≡ Some c → HasLinks c names
 
 -- All that the class leads to is among the names.
 pub record IsReached (cs : List ClassSummary) (c : ClassSummary) (names : List Name) : Type 0 where

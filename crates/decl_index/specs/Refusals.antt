@@ -1,6 +1,7 @@
 -- When a change is refused.
-use Rattle.std.specs.Prelude.{◌≡◌, ◌≢◌, ◌<◌, ◌≤◌, ◌+◌, ◌⊎◌, ℕ, List, [], ◌∷◌, ◌++◌, length, sum_by, codes, Option, Some, None}
+use Rattle.std.specs.Prelude.{◌≡◌, ◌≢◌, ◌<◌, ◌≤◌, ◌+◌, ◌⊎◌, ℕ, List, [], ◌∷◌, ◌++◌, length, sum_by, codes, Option, Some, None, Contains}
 use Rattle.std.specs.declared.cmp.Ordering.TheVariants.{Less}
+use Rattle.graphs.specs.Paths.{Leads}
 use Rattle.known_classes.specs.declared.summary.ClassSummary.{ClassSummary}
 use Rattle.known_classes.specs.declared.summary.MethodSummary.{MethodSummary}
 use Rattle.known_classes.specs.Known.{class_named, outer_in}
@@ -9,11 +10,6 @@ use Rattle.decl_index.specs.declared.change.Change.TheVariants.{Publish, Withdra
 use Rattle.decl_index.specs.declared.change.ChangeFault.{ChangeFault}
 use Rattle.decl_index.specs.declared.change.ChangeFault.TheVariants.{Cyclic, Full, TooHigh, JournalFull, NestCycle, OutOfMemory}
 use Rattle.decl_index.specs.History.{Name, order, AreClasses}
-
--- The name is one of the names.
-unfoldable pub IsOneOf : Name → List Name → Type 0
-IsOneOf n [] = ⊥
-IsOneOf n (m ∷ ms) = (m ≡ n) ⊎ IsOneOf n ms
 
 -- The supers of a class.
 abbrev pub supers_of : ClassSummary → List Name
@@ -32,16 +28,11 @@ outers_of c = at_most_one (outer_in c.nesting)
 pub record Steps (to : ClassSummary → List Name) (cs : List ClassSummary) (a b : Name) : Type 0 where
   pub class : ClassSummary
   pub known : class_named cs a ≡ Some class
-  pub leads : IsOneOf b (to class)
+  pub leads : Contains (to class) b
 
--- A way from a to b by one step or more, through these names.
-unfoldable pub IsWay : (ClassSummary → List Name) → List ClassSummary → Name → List Name → Name → Type 0
-IsWay to cs a [] b = Steps to cs a b
-IsWay to cs a (m ∷ ms) b = Steps to cs a m × IsWay to cs m ms b
-
--- There is a way from the class of this name back to it.
+-- Steps lead from the class of this name back to it.
 abbrev pub ReachesItself : (ClassSummary → List Name) → List ClassSummary → Name → Type 0
-ReachesItself to cs n = (ms : List Name) × IsWay to cs n ms n
+ReachesItself to cs n = Leads (Steps to cs) n n
 
 -- The least name but one that reaches itself.
 pub record IsLeastNamedCycle (to : ClassSummary → List Name) (but : Option Name) (cs : List ClassSummary) (n : Name) : Type 0 where

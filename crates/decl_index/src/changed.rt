@@ -1,7 +1,6 @@
-ghost use Rattle.std.specs.Prelude.{◌≡◌, true, false, IfOk, IfSome, OnOk, map};
+ghost use Rattle.std.specs.Prelude.{◌≡◌, true, false, IfOk, IfSome, OnOk, map, Contains};
 ghost use Rattle.std.specs.Arc.{arc_value};
 ghost use Rattle.decl_index.specs.History.{Rises};
-ghost use Rattle.decl_index.specs.Refusals.{IsOneOf};
 ghost use Rattle.decl_index.specs.Changed.{Each, Meets, Follows, IsReached, AvoidsItself, KeepsNesting};
 
 use crate::checks::outer_names;
@@ -18,8 +17,8 @@ const MOST_FOLLOWED: usize = 256;
 
 /// Whether the name is one of the names.
 fn is_one_of(names: &[Text], name: &str) -> bool
-    ensures sound { result ≡ true → IsOneOf name.now names.now }
-    ensures complete { IsOneOf name.now names.now → result ≡ true }
+    ensures sound { result ≡ true → Contains names.now name.now }
+    ensures complete { Contains names.now name.now → result ≡ true }
 {
     for one in names {
         if name == one.as_str() {

@@ -1,3 +1,5 @@
+pub mod Elements
+pub mod Paths
 pub mod Marks
 pub mod Ranks
 pub mod Lists

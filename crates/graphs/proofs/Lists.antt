@@ -1,16 +1,18 @@
 -- The nodes that were found, as a list, and the marks taken away again.
-use Rattle.std.proofs.Common.{◌≡◌, ℕ, zero, suc, ◌+◌, ◌<◌, ◌≤◌, Bool, true, false, List, [], ◌∷◌, ◌++◌, length, get_or, drop, refl, sym, ap, subst, ◌∙◌, arith, inl, inr, ◌⊎◌}
+use Rattle.graphs.proofs.Elements.{in-one, first_in, none_in, in-cases}
+use Rattle.std.proofs.lemmas.List.Elements.{Contains-append_left, Contains-append_right, Contains-append_cases}
+use Rattle.std.proofs.Common.{◌≡◌, ℕ, zero, suc, ◌+◌, ◌<◌, ◌≤◌, Bool, true, false, List, [], ◌∷◌, ◌++◌, length, get_or, drop, refl, sym, ap, subst, ◌∙◌, arith, inl, inr, ◌⊎◌, Contains}
 use lib.ListN.{set}
 use Rattle.std.proofs.lemmas.List.{drop_more, drop_all, get_or-set_other}
 use Rattle.std.proofs.lemmas.Bool.{cases_eq}
-use Rattle.graphs.specs.Graph.{IsIn, Reaches, is_marked, AreMarked, AreFree}
+use Rattle.graphs.specs.Graph.{Reaches, is_marked, AreMarked, AreFree}
 use Rattle.graphs.specs.Marking.{Work, unmark}
-use Rattle.graphs.proofs.Marks.{IsMarked, in-left, in-right, in-either, first_in, none_in, in-one, both}
+use Rattle.graphs.proofs.Marks.{IsMarked, both}
 
 -- each marked node was found or waits, and each found node is marked
 pub record AreFound (marks : List Bool) (found waiting : List ℕ) : Type 0 where
-  pub all : (k : ℕ) → is_marked marks k ≡ true → IsIn k found ⊎ IsIn k waiting
-  pub marked : (k : ℕ) → IsIn k found → is_marked marks k ≡ true
+  pub all : (k : ℕ) → is_marked marks k ≡ true → Contains found k ⊎ Contains waiting k
+  pub marked : (k : ℕ) → Contains found k → is_marked marks k ≡ true
 
 pub found_first : (w v : Work) (bs : List ℕ) → IsMarked w bs v → ((k : ℕ) → is_marked w.0 k ≡ false) → AreFound v.0 [] v.1
 found_first w v bs m free = record {
@@ -25,26 +27,26 @@ pub found_more : (ms : List Bool) (found old waiting : List ℕ) (node : ℕ) (b
 found_more ms found old waiting node bs v f e at m = record {
   all = λ k h. elim (m.only k h) [
     | inl a ↦ elim (f.all k a) [
-      | inl c ↦ inl (in-left k found (node ∷ []) c)
-      | inr c ↦ elim (in-either k waiting (node ∷ []) (subst (IsIn k) e c)) [
+      | inl c ↦ inl (Contains-append_left found (node ∷ []) k c)
+      | inr c ↦ elim (Contains-append_cases waiting (node ∷ []) k (subst (λ l. Contains l k) e c)) [
         | inl d ↦ inr (m.stays k d)
-        | inr d ↦ inl (in-right k found (node ∷ []) d)
+        | inr d ↦ inl (Contains-append_right found (node ∷ []) k d)
       ]
     ]
     | inr a ↦ inr a.1
   ];
-  marked = λ k h. elim (in-either k found (node ∷ []) h) [
+  marked = λ k h. elim (Contains-append_cases found (node ∷ []) k h) [
     | inl a ↦ m.kept k (f.marked k a)
     | inr a ↦ m.kept k (subst (λ n. is_marked ms n ≡ true) (in-one k node a) at)
   ];
 }
 
-pub found_all : (g : List (List ℕ)) (from : ℕ) (ms : List Bool) (found waiting : List ℕ) → AreFound ms found waiting → AreMarked g from ms → waiting ≡ [] → (b : ℕ) → (IsIn b found → Reaches g from b) × (Reaches g from b → IsIn b found)
+pub found_all : (g : List (List ℕ)) (from : ℕ) (ms : List Bool) (found waiting : List ℕ) → AreFound ms found waiting → AreMarked g from ms → waiting ≡ [] → (b : ℕ) → (Contains found b → Reaches g from b) × (Reaches g from b → Contains found b)
 found_all g from ms found waiting f m e b = (
   (λ h. (m b).0 (f.marked b h)),
   (λ r. elim (f.all b ((m b).1 r)) [
     | inl a ↦ a
-    | inr a ↦ none_in b (subst (IsIn b) e a)
+    | inr a ↦ none_in b (subst (λ l. Contains l b) e a)
   ]),
 )
 
@@ -84,13 +86,15 @@ unfolding unmark
 stays_free [] ms k e = e
 stays_free (b ∷ bs) ms k e = stays_free bs (set ms b false) k (set_free ms b k e)
 
-unmarked : (bs : List ℕ) (ms : List Bool) (k : ℕ) → IsIn k bs → is_marked (unmark ms bs) k ≡ false
-unfolding unmark IsIn
-unmarked [] ms k h = absurd h
-unmarked (b ∷ bs) ms k (inl e) = stays_free bs (set ms b false) k (subst (λ n. is_marked (set ms b false) n ≡ false) e (set_here ms b))
-unmarked (b ∷ bs) ms k (inr h) = unmarked bs (set ms b false) k h
+unmarked : (bs : List ℕ) (ms : List Bool) (k : ℕ) → Contains bs k → is_marked (unmark ms bs) k ≡ false
+unfolding unmark
+unmarked [] ms k h = none_in k h
+unmarked (b ∷ bs) ms k h = elim (in-cases k b bs h) [
+  | inl e ↦ stays_free bs (set ms b false) k (subst (λ n. is_marked (set ms b false) n ≡ false) e (set_here ms b))
+  | inr r ↦ unmarked bs (set ms b false) k r
+]
 
-by_mark : (t : Bool) (ms : List Bool) (bs : List ℕ) (k : ℕ) → is_marked ms k ≡ t → (is_marked ms k ≡ true → IsIn k bs) → is_marked (unmark ms bs) k ≡ false
+by_mark : (t : Bool) (ms : List Bool) (bs : List ℕ) (k : ℕ) → is_marked ms k ≡ t → (is_marked ms k ≡ true → Contains bs k) → is_marked (unmark ms bs) k ≡ false
 by_mark true ms bs k e h = unmarked bs ms k (h e)
 by_mark false ms bs k e h = stays_free bs ms k e
 
@@ -99,9 +103,9 @@ free_again n ms ns found waiting f none long e = (
   long,
   λ k. rw e (by_mark (is_marked ms k) ms found k refl (λ h. elim (f.all k h) [
     | inl a ↦ a
-    | inr a ↦ none_in k (subst (IsIn k) none a)
+    | inr a ↦ none_in k (subst (λ l. Contains l k) none a)
   ])),
 )
 
-pub last_in : (b : ℕ) (bs : List ℕ) → IsIn b (bs ++ b ∷ [])
-last_in b bs = in-right b bs (b ∷ []) (first_in b [])
+pub last_in : (b : ℕ) (bs : List ℕ) → Contains (bs ++ b ∷ []) b
+last_in b bs = Contains-append_right bs (b ∷ []) b (first_in b [])

@@ -1,9 +1,13 @@
 -- What marking does, and that marks which are closed say what is reached.
-use Rattle.std.proofs.Common.{◌≡◌, ℕ, zero, suc, ◌+◌, ◌<◌, ◌≤◌, Bool, true, false, cond, List, [], ◌∷◌, ◌++◌, length, get_or, drop, replicate, refl, sym, ap, subst, ◌∙◌, arith, inl, inr, ◌⊎◌}
+use Rattle.graphs.proofs.Paths.{one-step, then-step}
+use Rattle.graphs.proofs.Elements.{in-one, single, first_in, rest_in, none_in}
+use Rattle.std.proofs.lemmas.List.Elements.{Contains-append_left, Contains-append_right, Contains-append_cases}
+use Rattle.graphs.specs.Paths.{IsPathBy}
+use Rattle.std.proofs.Common.{◌≡◌, ℕ, zero, suc, ◌+◌, ◌<◌, ◌≤◌, Bool, true, false, cond, List, [], ◌∷◌, ◌++◌, length, get_or, drop, replicate, refl, sym, ap, subst, ◌∙◌, arith, inl, inr, ◌⊎◌, Contains}
 use lib.ListN.{set}
 use Rattle.std.proofs.lemmas.List.{length_push, drop_more, drop_all, length-set, get_or-set_same, get_or-set_other}
 use Rattle.std.proofs.lemmas.Bool.{cases_eq}
-use Rattle.graphs.specs.Graph.{IsIn, edges, IsPath, Reaches, is_marked, AreMarked}
+use Rattle.graphs.specs.Graph.{edges, Reaches, is_marked, AreMarked, IsEdge}
 use Rattle.graphs.specs.Marking.{Work, mark, mark_row}
 
 -- how many marks are free
@@ -11,31 +15,6 @@ abbrev pub free : List Bool → ℕ
 free [] = 0
 free (true ∷ ms) = free ms
 free (false ∷ ms) = suc (free ms)
-
-pub in-left : (k : ℕ) (xs ys : List ℕ) → IsIn k xs → IsIn k (xs ++ ys)
-unfolding IsIn
-in-left k [] ys h = absurd h
-in-left k (x ∷ xs) ys (inl e) = inl e
-in-left k (x ∷ xs) ys (inr h) = inr (in-left k xs ys h)
-
-pub in-right : (k : ℕ) (xs ys : List ℕ) → IsIn k ys → IsIn k (xs ++ ys)
-unfolding IsIn
-in-right k [] ys h = h
-in-right k (x ∷ xs) ys h = inr (in-right k xs ys h)
-
-pub in-either : (k : ℕ) (xs ys : List ℕ) → IsIn k (xs ++ ys) → IsIn k xs ⊎ IsIn k ys
-unfolding IsIn
-in-either k [] ys h = inr h
-in-either k (x ∷ xs) ys (inl e) = inl (inl e)
-in-either k (x ∷ xs) ys (inr h) = elim (in-either k xs ys h) [
-  | inl a ↦ inl (inr a)
-  | inr b ↦ inr b
-]
-
-pub in-one : (k b : ℕ) → IsIn k (b ∷ []) → b ≡ k
-unfolding IsIn
-in-one k b (inl e) = e
-in-one k b (inr h) = absurd h
 
 free-set : (ms : List Bool) (b : ℕ) → b < length ms → is_marked ms b ≡ false → suc (free (set ms b true)) ≡ free ms
 free-set [] b l e = absurd (omega (arith, l))
@@ -48,15 +27,11 @@ free-set (false ∷ ms) (suc b) l e = ap suc (free-set ms b (omega arith) e)
 pub record IsMarked (w : Work) (bs : List ℕ) (v : Work) : Type 0 where
   pub long : length v.0 ≡ length w.0
   pub kept : (k : ℕ) → is_marked w.0 k ≡ true → is_marked v.0 k ≡ true
-  pub here : (k : ℕ) → IsIn k bs → is_marked v.0 k ≡ true
-  pub only : (k : ℕ) → is_marked v.0 k ≡ true → (is_marked w.0 k ≡ true) ⊎ (IsIn k bs × IsIn k v.1)
-  pub stays : (k : ℕ) → IsIn k w.1 → IsIn k v.1
-  pub waits : (k : ℕ) → IsIn k v.1 → IsIn k w.1 ⊎ IsIn k bs
+  pub here : (k : ℕ) → Contains bs k → is_marked v.0 k ≡ true
+  pub only : (k : ℕ) → is_marked v.0 k ≡ true → (is_marked w.0 k ≡ true) ⊎ (Contains bs k × Contains v.1 k)
+  pub stays : (k : ℕ) → Contains w.1 k → Contains v.1 k
+  pub waits : (k : ℕ) → Contains v.1 k → Contains w.1 k ⊎ Contains bs k
   pub less : free v.0 + length v.1 ≡ free w.0 + length w.1
-
-pub single : (k b : ℕ) → b ≡ k → IsIn k (b ∷ [])
-unfolding IsIn
-single k b e = inl e
 
 set-kept : (ms : List Bool) (b k : ℕ) → b < length ms → is_marked ms k ≡ true → is_marked (set ms b true) k ≡ true
 set-kept ms b k l e = elim (cases_eq k b) [
@@ -86,19 +61,18 @@ one false w b l e = record {
   here = λ k h. subst (λ n. is_marked (set w.0 b true) n ≡ true) (in-one k b h) (get_or-set_same w.0 b true false l);
   only = λ k h. elim (set-only w.0 b k l h) [
     | inl a ↦ inl a
-    | inr a ↦ inr (single k b a, in-right k w.1 (b ∷ []) (single k b a))
+    | inr a ↦ inr (single k b a, Contains-append_right w.1 (b ∷ []) k (single k b a))
   ];
-  stays = λ k h. in-left k w.1 (b ∷ []) h;
-  waits = λ k h. in-either k w.1 (b ∷ []) h;
+  stays = λ k h. Contains-append_left w.1 (b ∷ []) k h;
+  waits = λ k h. Contains-append_cases w.1 (b ∷ []) k h;
   less = omega (arith, free-set w.0 b l e, length_push w.1 b);
 }
 
 nothing : (w : Work) → IsMarked w [] w
-unfolding IsIn
 nothing w = record {
   long = refl;
   kept = λ k h. h;
-  here = λ k h. absurd h;
+  here = λ k h. none_in k h;
   only = λ k h. inl h;
   stays = λ k h. h;
   waits = λ k h. inl h;
@@ -109,50 +83,38 @@ joined : (u v w : Work) (b : ℕ) (bs : List ℕ) → IsMarked u (b ∷ []) v �
 joined u v w b bs p q = record {
   long = q.long ∙ p.long;
   kept = λ k h. q.kept k (p.kept k h);
-  here = λ k h. elim (in-either k (b ∷ []) bs h) [
+  here = λ k h. elim (Contains-append_cases (b ∷ []) bs k h) [
     | inl a ↦ q.kept k (p.here k a)
     | inr a ↦ q.here k a
   ];
   only = λ k h. elim (q.only k h) [
     | inl a ↦ elim (p.only k a) [
       | inl c ↦ inl c
-      | inr c ↦ inr (in-left k (b ∷ []) bs c.0, q.stays k c.1)
+      | inr c ↦ inr (Contains-append_left (b ∷ []) bs k c.0, q.stays k c.1)
     ]
-    | inr a ↦ inr (in-right k (b ∷ []) bs a.0, a.1)
+    | inr a ↦ inr (Contains-append_right (b ∷ []) bs k a.0, a.1)
   ];
   stays = λ k h. q.stays k (p.stays k h);
   waits = λ k h. elim (q.waits k h) [
     | inl a ↦ elim (p.waits k a) [
       | inl c ↦ inl c
-      | inr c ↦ inr (in-left k (b ∷ []) bs c)
+      | inr c ↦ inr (Contains-append_left (b ∷ []) bs k c)
     ]
-    | inr a ↦ inr (in-right k (b ∷ []) bs a)
+    | inr a ↦ inr (Contains-append_right (b ∷ []) bs k a)
   ];
   less = q.less ∙ p.less;
 }
-
-pub first_in : (b : ℕ) (bs : List ℕ) → IsIn b (b ∷ bs)
-unfolding IsIn
-first_in b bs = inl refl
-
-pub rest_in : (k b : ℕ) (bs : List ℕ) → IsIn k bs → IsIn k (b ∷ bs)
-unfolding IsIn
-rest_in k b bs h = inr h
 
 pub marked : (w : Work) (b : ℕ) → b < length w.0 → IsMarked w (b ∷ []) (mark w b)
 unfolding mark
 marked w b l = one (is_marked w.0 b) w b l refl
 
-pub row_marked : (bs : List ℕ) (w : Work) → ((b : ℕ) → IsIn b bs → b < length w.0) → IsMarked w bs (mark_row w bs)
+pub row_marked : (bs : List ℕ) (w : Work) → ((b : ℕ) → Contains bs b → b < length w.0) → IsMarked w bs (mark_row w bs)
 unfolding mark_row
 row_marked [] w l = nothing w
 row_marked (b ∷ bs) w l =
     let p = marked w b (l b (first_in b bs)) in
     joined w (mark w b) (mark_row (mark w b) bs) b bs p (row_marked bs (mark w b) (λ c h. rw p.long (l c (rest_in c b bs h))))
-
-pub none_in : {P : Type 0} (k : ℕ) → IsIn k [] → P
-unfolding IsIn
-none_in k h = absurd h
 
 pub both : {P : Type 0} (b : Bool) → b ≡ true → b ≡ false → P
 both true h e = absurd cc
@@ -161,19 +123,10 @@ both false h e = absurd cc
 -- what the search keeps: marked nodes are reached, and a marked node waits or has only marked successors
 pub record IsSearch (g : List (List ℕ)) (from : ℕ) (marks : List Bool) (waiting : List ℕ) : Type 0 where
   pub long : length marks ≡ length g
-  pub start : (b : ℕ) → IsIn b (edges g from) → is_marked marks b ≡ true
+  pub start : (b : ℕ) → Contains (edges g from) b → is_marked marks b ≡ true
   pub sound : (k : ℕ) → is_marked marks k ≡ true → Reaches g from k
-  pub waits : (k : ℕ) → IsIn k waiting → is_marked marks k ≡ true
-  pub closed : (k : ℕ) → is_marked marks k ≡ true → IsIn k waiting ⊎ ((b : ℕ) → IsIn b (edges g k) → is_marked marks b ≡ true)
-
-pub step_path : (g : List (List ℕ)) (a : ℕ) (cs : List ℕ) (b c : ℕ) → IsPath g a cs b → IsIn c (edges g b) → IsPath g a (cs ++ b ∷ []) c
-unfolding IsPath
-step_path g a [] b c h e = (h, e)
-step_path g a (d ∷ cs) b c h e = (h.0, step_path g d cs b c h.1 e)
-
-pub first_path : (g : List (List ℕ)) (a b : ℕ) → IsIn b (edges g a) → IsPath g a [] b
-unfolding IsPath
-first_path g a b e = e
+  pub waits : (k : ℕ) → Contains waiting k → is_marked marks k ≡ true
+  pub closed : (k : ℕ) → is_marked marks k ≡ true → Contains waiting k ⊎ ((b : ℕ) → Contains (edges g k) b → is_marked marks b ≡ true)
 
 pub begins : (g : List (List ℕ)) (from : ℕ) (w v : Work) → IsMarked w (edges g from) v → length w.0 ≡ length g → ((k : ℕ) → is_marked w.0 k ≡ false) → w.1 ≡ [] → IsSearch g from v.0 v.1
 begins g from w v m long free none = record {
@@ -181,10 +134,10 @@ begins g from w v m long free none = record {
   start = λ b h. m.here b h;
   sound = λ k h. elim (m.only k h) [
     | inl a ↦ both _ a (free k)
-    | inr a ↦ ([], first_path g from k a.0)
+    | inr a ↦ one-step (IsEdge g) from k a.0
   ];
   waits = λ k h. elim (m.waits k h) [
-    | inl a ↦ none_in k (subst (IsIn k) none a)
+    | inl a ↦ none_in k (subst (λ l. Contains l k) none a)
     | inr a ↦ m.here k a
   ];
   closed = λ k h. elim (m.only k h) [
@@ -195,23 +148,23 @@ begins g from w v m long free none = record {
 
 pub goes_on : (g : List (List ℕ)) (from node : ℕ) (ms : List Bool) (old waiting : List ℕ) (v : Work) → IsSearch g from ms old → old ≡ waiting ++ node ∷ [] → IsMarked (ms, waiting) (edges g node) v → IsSearch g from v.0 v.1
 goes_on g from node ms old waiting v s e m =
-    let at : is_marked ms node ≡ true = s.waits node (rw e (in-right node waiting (node ∷ []) (first_in node []))) in
+    let at : is_marked ms node ≡ true = s.waits node (rw e (Contains-append_right waiting (node ∷ []) node (first_in node []))) in
     record {
       long = m.long ∙ s.long;
       start = λ b h. m.kept b (s.start b h);
       sound = λ k h. elim (m.only k h) [
         | inl a ↦ s.sound k a
-        | inr a ↦ let p = s.sound node at in (p.0 ++ node ∷ [], step_path g from p.0 node k p.1 a.0)
+        | inr a ↦ then-step (IsEdge g) from node k (s.sound node at) a.0
       ];
       waits = λ k h. elim (m.waits k h) [
-        | inl a ↦ m.kept k (s.waits k (rw e (in-left k waiting (node ∷ []) a)))
+        | inl a ↦ m.kept k (s.waits k (rw e (Contains-append_left waiting (node ∷ []) k a)))
         | inr a ↦ m.here k a
       ];
       closed = λ k h. elim (m.only k h) [
         | inl a ↦ elim (s.closed k a) [
-          | inl c ↦ elim (in-either k waiting (node ∷ []) (subst (IsIn k) e c)) [
+          | inl c ↦ elim (Contains-append_cases waiting (node ∷ []) k (subst (λ l. Contains l k) e c)) [
             | inl d ↦ inl (m.stays k d)
-            | inr d ↦ inr (λ b f. m.here b (subst (λ n. IsIn b (edges g n)) (sym (in-one k node d)) f))
+            | inr d ↦ inr (λ b f. m.here b (subst (λ n. Contains (edges g n) b) (sym (in-one k node d)) f))
           ]
           | inr c ↦ inr (λ b f. m.kept b (c b f))
         ]
@@ -219,8 +172,8 @@ goes_on g from node ms old waiting v s e m =
       ];
     }
 
-all_marked : (g : List (List ℕ)) (ms : List Bool) (a : ℕ) (cs : List ℕ) (b : ℕ) → ((k c : ℕ) → is_marked ms k ≡ true → IsIn c (edges g k) → is_marked ms c ≡ true) → ((c : ℕ) → IsIn c (edges g a) → is_marked ms c ≡ true) → IsPath g a cs b → is_marked ms b ≡ true
-unfolding IsPath
+all_marked : (g : List (List ℕ)) (ms : List Bool) (a : ℕ) (cs : List ℕ) (b : ℕ) → ((k c : ℕ) → is_marked ms k ≡ true → Contains (edges g k) c → is_marked ms c ≡ true) → ((c : ℕ) → Contains (edges g a) c → is_marked ms c ≡ true) → IsPathBy (IsEdge g) a cs b → is_marked ms b ≡ true
+unfolding IsPathBy
 all_marked g ms a [] b closed start h = start b h
 all_marked g ms a (c ∷ cs) b closed start h = all_marked g ms c cs b closed (λ d e. closed c d (start c h.0) e) h.1
 
@@ -228,16 +181,10 @@ pub ends : (g : List (List ℕ)) (from : ℕ) (ms : List Bool) (waiting : List �
 ends g from ms waiting s none b = (
   s.sound b,
   λ r. all_marked g ms from r.0 b (λ k c h e. elim (s.closed k h) [
-    | inl a ↦ none_in k (subst (IsIn k) none a)
+    | inl a ↦ none_in k (subst (λ l. Contains l k) none a)
     | inr a ↦ a c e
   ]) s.start r.1,
 )
-
-pub in_at : (bs : List ℕ) (i : ℕ) → i < length bs → IsIn (get_or bs i 0) bs
-unfolding IsIn
-in_at [] i l = absurd (omega (arith, l))
-in_at (b ∷ bs) zero l = inl refl
-in_at (b ∷ bs) (suc i) l = inr (in_at bs i (omega arith))
 
 row_first : (w : Work) (b : ℕ) (bs : List ℕ) → mark_row w (b ∷ bs) ≡ mark_row (mark w b) bs
 unfolding mark_row
@@ -250,7 +197,7 @@ pub row_end : (bs : List ℕ) (i : ℕ) (w : Work) → length bs ≤ i → mark_
 unfolding mark_row
 row_end bs i w l = rw (drop_all i bs l) refl
 
-pub row_is : (bs : List ℕ) (w v : Work) → ((b : ℕ) → IsIn b bs → b < length w.0) → v ≡ mark_row w bs → IsMarked w bs v
+pub row_is : (bs : List ℕ) (w v : Work) → ((b : ℕ) → Contains bs b → b < length w.0) → v ≡ mark_row w bs → IsMarked w bs v
 row_is bs w v l e = subst (IsMarked w bs) (sym e) (row_marked bs w l)
 
 pub none_marked : (n k : ℕ) → is_marked (replicate n false) k ≡ false

@@ -1,12 +1,14 @@
 -- What a search lists, it lists once.
-use Rattle.std.proofs.Common.{◌≡◌, ◌≢◌, ℕ, suc, ◌<◌, Bool, true, false, cond, List, [], ◌∷◌, ◌++◌, length, get_or, refl, sym, subst, ◌∙◌, arith, inl, inr, ◌⊎◌}
+use Rattle.graphs.proofs.Elements.{in-one, first_in, rest_in, none_in}
+use Rattle.std.proofs.lemmas.List.Elements.{Contains-append_left, Contains-append_right, Contains-append_cases, Contains-get_or}
+use Rattle.std.proofs.Common.{◌≡◌, ◌≢◌, ℕ, ◌<◌, Bool, true, false, cond, List, [], ◌∷◌, ◌++◌, length, get_or, refl, sym, subst, ◌∙◌, arith, inl, inr, ◌⊎◌, Contains}
 use lib.ListN.{set}
 use Rattle.std.specs.List.{AllPairs}
 use Rattle.std.proofs.lemmas.List.{length_push, get_or_append_left, get_or_push, get_or_default}
 use Rattle.std.proofs.lemmas.List.Quantifiers.{all_pairs_push}
-use Rattle.graphs.specs.Graph.{IsIn, is_marked}
+use Rattle.graphs.specs.Graph.{is_marked}
 use Rattle.graphs.specs.Marking.{Work, mark, mark_row}
-use Rattle.graphs.proofs.Marks.{IsMarked, marked, in_at, in-left, in-right, in-either, in-one, first_in, rest_in, none_in, both}
+use Rattle.graphs.proofs.Marks.{IsMarked, marked, both}
 
 abbrev pub AreOnce : List ℕ → Type 0
 AreOnce xs = AllPairs (λ a b. a ≢ b) xs
@@ -14,8 +16,8 @@ AreOnce xs = AllPairs (λ a b. a ≢ b) xs
 once-none : AreOnce []
 once-none i j d l m e = absurd (omega (arith, m))
 
-once-push : (xs : List ℕ) (y : ℕ) → AreOnce xs → (IsIn y xs → ⊥) → AreOnce (xs ++ y ∷ [])
-once-push xs y p h = all_pairs_push (λ a b. a ≢ b) xs y p (λ k d l e. h (subst (λ n. IsIn n xs) (get_or_default xs k 0 d l ∙ e) (in_at xs k l)))
+once-push : (xs : List ℕ) (y : ℕ) → AreOnce xs → (Contains xs y → ⊥) → AreOnce (xs ++ y ∷ [])
+once-push xs y p h = all_pairs_push (λ a b. a ≢ b) xs y p (λ k d l e. h (subst (λ n. Contains xs n) (get_or_default xs k 0 d l ∙ e) (Contains-get_or xs k 0 l)))
 
 once-first : (xs : List ℕ) (y : ℕ) → AreOnce (xs ++ y ∷ []) → AreOnce xs
 once-first xs y p i j d l m e = p i j d l (omega (arith, m, length_push xs y)) (get_or_append_left xs (y ∷ []) d i (omega (arith, l, m)) ∙ e ∙ sym (get_or_append_left xs (y ∷ []) d j m))
@@ -25,24 +27,18 @@ record IsAt (y : ℕ) (xs : List ℕ) : Type 0 where
   inside : place < length xs
   is : get_or xs place 0 ≡ y
 
-at-more : (y x : ℕ) (xs : List ℕ) → IsAt y xs → IsAt y (x ∷ xs)
-at-more y x xs a = record { place = suc a.place; inside = omega (arith, a.inside); is = a.is }
+place-in : (y : ℕ) (xs : List ℕ) → Contains xs y → IsAt y xs
+place-in y xs (k, l, e) = record { place = k; inside = l; is = get_or_default xs k 0 y l ∙ e }
 
-place-in : (y : ℕ) (xs : List ℕ) → IsIn y xs → IsAt y xs
-unfolding IsIn
-place-in y [] h = absurd h
-place-in y (x ∷ xs) (inl e) = record { place = 0; inside = omega arith; is = e }
-place-in y (x ∷ xs) (inr h) = at-more y x xs (place-in y xs h)
-
-once-last : (xs : List ℕ) (y : ℕ) → AreOnce (xs ++ y ∷ []) → IsIn y xs → ⊥
+once-last : (xs : List ℕ) (y : ℕ) → AreOnce (xs ++ y ∷ []) → Contains xs y → ⊥
 once-last xs y p h =
     let a = place-in y xs h in
     p a.place (length xs) 0 a.inside (omega (arith, length_push xs y)) (get_or_append_left xs (y ∷ []) 0 a.place a.inside ∙ a.is ∙ sym (get_or_push xs y 0 (length xs) refl))
 
 -- What waits after a row was marked waited before or wasn't marked, and waits once.
 pub record IsFresh (w v : Work) : Type 0 where
-  pub fresh : (k : ℕ) → IsIn k v.1 → IsIn k w.1 ⊎ (is_marked w.0 k ≡ false)
-  pub once : ((k : ℕ) → IsIn k w.1 → is_marked w.0 k ≡ true) → AreOnce w.1 → AreOnce v.1
+  pub fresh : (k : ℕ) → Contains v.1 k → Contains w.1 k ⊎ (is_marked w.0 k ≡ false)
+  pub once : ((k : ℕ) → Contains w.1 k → is_marked w.0 k ≡ true) → AreOnce w.1 → AreOnce v.1
 
 fresh-none : (w : Work) → IsFresh w w
 fresh-none w = record { fresh = λ k h. inl h; once = λ m o. o }
@@ -50,7 +46,7 @@ fresh-none w = record { fresh = λ k h. inl h; once = λ m o. o }
 fresh-one : (t : Bool) (w : Work) (b : ℕ) → is_marked w.0 b ≡ t → IsFresh w (cond t w (set w.0 b true, w.1 ++ b ∷ []))
 fresh-one true w b e = fresh-none w
 fresh-one false w b e = record {
-  fresh = λ k h. elim (in-either k w.1 (b ∷ []) h) [
+  fresh = λ k h. elim (Contains-append_cases w.1 (b ∷ []) k h) [
     | inl a ↦ inl a
     | inr a ↦ inr (subst (λ n. is_marked w.0 n ≡ false) (in-one k b a) e)
   ];
@@ -77,42 +73,42 @@ fresh-mark : (w : Work) (b : ℕ) → IsFresh w (mark w b)
 unfolding mark
 fresh-mark w b = fresh-one (is_marked w.0 b) w b refl
 
-row-fresh : (bs : List ℕ) (w : Work) → ((b : ℕ) → IsIn b bs → b < length w.0) → IsFresh w (mark_row w bs)
+row-fresh : (bs : List ℕ) (w : Work) → ((b : ℕ) → Contains bs b → b < length w.0) → IsFresh w (mark_row w bs)
 unfolding mark_row
 row-fresh [] w l = fresh-none w
 row-fresh (b ∷ bs) w l =
     let p = marked w b (l b (first_in b bs)) in
     fresh-then w (mark w b) (mark_row (mark w b) bs) (b ∷ []) p (fresh-mark w b) (row-fresh bs (mark w b) (λ c h. rw p.long (l c (rest_in c b bs h))))
 
-pub fresh-is : (bs : List ℕ) (w v : Work) → ((b : ℕ) → IsIn b bs → b < length w.0) → v ≡ mark_row w bs → IsFresh w v
+pub fresh-is : (bs : List ℕ) (w v : Work) → ((b : ℕ) → Contains bs b → b < length w.0) → v ≡ mark_row w bs → IsFresh w v
 fresh-is bs w v l e = subst (IsFresh w) (sym e) (row-fresh bs w l)
 
 -- Each node was found once or waits once.
 pub record AreApart (seen todo : List ℕ) : Type 0 where
   pub found : AreOnce seen
   pub waiting : AreOnce todo
-  pub apart : (k : ℕ) → IsIn k seen → IsIn k todo → ⊥
+  pub apart : (k : ℕ) → Contains seen k → Contains todo k → ⊥
 
 pub apart-first : (w v : Work) → IsFresh w v → w.1 ≡ [] → AreApart [] v.1
 apart-first w v f e = record {
   found = once-none;
-  waiting = f.once (λ k h. none_in k (subst (IsIn k) e h)) (subst AreOnce (sym e) once-none);
+  waiting = f.once (λ k h. none_in k (subst (λ l. Contains l k) e h)) (subst AreOnce (sym e) once-none);
   apart = λ k h g. none_in k h;
 }
 
-pub apart-more : (ms : List Bool) (found old waiting : List ℕ) (node : ℕ) (v : Work) → AreApart found old → old ≡ waiting ++ node ∷ [] → ((k : ℕ) → IsIn k old → is_marked ms k ≡ true) → ((k : ℕ) → IsIn k found → is_marked ms k ≡ true) → IsFresh (ms, waiting) v → AreApart (found ++ node ∷ []) v.1
+pub apart-more : (ms : List Bool) (found old waiting : List ℕ) (node : ℕ) (v : Work) → AreApart found old → old ≡ waiting ++ node ∷ [] → ((k : ℕ) → Contains old k → is_marked ms k ≡ true) → ((k : ℕ) → Contains found k → is_marked ms k ≡ true) → IsFresh (ms, waiting) v → AreApart (found ++ node ∷ []) v.1
 apart-more ms found old waiting node v a e waits marks f =
-    let here : IsIn node old = rw e (in-right node waiting (node ∷ []) (first_in node [])) in
+    let here : Contains old node = rw e (Contains-append_right waiting (node ∷ []) node (first_in node [])) in
     let once : AreOnce (waiting ++ node ∷ []) = subst AreOnce e a.waiting in
     record {
       found = once-push found node a.found (λ h. a.apart node h here);
-      waiting = f.once (λ k h. waits k (rw e (in-left k waiting (node ∷ []) h))) (once-first waiting node once);
+      waiting = f.once (λ k h. waits k (rw e (Contains-append_left waiting (node ∷ []) k h))) (once-first waiting node once);
       apart = λ k h g. elim (f.fresh k g) [
-        | inl w ↦ elim (in-either k found (node ∷ []) h) [
-          | inl c ↦ a.apart k c (rw e (in-left k waiting (node ∷ []) w))
-          | inr c ↦ once-last waiting node once (subst (λ n. IsIn n waiting) (sym (in-one k node c)) w)
+        | inl w ↦ elim (Contains-append_cases found (node ∷ []) k h) [
+          | inl c ↦ a.apart k c (rw e (Contains-append_left waiting (node ∷ []) k w))
+          | inr c ↦ once-last waiting node once (subst (λ n. Contains waiting n) (sym (in-one k node c)) w)
         ]
-        | inr free ↦ elim (in-either k found (node ∷ []) h) [
+        | inr free ↦ elim (Contains-append_cases found (node ∷ []) k h) [
           | inl c ↦ both (is_marked ms k) (marks k c) free
           | inr c ↦ both (is_marked ms k) (subst (λ n. is_marked ms n ≡ true) (in-one k node c) (waits node here)) free
         ]

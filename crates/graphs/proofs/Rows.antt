@@ -1,57 +1,59 @@
 -- Of rows of nodes: bounds, and what is kept of them.
-use Rattle.std.proofs.Common.{◌≡◌, ℕ, ◌+◌, ◌<◌, ◌≤◌, Bool, true, false, List, [], ◌∷◌, ◌++◌, length, get_or, take, refl, sym, subst, ◌∙◌, arith, inl, inr, ◌⊎◌}
+use Rattle.graphs.proofs.Elements.{in-one, single, none_in}
+use Rattle.std.proofs.lemmas.List.Elements.{Contains-append_left, Contains-append_right, Contains-append_cases, Contains-get_or}
+use Rattle.std.proofs.Common.{◌≡◌, ℕ, ◌+◌, ◌<◌, ◌≤◌, Bool, true, false, List, [], ◌∷◌, ◌++◌, length, get_or, take, refl, sym, subst, ◌∙◌, arith, inl, inr, ◌⊎◌, Contains}
 use Rattle.std.proofs.lemmas.List.{take_more, take_all, length_push, get_or_append_left, get_or_push, get_or_past}
-use Rattle.graphs.specs.Graph.{IsIn, edges, Reaches, IsForwardRow, IsForward}
+use Rattle.graphs.specs.Graph.{edges, Reaches, IsForwardRow, IsForward}
 use Rattle.graphs.specs.Numbers.{number_of, NeverRises}
-use Rattle.graphs.proofs.Marks.{in-left, in-right, in-either, in-one, in_at, single, none_in, both}
+use Rattle.graphs.proofs.Marks.{both}
 use Rattle.graphs.proofs.Ranks.{last_or, low, from_node, within}
 
 -- a node among the first i + 1 is among the first i or is the next
-pub first-more : (bs : List ℕ) (i : ℕ) (b : ℕ) → i < length bs → IsIn b (take (i + 1) bs) → IsIn b (take i bs) ⊎ (get_or bs i 0 ≡ b)
-first-more bs i b l h = elim (in-either b (take i bs) (get_or bs i 0 ∷ []) (subst (IsIn b) (take_more bs i 0 l) h)) [
+pub first-more : (bs : List ℕ) (i : ℕ) (b : ℕ) → i < length bs → Contains (take (i + 1) bs) b → Contains (take i bs) b ⊎ (get_or bs i 0 ≡ b)
+first-more bs i b l h = elim (Contains-append_cases (take i bs) (get_or bs i 0 ∷ []) b (subst (λ l. Contains l b) (take_more bs i 0 l) h)) [
   | inl a ↦ inl a
   | inr a ↦ inr (in-one b (get_or bs i 0) a)
 ]
 
-pub first-before : (bs : List ℕ) (i : ℕ) (b : ℕ) → i < length bs → IsIn b (take i bs) → IsIn b (take (i + 1) bs)
-first-before bs i b l h = subst (IsIn b) (sym (take_more bs i 0 l)) (in-left b (take i bs) (get_or bs i 0 ∷ []) h)
+pub first-before : (bs : List ℕ) (i : ℕ) (b : ℕ) → i < length bs → Contains (take i bs) b → Contains (take (i + 1) bs) b
+first-before bs i b l h = subst (λ l. Contains l b) (sym (take_more bs i 0 l)) (Contains-append_left (take i bs) (get_or bs i 0 ∷ []) b h)
 
-pub first-last : (bs : List ℕ) (i : ℕ) → i < length bs → IsIn (get_or bs i 0) (take (i + 1) bs)
-first-last bs i l = subst (IsIn (get_or bs i 0)) (sym (take_more bs i 0 l)) (in-right (get_or bs i 0) (take i bs) (get_or bs i 0 ∷ []) (single (get_or bs i 0) (get_or bs i 0) refl))
+pub first-last : (bs : List ℕ) (i : ℕ) → i < length bs → Contains (take (i + 1) bs) (get_or bs i 0)
+first-last bs i l = subst (λ l. Contains l (get_or bs i 0)) (sym (take_more bs i 0 l)) (Contains-append_right (take i bs) (get_or bs i 0 ∷ []) (get_or bs i 0) (single (get_or bs i 0) (get_or bs i 0) refl))
 
 -- bounds
-pub bound-more : (bs : List ℕ) (i m : ℕ) → i < length bs → ((b : ℕ) → IsIn b (take i bs) → b < m) → get_or bs i 0 < m → (b : ℕ) → IsIn b (take (i + 1) bs) → b < m
+pub bound-more : (bs : List ℕ) (i m : ℕ) → i < length bs → ((b : ℕ) → Contains (take i bs) b → b < m) → get_or bs i 0 < m → (b : ℕ) → Contains (take (i + 1) bs) b → b < m
 bound-more bs i m l before here b h = elim (first-more bs i b l h) [
   | inl a ↦ before b a
   | inr e ↦ subst (λ n. n < m) e here
 ]
 
-pub bound-all : (bs : List ℕ) (i m : ℕ) → length bs ≤ i → ((b : ℕ) → IsIn b (take i bs) → b < m) → (b : ℕ) → IsIn b bs → b < m
-bound-all bs i m l before b h = before b (subst (IsIn b) (sym (take_all i bs l)) h)
+pub bound-all : (bs : List ℕ) (i m : ℕ) → length bs ≤ i → ((b : ℕ) → Contains (take i bs) b → b < m) → (b : ℕ) → Contains bs b → b < m
+bound-all bs i m l before b h = before b (subst (λ l. Contains l b) (sym (take_all i bs l)) h)
 
-pub rows-more : (g : List (List ℕ)) (n m : ℕ) → ((a b : ℕ) → a < n → IsIn b (edges g a) → b < m) → ((b : ℕ) → IsIn b (edges g n) → b < m) → (a b : ℕ) → a < n + 1 → IsIn b (edges g a) → b < m
+pub rows-more : (g : List (List ℕ)) (n m : ℕ) → ((a b : ℕ) → a < n → Contains (edges g a) b → b < m) → ((b : ℕ) → Contains (edges g n) b → b < m) → (a b : ℕ) → a < n + 1 → Contains (edges g a) b → b < m
 rows-more g n m before here a b l h = elim (last_or a n l) [
-  | inl e ↦ here b (subst (λ k. IsIn b (edges g k)) e h)
+  | inl e ↦ here b (subst (λ k. Contains (edges g k) b) e h)
   | inr s ↦ before a b s h
 ]
 
-pub rows-all : (g : List (List ℕ)) (n m : ℕ) → length g ≤ n → ((a b : ℕ) → a < n → IsIn b (edges g a) → b < m) → (a b : ℕ) → IsIn b (edges g a) → b < m
+pub rows-all : (g : List (List ℕ)) (n m : ℕ) → length g ≤ n → ((a b : ℕ) → a < n → Contains (edges g a) b → b < m) → (a b : ℕ) → Contains (edges g a) b → b < m
 rows-all g n m l before a b h = before a b (omega (arith, l, from_node g a b h (within a (length g)))) h
 
 -- kept: those of the nodes to which P doesn't come
 pub record AreKept (P : ℕ → Type 0) (bs kept : List ℕ) : Type 0 where
-  pub sound : (b : ℕ) → IsIn b kept → IsIn b bs × (P b → ⊥)
-  pub complete : (b : ℕ) → IsIn b bs → (P b → ⊥) → IsIn b kept
+  pub sound : (b : ℕ) → Contains kept b → Contains bs b × (P b → ⊥)
+  pub complete : (b : ℕ) → Contains bs b → (P b → ⊥) → Contains kept b
 
 pub kept-more : (P : ℕ → Type 0) (bs kept : List ℕ) (i : ℕ) → i < length bs → AreKept P (take i bs) kept → (P (get_or bs i 0) → ⊥) → AreKept P (take (i + 1) bs) (kept ++ get_or bs i 0 ∷ [])
 kept-more P bs kept i l k free = record {
-  sound = λ b h. elim (in-either b kept (get_or bs i 0 ∷ []) h) [
+  sound = λ b h. elim (Contains-append_cases kept (get_or bs i 0 ∷ []) b h) [
     | inl a ↦ (first-before bs i b l (k.sound b a).0, (k.sound b a).1)
-    | inr a ↦ let e = in-one b (get_or bs i 0) a in (subst (λ n. IsIn n (take (i + 1) bs)) e (first-last bs i l), λ p. free (subst P (sym e) p))
+    | inr a ↦ let e = in-one b (get_or bs i 0) a in (subst (λ n. Contains (take (i + 1) bs) n) e (first-last bs i l), λ p. free (subst P (sym e) p))
   ];
   complete = λ b h n. elim (first-more bs i b l h) [
-    | inl a ↦ in-left b kept (get_or bs i 0 ∷ []) (k.complete b a n)
-    | inr e ↦ in-right b kept (get_or bs i 0 ∷ []) (single b (get_or bs i 0) e)
+    | inl a ↦ Contains-append_left kept (get_or bs i 0 ∷ []) b (k.complete b a n)
+    | inr e ↦ Contains-append_right kept (get_or bs i 0 ∷ []) b (single b (get_or bs i 0) e)
   ];
 }
 
@@ -64,11 +66,16 @@ kept-skip P bs kept i l k at = record {
   ];
 }
 
-pub kept-all : (P : ℕ → Type 0) (bs kept : List ℕ) (i : ℕ) → length bs ≤ i → AreKept P (take i bs) kept → (b : ℕ) → (IsIn b kept → IsIn b bs × (P b → ⊥)) × (IsIn b bs → (P b → ⊥) → IsIn b kept)
+pub kept-all : (P : ℕ → Type 0) (bs kept : List ℕ) (i : ℕ) → length bs ≤ i → AreKept P (take i bs) kept → (b : ℕ) → (Contains kept b → Contains bs b × (P b → ⊥)) × (Contains bs b → (P b → ⊥) → Contains kept b)
 kept-all P bs kept i l k b = (
-  (λ h. (subst (IsIn b) (take_all i bs l) (k.sound b h).0, (k.sound b h).1)),
-  (λ h n. k.complete b (subst (IsIn b) (sym (take_all i bs l)) h) n),
+  (λ h. (subst (λ l. Contains l b) (take_all i bs l) (k.sound b h).0, (k.sound b h).1)),
+  (λ h n. k.complete b (subst (λ l. Contains l b) (sym (take_all i bs l)) h) n),
 )
+
+pub forward-row : (g : List (List ℕ)) (a : ℕ) (bs kept : List ℕ) (i : ℕ) → bs ≡ edges g a → length bs ≤ i → AreKept (λ b. Reaches g b a) (take i bs) kept → IsForwardRow g a kept
+forward-row g a bs kept i e l k b =
+    let all = kept-all (λ b. Reaches g b a) bs kept i l k b in
+    ((λ h. (subst (λ row. Contains row b) e (all.0 h).0, (all.0 h).1)), (λ h n. all.1 (subst (λ row. Contains row b) (sym e) h) n))
 
 -- the rows so far
 pub record AreForwardRows (g rows : List (List ℕ)) (n : ℕ) : Type 0 where
@@ -89,8 +96,8 @@ forward-more g rows row n f here = record {
 
 no-rows : (g rows : List (List ℕ)) (a : ℕ) → length g ≤ a → length rows ≡ length g → IsForwardRow g a (edges rows a)
 no-rows g rows a l e b = (
-  (λ h. none_in b (subst (IsIn b) (get_or_past rows a [] (omega (arith, l, e))) h)),
-  (λ h n. none_in b (subst (IsIn b) (get_or_past g a [] l) h)),
+  (λ h. none_in b (subst (λ l. Contains l b) (get_or_past rows a [] (omega (arith, l, e))) h)),
+  (λ h n. none_in b (subst (λ l. Contains l b) (get_or_past g a [] l) h)),
 )
 
 pub forward-all : (g rows : List (List ℕ)) (n : ℕ) → n ≡ length g → AreForwardRows g rows n → IsForward g rows
@@ -106,8 +113,8 @@ forward-all g rows n e f = record {
 pub falls_away : (g : List (List ℕ)) (numbers : List ℕ) (a b : ℕ) → NeverRises g numbers → number_of numbers b < number_of numbers a → Reaches g b a → ⊥
 falls_away g numbers a b never l r = omega (arith, l, low g numbers never b r.0 a r.1)
 
-pub not-below : {P : Type 0} (bs : List ℕ) (i m : ℕ) → i < length bs → m ≤ get_or bs i 0 → ((b : ℕ) → IsIn b bs → b < m) → P
-not-below bs i m l e below = absurd (omega (arith, e, below (get_or bs i 0) (in_at bs i l)))
+pub not-below : {P : Type 0} (bs : List ℕ) (i m : ℕ) → i < length bs → m ≤ get_or bs i 0 → ((b : ℕ) → Contains bs b → b < m) → P
+not-below bs i m l e below = absurd (omega (arith, e, below (get_or bs i 0) (Contains-get_or bs i 0 l)))
 
 pub none-kept : (P : ℕ → Type 0) (kept : List ℕ) → kept ≡ [] → AreKept P [] kept
 none-kept P kept e = rw e (record {

@@ -1,27 +1,22 @@
 -- Directed graphs as rows of numbers: from each node, the nodes that its edges lead to.
-use Rattle.std.specs.Prelude.{◌≡◌, ◌≢◌, ℕ, ◌<◌, Bool, true, false, List, [], ◌∷◌, length, get_or, ◌⊎◌}
-
--- The number is one of these.
-unfoldable pub IsIn : ℕ → List ℕ → Type 0
-IsIn x [] = ⊥
-IsIn x (y ∷ ys) = (y ≡ x) ⊎ IsIn x ys
+use Rattle.std.specs.Prelude.{◌≡◌, ◌≢◌, ℕ, ◌<◌, Bool, true, false, List, [], length, get_or, Contains}
+use Rattle.graphs.specs.Paths.{Leads}
 
 -- The nodes that the edges of a node lead to; none outside the graph.
 abbrev pub edges : List (List ℕ) → ℕ → List ℕ
 edges graph a = get_or graph a []
 
--- A path from a to b by one edge or more, through these nodes in order.
-unfoldable pub IsPath : List (List ℕ) → ℕ → List ℕ → ℕ → Type 0
-IsPath graph a [] b = IsIn b (edges graph a)
-IsPath graph a (c ∷ cs) b = IsIn c (edges graph a) × IsPath graph c cs b
+-- An edge leads from a to b.
+abbrev pub IsEdge : List (List ℕ) → ℕ → ℕ → Type 0
+IsEdge graph a b = Contains (edges graph a) b
 
 -- b is reached from a by one edge or more.
 abbrev pub Reaches : List (List ℕ) → ℕ → ℕ → Type 0
-Reaches graph a b = (cs : List ℕ) × IsPath graph a cs b
+Reaches graph a b = Leads (IsEdge graph) a b
 
 -- Each edge leads to a node of the graph.
 abbrev pub InRange : List (List ℕ) → Type 0
-InRange graph = (a b : ℕ) → IsIn b (edges graph a) → b < length graph
+InRange graph = (a b : ℕ) → Contains (edges graph a) b → b < length graph
 
 -- No node below n but `skip` reaches itself.
 abbrev pub IsAcyclicBelow : List (List ℕ) → ℕ → ℕ → Type 0
@@ -45,7 +40,7 @@ AreMarked graph a marks = (b : ℕ) → (is_marked marks b ≡ true → Reaches 
 
 -- The nodes in the list are those that are reached from a.
 abbrev pub AreAncestors : List (List ℕ) → ℕ → List ℕ → Type 0
-AreAncestors graph a nodes = (b : ℕ) → (IsIn b nodes → Reaches graph a b) × (Reaches graph a b → IsIn b nodes)
+AreAncestors graph a nodes = (b : ℕ) → (Contains nodes b → Reaches graph a b) × (Reaches graph a b → Contains nodes b)
 
 -- The marks of n nodes, none of them set.
 abbrev pub AreFree : ℕ → List Bool → Type 0
@@ -53,7 +48,7 @@ AreFree n marks = (length marks ≡ n) × ((b : ℕ) → is_marked marks b ≡ f
 
 -- Of the edges of a, those to nodes that don't reach it.
 abbrev pub IsForwardRow : List (List ℕ) → ℕ → List ℕ → Type 0
-IsForwardRow graph a row = (b : ℕ) → (IsIn b row → IsIn b (edges graph a) × (Reaches graph b a → ⊥)) × (IsIn b (edges graph a) → (Reaches graph b a → ⊥) → IsIn b row)
+IsForwardRow graph a row = (b : ℕ) → (Contains row b → Contains (edges graph a) b × (Reaches graph b a → ⊥)) × (Contains (edges graph a) b → (Reaches graph b a → ⊥) → Contains row b)
 
 -- The graph without the edges that lie on cycles.
 pub record IsForward (graph rows : List (List ℕ)) : Type 0 where

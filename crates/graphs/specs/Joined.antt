@@ -1,6 +1,6 @@
 -- What is known of nodes that lie on cycles with a node of their own, their root.
-use Rattle.std.specs.Prelude.{◌≡◌, ℕ, true, List, Bool, length, get_or}
-use Rattle.graphs.specs.Graph.{IsIn, edges, Reaches, is_marked}
+use Rattle.std.specs.Prelude.{◌≡◌, ℕ, true, List, Bool, length, get_or, Contains}
+use Rattle.graphs.specs.Graph.{edges, Reaches, is_marked}
 use Rattle.graphs.specs.declared.joined.Joined.{Joined}
 
 -- The root of a node, 0 where there is none.
@@ -10,12 +10,12 @@ root_of roots a = get_or roots a 0
 -- The rows have some of the graph's edges and no others.
 pub record IsPart (graph rows : List (List ℕ)) : Type 0 where
   pub long : length rows ≡ length graph
-  pub part : (a b : ℕ) → IsIn b (edges rows a) → IsIn b (edges graph a)
+  pub part : (a b : ℕ) → Contains (edges rows a) b → Contains (edges graph a) b
 
 -- The rows have some of the graph's edges, each turned round, and no others.
 pub record IsTurned (graph rows : List (List ℕ)) : Type 0 where
   pub long : length rows ≡ length graph
-  pub part : (a b : ℕ) → IsIn b (edges rows a) → IsIn a (edges graph b)
+  pub part : (a b : ℕ) → Contains (edges rows a) b → Contains (edges graph b) a
 
 -- Each marked node is reached from its root.
 abbrev pub AreRooted : List (List ℕ) → List ℕ → List Bool → Type 0

@@ -1,3 +1,4 @@
+pub mod Paths
 pub mod Graph
 pub mod Marking
 pub mod Numbers

@@ -1,6 +1,6 @@
 -- Numbers of nodes that don't rise along an edge.
-use Rattle.std.specs.Prelude.{ℕ, ◌≤◌, Bool, true, false, List, [], ◌∷◌, get_or, cond, nat_lt}
-use Rattle.graphs.specs.Graph.{IsIn, edges}
+use Rattle.std.specs.Prelude.{ℕ, ◌≤◌, Bool, true, false, List, [], ◌∷◌, get_or, cond, nat_lt, Contains}
+use Rattle.graphs.specs.Graph.{edges}
 
 -- The number of a node, 0 where there is none.
 abbrev pub number_of : List ℕ → ℕ → ℕ
@@ -13,4 +13,4 @@ all_below numbers bound (b ∷ bs) = cond (nat_lt (number_of numbers b) bound) (
 
 -- No edge leads to a higher number.
 abbrev pub NeverRises : List (List ℕ) → List ℕ → Type 0
-NeverRises graph numbers = (a b : ℕ) → IsIn b (edges graph a) → number_of numbers b ≤ number_of numbers a
+NeverRises graph numbers = (a b : ℕ) → Contains (edges graph a) b → number_of numbers b ≤ number_of numbers a

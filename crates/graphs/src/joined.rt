@@ -1,5 +1,5 @@
-ghost use Rattle.std.specs.Prelude.{◌≡◌, ◌⊎◌, ℕ, List, true, IfOk, OnOk, length};
-ghost use Rattle.graphs.specs.Graph.{IsIn, edges, InRange, Reaches, is_marked};
+ghost use Rattle.std.specs.Prelude.{◌≡◌, ◌⊎◌, ℕ, List, true, IfOk, OnOk, length, Contains};
+ghost use Rattle.graphs.specs.Graph.{edges, InRange, Reaches, is_marked};
 ghost use Rattle.graphs.specs.Joined.{root_of, IsPart, IsTurned, AreRooted, IsJoined};
 
 use crate::reach::{ancestors, free_marks, row};
@@ -56,7 +56,7 @@ fn row_within(
     node: usize,
     nodes: &[usize],
 ) -> Result<Items<usize>, AllocError>
-    ensures { IfOk result (λ kept. (b : ℕ) → IsIn b kept → IsIn b nodes.now) }
+    ensures { IfOk result (λ kept. (b : ℕ) → Contains kept b → Contains nodes.now b) }
 {
     let root = root_of(roots, node);
     let mut kept = Items::new(alloc);
@@ -87,7 +87,7 @@ fn within(
 /// Rows without an edge.
 fn no_rows(alloc: Global, nodes: usize) -> Result<Vec<Items<usize>>, AllocError>
     ensures long { IfOk result (λ rows. length rows.items ≡ nodes) }
-    ensures none { IfOk result (λ rows. (a b : ℕ) → IsIn b (edges rows.items a) → ⊥) }
+    ensures none { IfOk result (λ rows. (a b : ℕ) → Contains (edges rows.items a) b → ⊥) }
 {
     let mut rows = Vec::new(alloc);
     for _ in 0..nodes {
@@ -99,7 +99,7 @@ fn no_rows(alloc: Global, nodes: usize) -> Result<Vec<Items<usize>>, AllocError>
 /// Adds an edge.
 fn add_edge(rows: &mut Vec<Items<usize>>, from: usize, to: usize) -> Result<(), AllocError>
     ensures long { length rows.new.items ≡ length rows.old.items }
-    ensures added { OnOk result ((a b : ℕ) → IsIn b (edges rows.new.items a) → IsIn b (edges rows.old.items a) ⊎ ((from ≡ a) × (to ≡ b))) }
+    ensures added { OnOk result ((a b : ℕ) → Contains (edges rows.new.items a) b → Contains (edges rows.old.items a) b ⊎ ((from ≡ a) × (to ≡ b))) }
 {
     if from >= rows.len() {
         return Ok(());
@@ -112,7 +112,7 @@ fn add_edge(rows: &mut Vec<Items<usize>>, from: usize, to: usize) -> Result<(), 
 /// Adds an edge from each of these nodes.
 fn add_edges(rows: &mut Vec<Items<usize>>, nodes: &[usize], to: usize) -> Result<(), AllocError>
     ensures long { length rows.new.items ≡ length rows.old.items }
-    ensures added { OnOk result ((a b : ℕ) → IsIn b (edges rows.new.items a) → IsIn b (edges rows.old.items a) ⊎ (IsIn a nodes.now × (to ≡ b))) }
+    ensures added { OnOk result ((a b : ℕ) → Contains (edges rows.new.items a) b → Contains (edges rows.old.items a) b ⊎ (Contains nodes.now a × (to ≡ b))) }
 {
     for node in nodes {
         add_edge(rows, *node, to)?;
@@ -133,7 +133,7 @@ fn turned(alloc: Global, graph: &[Items<usize>]) -> Result<Vec<Items<usize>>, Al
 
 /// Marks those of the nodes that have this root.
 fn mark_rooted(marks: &mut Vec<bool>, roots: &[usize], root: usize, nodes: &[usize])
-    ensures { (graph : List (List ℕ)) → ((b : ℕ) → IsIn b nodes.now → Reaches graph root b) → AreRooted graph roots.now marks.old.items → AreRooted graph roots.now marks.new.items }
+    ensures { (graph : List (List ℕ)) → ((b : ℕ) → Contains nodes.now b → Reaches graph root b) → AreRooted graph roots.now marks.old.items → AreRooted graph roots.now marks.new.items }
 {
     for node in nodes {
         if *node >= marks.len() {

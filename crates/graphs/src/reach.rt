@@ -1,5 +1,5 @@
-ghost use Rattle.std.specs.Prelude.{◌≡◌, ◌≢◌, ◌<◌, ℕ, true, IfOk, OnOk, length, AllPairs};
-ghost use Rattle.graphs.specs.Graph.{IsIn, edges, InRange, AreMarked, AreAncestors, AreFree};
+ghost use Rattle.std.specs.Prelude.{◌≡◌, ◌≢◌, ◌<◌, ℕ, true, IfOk, OnOk, length, AllPairs, Contains};
+ghost use Rattle.graphs.specs.Graph.{edges, InRange, AreMarked, AreAncestors, AreFree};
 ghost use Rattle.graphs.specs.Marking.{mark, mark_row, unmark};
 
 use lists::Items;
@@ -17,8 +17,8 @@ pub(crate) fn row(graph: &[Items<usize>], node: usize) -> &[usize]
 
 /// Whether each of these nodes is below the bound.
 fn are_below(nodes: &[usize], bound: usize) -> bool
-    ensures sound { result ≡ true → (b : ℕ) → IsIn b nodes.now → b < bound }
-    ensures complete { ((b : ℕ) → IsIn b nodes.now → b < bound) → result ≡ true }
+    ensures sound { result ≡ true → (b : ℕ) → Contains nodes.now b → b < bound }
+    ensures complete { ((b : ℕ) → Contains nodes.now b → b < bound) → result ≡ true }
 {
     for node in nodes {
         if *node >= bound {
@@ -69,7 +69,7 @@ fn mark_row(
     waiting: &mut Vec<usize>,
     nodes: &[usize],
 ) -> Result<(), AllocError>
-    requires { (b : ℕ) → IsIn b nodes.now → b < length marks.old.items }
+    requires { (b : ℕ) → Contains nodes.now b → b < length marks.old.items }
     ensures work { OnOk result ((marks.new.items, waiting.new.items) ≡ mark_row (marks.old.items, waiting.old.items) nodes.now) }
     ensures long { length marks.new.items ≡ length marks.old.items }
 {

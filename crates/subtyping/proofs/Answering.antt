@@ -1,27 +1,27 @@
 -- What is below, by the dimensions and by the classes' names.
-use Rattle.std.proofs.Common.{◌≡◌, ℕ, zero, suc, ◌<◌, List, refl, sym, ap, subst, ◌∙◌, arith, inl, inr, ◌⊎◌, Option, Some, None}
+use Rattle.graphs.proofs.Elements.{none_in}
+use Rattle.subtyping.proofs.OfArrays.{OfArrays, of-arrays, arrays-of}
+use Rattle.std.proofs.Common.{◌≡◌, ℕ, zero, suc, ◌<◌, List, refl, sym, ap, subst, ◌∙◌, arith, inl, inr, ◌⊎◌, Option, Some, None, Contains}
 use Rattle.type_names.specs.declared.kinds.Base.{Base}
 use Rattle.type_names.specs.declared.kinds.Base.TheVariants.{Class}
-use Rattle.subtyping.specs.Paths.{IsOneOf}
 use Rattle.subtyping.specs.Steps.{object, cloneable, serializable, wider, IsReference, IsOfArrays}
 use Rattle.subtyping.specs.Asked.{class_name, IsClassBelow, IsBaseBelow, IsArrayBelow, IsBelowAt}
-use Rattle.subtyping.proofs.Ways.{none-of}
 
 abbrev Relation : Type 1
 Relation = List ℕ → List ℕ → Type 0
 
 -- by names
-pub base-widens : (R : Relation) (p q : Base) → class_name p ≡ None → IsBaseBelow R p q → IsOneOf q (wider p)
+pub base-widens : (R : Relation) (p q : Base) → class_name p ≡ None → IsBaseBelow R p q → Contains (wider p) q
 base-widens R (Class a) q e h = absurd cc
 base-widens R p q e h = h
 
-pub widens-base : (R : Relation) (p q : Base) → class_name p ≡ None → IsOneOf q (wider p) → IsBaseBelow R p q
+pub widens-base : (R : Relation) (p q : Base) → class_name p ≡ None → Contains (wider p) q → IsBaseBelow R p q
 widens-base R (Class a) q e h = absurd cc
 widens-base R p q e h = h
 
 pub class-never : {P : Type 0} (R : Relation) (p q : Base) (a : List ℕ) → class_name p ≡ Some a → class_name q ≡ None → IsBaseBelow R p q → P
 class-never R (Class x) (Class y) a e f h = absurd cc
-class-never R (Class x) q a e f h = none-of q h
+class-never R (Class x) q a e f h = none_in q h
 class-never R p q a e f h = absurd cc
 
 is-class : (p : Base) (a : List ℕ) → class_name p ≡ Some a → p ≡ Class a
@@ -38,19 +38,18 @@ base-class R p q a b e f h = subst (λ y. IsBaseBelow R (Class a) y) (is-class q
 array-base : (q : Base) (x : List ℕ) → Class x ≡ q → class_name q ≡ Some x
 array-base q x e = ap class_name (sym e)
 
-of-arrays-name : (q : Base) → IsOfArrays q → (x : List ℕ) × (class_name q ≡ Some x)
-unfolding IsOneOf
-of-arrays-name q (inl e) = (object, array-base q object e)
-of-arrays-name q (inr (inl e)) = (cloneable, array-base q cloneable e)
-of-arrays-name q (inr (inr (inl e))) = (serializable, array-base q serializable e)
-of-arrays-name q (inr (inr (inr h))) = absurd h
+arrays-name : (q : Base) → OfArrays q → (x : List ℕ) × (class_name q ≡ Some x)
+arrays-name q (inl e) = (object, array-base q object e)
+arrays-name q (inr (inl e)) = (cloneable, array-base q cloneable e)
+arrays-name q (inr (inr (inl e))) = (serializable, array-base q serializable e)
+arrays-name q (inr (inr (inr h))) = absurd h
 
 clash : {P : Type 0} {A : Type 0} (o : Option A) (x : A) → o ≡ Some x → o ≡ None → P
 clash None x e f = absurd cc
 clash (Some y) x e f = absurd cc
 
 pub array-never : {P : Type 0} (R : Relation) (q : Base) → class_name q ≡ None → IsArrayBelow R q → P
-array-never R q e (inl o) = let n = of-arrays-name q o in clash (class_name q) n.0 n.1 e
+array-never R q e (inl o) = let n = arrays-name q (of-arrays q o) in clash (class_name q) n.0 n.1 e
 array-never R q e (inr h) = clash (class_name q) h.0 (ap class_name h.1) e
 
 pub array-of : (R : Relation) (q : Base) (b : List ℕ) → class_name q ≡ Some b → IsOfArrays (Class b) → IsArrayBelow R q
@@ -144,23 +143,22 @@ none-below R n p m q e z h = subst (λ k. IsBelowAt R n p k q) e (base-same R n 
 
 -- the classes of arrays
 pub of-object : (n : List ℕ) → n ≡ object → IsOfArrays (Class n)
-unfolding IsOneOf
-of-object n e = inl (ap Class (sym e))
+of-object n e = arrays-of (Class n) (inl (ap Class (sym e)))
 
 pub of-cloneable : (n : List ℕ) → n ≡ cloneable → IsOfArrays (Class n)
-unfolding IsOneOf
-of-cloneable n e = inr (inl (ap Class (sym e)))
+of-cloneable n e = arrays-of (Class n) (inr (inl (ap Class (sym e))))
 
 pub of-serializable : (n : List ℕ) → n ≡ serializable → IsOfArrays (Class n)
-unfolding IsOneOf
-of-serializable n e = inr (inr (inl (ap Class (sym e))))
+of-serializable n e = arrays-of (Class n) (inr (inr (inl (ap Class (sym e)))))
 
 one-name : (x n : List ℕ) → Class x ≡ Class n → n ≡ x
 one-name x n e = same-some n x (sym (ap class_name e))
 
+last : (n : List ℕ) → (n ≡ object → ⊥) → (n ≡ cloneable → ⊥) → OfArrays (Class n) → n ≡ serializable
+last n f g (inl e) = absurd (f (one-name object n e))
+last n f g (inr (inl e)) = absurd (g (one-name cloneable n e))
+last n f g (inr (inr (inl e))) = one-name serializable n e
+last n f g (inr (inr (inr h))) = absurd h
+
 pub of-last : (n : List ℕ) → (n ≡ object → ⊥) → (n ≡ cloneable → ⊥) → IsOfArrays (Class n) → n ≡ serializable
-unfolding IsOneOf
-of-last n f g (inl e) = absurd (f (one-name object n e))
-of-last n f g (inr (inl e)) = absurd (g (one-name cloneable n e))
-of-last n f g (inr (inr (inl e))) = one-name serializable n e
-of-last n f g (inr (inr (inr h))) = absurd h
+of-last n f g h = last n f g (of-arrays (Class n) h)

@@ -1,12 +1,15 @@
 -- Places in a list of names, one name further.
-use Rattle.std.proofs.Common.{rules, ◌≡◌, ◌∙◌, sym, ap, ℕ, suc, ◌<◌, List, [], ◌∷◌, ◌++◌, length, get_or, refl, arith, Bool, true, false, if◌then◌else◌, Option, Some, None, cond, Result, Ok, Err, OnOk, OnErr}
+use Rattle.std.proofs.Common.{rules, ◌≡◌, ◌∙◌, sym, ap, subst, ℕ, suc, ◌+◌, ◌<◌, ◌≤◌, inl, inr, slice_get, List, [], ◌∷◌, ◌++◌, length, get_or, refl, arith, Bool, true, false, if◌then◌else◌, Option, Some, None, cond, Result, Ok, Err, OnOk, OnErr}
 use Rattle.std.specs.Prelude.{option_map, bytes_eq, String, string_cmp, string_bytes}
 use Rattle.std.specs.BTreeMap.{BTreeMap, UpdatesBy, get_by_text}
 use Rattle.std.specs.Cmp.Lexicographic.{slice_cmp}
 use Rattle.std.specs.Ordering.{nat_cmp}
 use Rattle.std.proofs.lemmas.Cmp.{nat_list_eq_equiv}
 use Rattle.std.proofs.lemmas.Map.Text.{btree_map_updates_text}
-use Rattle.subtyping.specs.Places.{place_of, IsPlaced, IsGrown, IsListed}
+use Rattle.std.proofs.lemmas.Option.{slice_get_within}
+use Rattle.graphs.proofs.Ranks.{last_or}
+use Rattle.known_classes.specs.Known.{KnownClasses}
+use Rattle.subtyping.specs.Places.{place_of, IsPlaced, IsGrown, IsListed, AreListed}
 use Rattle.known_classes.specs.declared.summary.ClassSummary.{ClassSummary}
 
 not_first : (b : Bool) (p : Option ℕ) → (if b then Some 0 else option_map suc p) ≡ None → (b ≡ false) × (p ≡ None)
@@ -79,6 +82,19 @@ listed-grown xs ys c g l = record {
   own = placed-grown xs ys c.name g l.own;
   supers = λ b h. placed-grown xs ys b g (l.supers b h);
 }
+
+-- the classes so far
+pub listed-next : (known : KnownClasses) (old new : List (List ℕ)) (n : ℕ) (class : ClassSummary) → slice_get known n ≡ Some class → IsListed new class → IsGrown old new → ((i : ℕ) (c : ClassSummary) → i < n → slice_get known i ≡ Some c → IsListed old c) → (i : ℕ) (c : ClassSummary) → i < n + 1 → slice_get known i ≡ Some c → IsListed new c
+listed-next known old new n class at here grown before i c l e = elim (last_or i n l) [
+  | inl s ↦ let one : class ≡ c = same-class known n i class c s at e in subst (IsListed new) one here
+  | inr m ↦ listed-grown old new c grown (before i c m e)
+]
+  where
+    same-class : (cs : KnownClasses) (n i : ℕ) (class c : ClassSummary) → i ≡ n → slice_get cs n ≡ Some class → slice_get cs i ≡ Some c → class ≡ c
+    same-class cs n i class c s f g = let h : slice_get cs n ≡ Some c = subst (λ k. slice_get cs k ≡ Some c) s g in cc
+
+pub listed-all : (known : KnownClasses) (names : List (List ℕ)) (n : ℕ) → length known ≤ n → ((i : ℕ) (c : ClassSummary) → i < n → slice_get known i ≡ Some c → IsListed names c) → AreListed known names
+listed-all known names n l before i c e = before i c (omega (arith, l, slice_get_within known i c e)) e
 
 -- the name at a place
 next : (o : Option ℕ) (i : ℕ) → option_map suc o ≡ Some i → (j : ℕ) × (o ≡ Some j) × (i ≡ suc j)

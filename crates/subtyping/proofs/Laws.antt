@@ -1,13 +1,15 @@
 -- A path of direct steps comes to what is asked of the ancestors, and the other way round.
+use Rattle.graphs.proofs.Paths.{one-step, step-then, first-step, path-map}
+use Rattle.graphs.proofs.Elements.{none_in}
+use Rattle.subtyping.proofs.OfArrays.{OfArrays, of-arrays, arrays-of}
+use Rattle.graphs.specs.Paths.{IsPathBy, Leads}
 use Rattle.std.proofs.Common.{◌≡◌, ◌≢◌, ℕ, zero, suc, List, [], ◌∷◌, map, refl, sym, ap, subst, ◌∙◌, arith, inl, inr, Bool, true, false}
 use Rattle.type_names.specs.declared.kinds.Base.{Base}
 use Rattle.type_names.specs.declared.kinds.Base.TheVariants.{Class}
 use Rattle.type_names.specs.declared.kinds.Erased.{Erased}
 use Rattle.known_classes.specs.Known.{KnownClasses}
-use Rattle.subtyping.specs.Paths.{IsOneOf, IsPathBy, Leads}
 use Rattle.subtyping.specs.Steps.{object, cloneable, serializable, IsSuper, IsSuperStep, IsClassStep, IsBaseStep, IsReference, IsOfArrays, IsStepAt, IsStep, IsStrictSubtype}
 use Rattle.subtyping.specs.Asked.{IsClassBelow, IsBaseBelow, IsArrayBelow, IsBelowAt, IsBelow}
-use Rattle.subtyping.proofs.Ways.{one-step, step-then, path-map, first-step, none-of}
 use Rattle.subtyping.proofs.Widenings.{wider-more, wider-rank, never-class}
 
 -- a name that is above another by steps to supers
@@ -41,40 +43,41 @@ class-then known a b d (inr e) (inr o) = absurd (o.0 e.1)
 
 base-then : (known : KnownClasses) (p q r : Base) → IsBaseStep known p q → IsBaseBelow (Above known) q r → IsBaseBelow (Above known) p r
 base-then known (Class a) (Class b) (Class d) h s = class-then known a b d h s
-base-then known (Class a) (Class b) r h s = none-of r s
-base-then known (Class a) q r h s = none-of q h
+base-then known (Class a) (Class b) r h s = none_in r s
+base-then known (Class a) q r h s = none_in q h
 base-then known p (Class b) r h s = never-class p b h
 base-then known p q r h s = wider-more p q r h s
 
 class-below : (known : KnownClasses) (x : List ℕ) (r : Base) → IsBaseBelow (Above known) (Class x) r → (d : List ℕ) × (r ≡ Class d) × IsClassBelow (Above known) x d
 class-below known x (Class d) h = (d, refl, h)
-class-below known x r h = none-of r h
+class-below known x r h = none_in r h
 
 array-by : (known : KnownClasses) (r : Base) (d : List ℕ) → r ≡ Class d → d ≡ object → IsArrayBelow (Above known) r
-unfolding IsOneOf
-array-by known r d e o = inl (inl (ap Class (sym o) ∙ sym e))
+array-by known r d e o = inl (arrays-of r (inl (ap Class (sym o) ∙ sym e)))
 
-array-then : (known : KnownClasses) (q r : Base) → IsOfArrays q → IsBaseBelow (Above known) q r → IsArrayBelow (Above known) r
-unfolding IsOneOf
-array-then known q r (inl e) s =
+array-then-of : (known : KnownClasses) (q r : Base) → OfArrays q → IsBaseBelow (Above known) q r → IsArrayBelow (Above known) r
+array-then-of known q r (inl e) s =
     let c = class-below known object r (subst (λ x. IsBaseBelow (Above known) x r) (sym e) s) in
     elim c.2 [
       | inl up ↦ absurd (not-object known object c.0 up refl)
       | inr o ↦ absurd (o.0 refl)
     ]
-array-then known q r (inr (inl e)) s =
+array-then-of known q r (inr (inl e)) s =
     let c = class-below known cloneable r (subst (λ x. IsBaseBelow (Above known) x r) (sym e) s) in
     elim c.2 [
       | inl up ↦ inr (c.0, c.1, inl up)
       | inr o ↦ array-by known r c.0 c.1 o.1
     ]
-array-then known q r (inr (inr (inl e))) s =
+array-then-of known q r (inr (inr (inl e))) s =
     let c = class-below known serializable r (subst (λ x. IsBaseBelow (Above known) x r) (sym e) s) in
     elim c.2 [
       | inl up ↦ inr (c.0, c.1, inr up)
       | inr o ↦ array-by known r c.0 c.1 o.1
     ]
-array-then known q r (inr (inr (inr h))) s = absurd h
+array-then-of known q r (inr (inr (inr h))) s = absurd h
+
+array-then : (known : KnownClasses) (q r : Base) → IsOfArrays q → IsBaseBelow (Above known) q r → IsArrayBelow (Above known) r
+array-then known q r h s = array-then-of known q r (of-arrays q h) s
 
 then-below : (known : KnownClasses) (n : ℕ) (p : Base) (m : ℕ) (q : Base) (k : ℕ) (r : Base) → IsStepAt known n p m q → IsBelowAt (Above known) m q k r → IsBelowAt (Above known) n p k r
 unfolding IsStepAt IsBelowAt
@@ -125,12 +128,10 @@ unfolding IsStepAt
 array-step known n p q h = h
 
 of-cloneable : IsOfArrays (Class cloneable)
-unfolding IsOneOf
-of-cloneable = inr (inl refl)
+of-cloneable = arrays-of (Class cloneable) (inr (inl refl))
 
 of-serializable : IsOfArrays (Class serializable)
-unfolding IsOneOf
-of-serializable = inr (inr (inl refl))
+of-serializable = arrays-of (Class serializable) (inr (inr (inl refl)))
 
 above-arrays : (known : KnownClasses) (n : ℕ) (p : Base) (x b : List ℕ) (q : Base) → IsOfArrays (Class x) → Above known x b → q ≡ Class b → IsStrictSubtype known (record { dims = suc n; base = p }) (record { dims = 0; base = q })
 above-arrays known n p x b q o up e = subst (λ k. IsStrictSubtype known (record { dims = suc n; base = p }) (record { dims = 0; base = k })) (sym e) (step-then (IsStep known) (record { dims = suc n; base = p }) (named x) (named b) (array-step known n p (Class x) o) (class-path known x b up))
@@ -144,18 +145,20 @@ array-path known n p q (inr h) = elim h.2 [
 
 base-reference : (known : KnownClasses) (p q : Base) → IsReference 0 p → IsBaseStep known p q → IsReference 0 q
 base-reference known (Class a) (Class b) r h = r
-base-reference known (Class a) q r h = none-of q h
+base-reference known (Class a) q r h = none_in q h
 base-reference known p q r h = absurd r
 
 class-reference : (q : Base) (x : List ℕ) → Class x ≡ q → IsReference 0 q
 class-reference q x e = subst (λ k. IsReference 0 k) e tt
 
+array-reference-of : (q : Base) → OfArrays q → IsReference 0 q
+array-reference-of q (inl e) = class-reference q object e
+array-reference-of q (inr (inl e)) = class-reference q cloneable e
+array-reference-of q (inr (inr (inl e))) = class-reference q serializable e
+array-reference-of q (inr (inr (inr h))) = absurd h
+
 array-reference : (q : Base) → IsOfArrays q → IsReference 0 q
-unfolding IsOneOf
-array-reference q (inl e) = class-reference q object e
-array-reference q (inr (inl e)) = class-reference q cloneable e
-array-reference q (inr (inr (inl e))) = class-reference q serializable e
-array-reference q (inr (inr (inr h))) = absurd h
+array-reference q h = array-reference-of q (of-arrays q h)
 
 reference-after : (known : KnownClasses) (n : ℕ) (p : Base) (m : ℕ) (q : Base) → IsReference n p → IsStepAt known n p m q → IsReference m q
 unfolding IsStepAt

@@ -1,6 +1,6 @@
 pub mod Indices
-pub mod Ways
 pub mod Widenings
+pub mod OfArrays
 pub mod Laws
 pub mod Nodes
 pub mod Searching

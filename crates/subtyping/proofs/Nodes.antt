@@ -1,16 +1,17 @@
 -- Names as the nodes of a graph: paths of names and paths of places.
-use Rattle.std.proofs.Common.{rules, ◌≡◌, ◌≢◌, ℕ, zero, suc, ◌<◌, ◌≤◌, List, [], ◌∷◌, length, map, get_or, slice_get, refl, sym, ap, subst, ◌∙◌, arith, inl, inr, ◌⊎◌, Bool, true, false, if◌then◌else◌, Option, Some, None, bytes_eq}
+use Rattle.graphs.proofs.Paths.{one-step, step-then, first-step}
+use Rattle.graphs.proofs.Elements.{first_in, rest_in, none_in, in-cases}
+use Rattle.graphs.specs.Paths.{IsPathBy, Leads}
+use Rattle.std.proofs.Common.{rules, ◌≡◌, ◌≢◌, ℕ, zero, suc, ◌<◌, ◌≤◌, List, [], ◌∷◌, length, map, get_or, slice_get, refl, sym, ap, subst, ◌∙◌, arith, inl, inr, ◌⊎◌, Bool, true, false, if◌then◌else◌, Option, Some, None, bytes_eq, Contains}
 use Rattle.std.specs.List.{filter_map, cons_option}
 use lib.ListN.{set}
 use Rattle.std.proofs.lemmas.List.{get_or_past, length-map, length-set, get_or-set_same, get_or-set_other}
 use Rattle.std.proofs.lemmas.Bool.{cases_eq}
-use Rattle.graphs.specs.Graph.{IsIn, edges, IsPath, Reaches, InRange, IsForward}
+use Rattle.graphs.specs.Graph.{edges, Reaches, InRange, IsForward, IsEdge}
 use Rattle.known_classes.specs.declared.summary.ClassSummary.{ClassSummary}
 use Rattle.known_classes.specs.Known.{KnownClasses, class_named}
-use Rattle.subtyping.specs.Paths.{IsOneOf, IsPathBy, Leads}
 use Rattle.subtyping.specs.Steps.{object, supers_in, supers_of, IsSuper, IsSuperStep}
 use Rattle.subtyping.specs.Places.{place_of, Ancestry, Stands, Rises, AllRise, IsAncestry, IsPlaced, AreListed, row_of, graph_of, IsWithout, AreRows}
-use Rattle.subtyping.proofs.Ways.{one-step, step-then, first-step}
 use Rattle.subtyping.proofs.Indices.{place-get}
 use Rattle.subtyping.proofs.Searching.{edges-get}
 
@@ -28,32 +29,32 @@ one-name : (names : List (List ℕ)) (i : ℕ) (a b : List ℕ) → At names i a
 one-name names i a b e f = sym (place-get names a i e).1 ∙ (place-get names b i f).1
 
 -- what a filter keeps
-cons-in : (o : Option ℕ) (j : ℕ) (ys : List ℕ) → IsIn j (cons_option o ys) → (o ≡ Some j) ⊎ IsIn j ys
-unfolding IsIn
+cons-in : (o : Option ℕ) (j : ℕ) (ys : List ℕ) → Contains (cons_option o ys) j → (o ≡ Some j) ⊎ Contains ys j
 cons-in None j ys h = inr h
-cons-in (Some y) j ys (inl e) = inl (ap Some e)
-cons-in (Some y) j ys (inr h) = inr h
-
-in-cons : (o : Option ℕ) (j : ℕ) (ys : List ℕ) → (o ≡ Some j) ⊎ IsIn j ys → IsIn j (cons_option o ys)
-unfolding IsIn
-in-cons None j ys (inl e) = absurd cc
-in-cons None j ys (inr h) = h
-in-cons (Some y) j ys (inl e) = inl cc
-in-cons (Some y) j ys (inr h) = inr h
-
-kept-from : (f : List ℕ → Option ℕ) (xs : List (List ℕ)) (j : ℕ) → IsIn j (filter_map f xs) → (b : List ℕ) × IsOneOf b xs × (f b ≡ Some j)
-unfolding IsIn IsOneOf
-kept-from f [] j h = absurd h
-kept-from f (x ∷ xs) j h = elim (cons-in (f x) j (filter_map f xs) h) [
-  | inl e ↦ (x, inl refl, e)
-  | inr r ↦ let k = kept-from f xs j r in (k.0, inr k.1, k.2)
+cons-in (Some y) j ys h = elim (in-cases j y ys h) [
+  | inl e ↦ inl (ap Some e)
+  | inr k ↦ inr k
 ]
 
-kept-to : (f : List ℕ → Option ℕ) (xs : List (List ℕ)) (b : List ℕ) (j : ℕ) → IsOneOf b xs → f b ≡ Some j → IsIn j (filter_map f xs)
-unfolding IsOneOf
-kept-to f [] b j h e = absurd h
-kept-to f (x ∷ xs) b j (inl s) e = in-cons (f x) j (filter_map f xs) (inl (ap f s ∙ e))
-kept-to f (x ∷ xs) b j (inr h) e = in-cons (f x) j (filter_map f xs) (inr (kept-to f xs b j h e))
+in-cons : (o : Option ℕ) (j : ℕ) (ys : List ℕ) → (o ≡ Some j) ⊎ Contains ys j → Contains (cons_option o ys) j
+in-cons None j ys (inl e) = absurd cc
+in-cons None j ys (inr h) = h
+in-cons (Some y) j ys (inl e) = let same : j ≡ y = cc in rw same (first_in y ys)
+in-cons (Some y) j ys (inr h) = rest_in j y ys h
+
+kept-from : (f : List ℕ → Option ℕ) (xs : List (List ℕ)) (j : ℕ) → Contains (filter_map f xs) j → (b : List ℕ) × Contains xs b × (f b ≡ Some j)
+kept-from f [] j h = none_in j h
+kept-from f (x ∷ xs) j h = elim (cons-in (f x) j (filter_map f xs) h) [
+  | inl e ↦ (x, first_in x xs, e)
+  | inr r ↦ let k = kept-from f xs j r in (k.0, rest_in k.0 x xs k.1, k.2)
+]
+
+kept-to : (f : List ℕ → Option ℕ) (xs : List (List ℕ)) (b : List ℕ) (j : ℕ) → Contains xs b → f b ≡ Some j → Contains (filter_map f xs) j
+kept-to f [] b j h e = none_in b h
+kept-to f (x ∷ xs) b j h e = elim (in-cases b x xs h) [
+  | inl s ↦ in-cons (f x) j (filter_map f xs) (inl (ap f s ∙ e))
+  | inr k ↦ in-cons (f x) j (filter_map f xs) (inr (kept-to f xs b j k e))
+]
 
 -- the rows of the graph
 map-at : (f : List ℕ → List ℕ) (xs : List (List ℕ)) (i : ℕ) → i < length xs → get_or (map f xs) i [] ≡ f (get_or xs i [])
@@ -64,12 +65,8 @@ map-at f (x ∷ xs) (suc i) l = map-at f xs i (omega (arith, l))
 edges-at : (known : KnownClasses) (names : List (List ℕ)) (i : ℕ) (a : List ℕ) → At names i a → edges (graph_of known names) i ≡ row_of known names a
 edges-at known names i a e = let p = place-get names a i e in map-at (row_of known names) names i p.0 ∙ ap (row_of known names) p.1
 
-empty-in : {P : Type 0} (j : ℕ) → IsIn j [] → P
-unfolding IsIn
-empty-in j h = absurd h
-
-none-in : {P : Type 0} (j : ℕ) (row : List ℕ) → row ≡ [] → IsIn j row → P
-none-in j row e h = empty-in j (subst (IsIn j) e h)
+none-in : {P : Type 0} (j : ℕ) (row : List ℕ) → row ≡ [] → Contains row j → P
+none-in j row e h = none_in j (subst (λ l. Contains l j) e h)
 
 within : (i n : ℕ) → (i < n) ⊎ (n ≤ i)
 within zero zero = inr (omega arith)
@@ -83,7 +80,7 @@ within (suc i) (suc n) = elim (within i n) [
 pub graph-range : (known : KnownClasses) (names : List (List ℕ)) → InRange (graph_of known names)
 graph-range known names a b h = elim (within a (length names)) [
   | inl l ↦
-      let k = kept-from (place_of names) (supers_of known (get_or names a [])) b (subst (IsIn b) (map-at (row_of known names) names a l) h) in
+      let k = kept-from (place_of names) (supers_of known (get_or names a [])) b (subst (λ l. Contains l b) (map-at (row_of known names) names a l) h) in
       omega (arith, (place-get names k.0 b k.2).0, length-map names (row_of known names))
   | inr l ↦ none-in b (edges (graph_of known names) a) (get_or_past (graph_of known names) a [] (omega (arith, l, length-map names (row_of known names)))) h
 ]
@@ -104,9 +101,8 @@ unfolding class_named
 class-at [] a c e = absurd cc
 class-at (d ∷ ds) a c e = class-by d ds a c (bytes_eq a d.name) refl e (λ f. class-at ds a c f)
 
-by-class : (known : KnownClasses) (names : List (List ℕ)) (a b : List ℕ) (o : Option ClassSummary) → AreListed known names → class_named known a ≡ o → IsOneOf b (supers_in o) → IsPlaced names a × IsPlaced names b
-unfolding IsOneOf
-by-class known names a b None all e h = absurd h
+by-class : (known : KnownClasses) (names : List (List ℕ)) (a b : List ℕ) (o : Option ClassSummary) → AreListed known names → class_named known a ≡ o → Contains (supers_in o) b → IsPlaced names a × IsPlaced names b
+by-class known names a b None all e h = none_in b h
 by-class known names a b (Some c) all e h =
     let k = class-at known a c e in
     let l = all k.0 c k.1 in
@@ -117,44 +113,36 @@ super-placed known names a b all h = by-class known names a b (class_named known
 
 -- a step of places is one of names, and the other way round
 abbrev ToNames : List (List ℕ) → List (List ℕ) → (List ℕ → List ℕ → Type 0) → Type 0
-ToNames names g step = (i j : ℕ) (a : List ℕ) → At names i a → IsIn j (edges g i) → (b : List ℕ) × At names j b × step a b
+ToNames names g step = (i j : ℕ) (a : List ℕ) → At names i a → Contains (edges g i) j → (b : List ℕ) × At names j b × step a b
 
 abbrev ToPlaces : List (List ℕ) → List (List ℕ) → (List ℕ → List ℕ → Type 0) → Type 0
-ToPlaces names g step = (a b : List ℕ) (i : ℕ) → At names i a → step a b → (j : ℕ) × At names j b × IsIn j (edges g i)
+ToPlaces names g step = (a b : List ℕ) (i : ℕ) → At names i a → step a b → (j : ℕ) × At names j b × Contains (edges g i) j
 
-path-names : (names g : List (List ℕ)) (step : List ℕ → List ℕ → Type 0) → ToNames names g step → (i : ℕ) (cs : List ℕ) (j : ℕ) (a : List ℕ) → At names i a → IsPath g i cs j → (b : List ℕ) × At names j b × Leads step a b
-unfolding IsPath
+path-names : (names g : List (List ℕ)) (step : List ℕ → List ℕ → Type 0) → ToNames names g step → (i : ℕ) (cs : List ℕ) (j : ℕ) (a : List ℕ) → At names i a → IsPathBy (IsEdge g) i cs j → (b : List ℕ) × At names j b × Leads step a b
+unfolding IsPathBy
 path-names names g step to i [] j a at h = let s = to i j a at h in (s.0, s.1, one-step step a s.0 s.2)
 path-names names g step to i (c ∷ cs) j a at h =
     let s = to i c a at h.0 in
     let r = path-names names g step to c cs j s.0 s.1 h.1 in
     (r.0, r.1, step-then step a s.0 r.0 s.2 r.2)
 
-edge-first : (g : List (List ℕ)) (i j k : ℕ) → IsIn j (edges g i) → Reaches g j k → Reaches g i k
-unfolding IsPath
-edge-first g i j k h r = (j ∷ r.0, (h, r.1))
-
-edge-one : (g : List (List ℕ)) (i j : ℕ) → IsIn j (edges g i) → Reaches g i j
-unfolding IsPath
-edge-one g i j h = ([], h)
-
 path-places : (names g : List (List ℕ)) (step : List ℕ → List ℕ → Type 0) → ToPlaces names g step → (a : List ℕ) (via : List (List ℕ)) (b : List ℕ) (i : ℕ) → At names i a → IsPathBy step a via b → (j : ℕ) × At names j b × Reaches g i j
 unfolding IsPathBy
-path-places names g step to a [] b i at h = let s = to a b i at h in (s.0, s.1, edge-one g i s.0 s.2)
+path-places names g step to a [] b i at h = let s = to a b i at h in (s.0, s.1, one-step (IsEdge g) i s.0 s.2)
 path-places names g step to a (c ∷ via) b i at h =
     let s = to a c i at h.0 in
     let r = path-places names g step to c via b s.0 s.1 h.1 in
-    (r.0, r.1, edge-first g i s.0 r.0 s.2 r.2)
+    (r.0, r.1, step-then (IsEdge g) i s.0 r.0 s.2 r.2)
 
 supers-names : (known : KnownClasses) (names : List (List ℕ)) → ToNames names (graph_of known names) (IsSuper known)
 supers-names known names i j a at h =
-    let k = kept-from (place_of names) (supers_of known a) j (subst (IsIn j) (edges-at known names i a at) h) in
+    let k = kept-from (place_of names) (supers_of known a) j (subst (λ l. Contains l j) (edges-at known names i a at) h) in
     (k.0, k.2, k.1)
 
 supers-places : (known : KnownClasses) (names : List (List ℕ)) → AreListed known names → ToPlaces names (graph_of known names) (IsSuper known)
 supers-places known names all a b i at h =
     let p = (super-placed known names a b all h).1 in
-    (p.0, p.1, subst (IsIn p.0) (sym (edges-at known names i a at)) (kept-to (place_of names) (supers_of known a) b p.0 h p.1))
+    (p.0, p.1, subst (λ l. Contains l p.0) (sym (edges-at known names i a at)) (kept-to (place_of names) (supers_of known a) b p.0 h p.1))
 
 -- without cycles, and without Object's edges
 module _ (known : KnownClasses) (names rows : List (List ℕ)) (all : AreListed known names) (w : IsWithout names (graph_of known names) rows) where
@@ -164,7 +152,7 @@ module _ (known : KnownClasses) (names rows : List (List ℕ)) (all : AreListed 
   steps-names : ToNames names rows (IsSuperStep known)
   steps-names i j a at h =
       let apart : a ≢ object = λ e. none-in j (edges rows i) (w.none i (subst (At names i) e at)) h in
-      let f = (w.forward.each i j).0 (subst (IsIn j) (others i a at apart) h) in
+      let f = (w.forward.each i j).0 (subst (λ l. Contains l j) (others i a at apart) h) in
       let s = supers-names known names i j a at f.0 in (
         s.0,
         s.1,
@@ -183,7 +171,7 @@ module _ (known : KnownClasses) (names rows : List (List ℕ)) (all : AreListed 
       let k = (w.forward.each i s.0).1 s.2 (λ r.
       let l = path-names names (graph_of known names) (IsSuper known) (supers-names known names) s.0 r.0 i b s.1 r.1 in
       h.2 (subst (Leads (IsSuper known) b) (one-name names i l.0 a l.1 at) l.2)) in
-      (s.0, s.1, subst (IsIn s.0) (sym (others i a at h.0)) k)
+      (s.0, s.1, subst (λ l. Contains l s.0) (sym (others i a at h.0)) k)
 
   pub ancestry-of : (above : List (List ℕ)) → AreRows rows above → IsAncestry known (record { names = names; rows = above })
   ancestry-of above r = record {
@@ -218,7 +206,7 @@ steps-row names graph rows w i (Some k) e = elim (cases_eq k i) [
 pub steps-range : (known : KnownClasses) (names rows : List (List ℕ)) → IsWithout names (graph_of known names) rows → InRange rows
 steps-range known names rows w a b h = elim (steps-row names (graph_of known names) rows w a (place_of names object) refl) [
   | inl e ↦ none-in b (edges rows a) e h
-  | inr e ↦ omega (arith, kept-range known names w.kept w.forward a b (subst (IsIn b) e h), w.long, w.forward.long)
+  | inr e ↦ omega (arith, kept-range known names w.kept w.forward a b (subst (λ l. Contains l b) e h), w.long, w.forward.long)
 ]
 
 pub without-none : (names graph kept : List (List ℕ)) → place_of names object ≡ None → IsForward graph kept → IsWithout names graph kept
@@ -257,14 +245,14 @@ get-none (r ∷ rs) (suc i) e = get-none rs i e
 pub row-rises : (rows : List (List ℕ)) (i : ℕ) (row : List ℕ) → AllRise rows → slice_get rows i ≡ Some row → Rises row
 row-rises rows i row rises at = subst Rises (edges-get rows i row at) (rises i)
 
-pub stands-sound : (v : Ancestry) (a b : List ℕ) (low high : ℕ) (row : List ℕ) → place_of v.names a ≡ Some low → place_of v.names b ≡ Some high → slice_get v.rows low ≡ Some row → IsIn high row → Stands v a b
-stands-sound v a b low high row from to at h = record { low = low; high = high; from = from; to = to; among = subst (IsIn high) (sym (edges-get v.rows low row at)) h }
+pub stands-sound : (v : Ancestry) (a b : List ℕ) (low high : ℕ) (row : List ℕ) → place_of v.names a ≡ Some low → place_of v.names b ≡ Some high → slice_get v.rows low ≡ Some row → Contains row high → Stands v a b
+stands-sound v a b low high row from to at h = record { low = low; high = high; from = from; to = to; among = subst (λ l. Contains l high) (sym (edges-get v.rows low row at)) h }
 
-at-places : (v : Ancestry) (a b : List ℕ) (low high : ℕ) → place_of v.names a ≡ Some low → place_of v.names b ≡ Some high → Stands v a b → IsIn high (edges v.rows low)
-at-places v a b low high from to s = subst (λ i. IsIn high (edges v.rows i)) (one-place v.names s.low low a s.from from) (subst (λ j. IsIn j (edges v.rows s.low)) (one-place v.names s.high high b s.to to) s.among)
+at-places : (v : Ancestry) (a b : List ℕ) (low high : ℕ) → place_of v.names a ≡ Some low → place_of v.names b ≡ Some high → Stands v a b → Contains (edges v.rows low) high
+at-places v a b low high from to s = subst (λ i. Contains (edges v.rows i) high) (one-place v.names s.low low a s.from from) (subst (λ j. Contains (edges v.rows s.low) j) (one-place v.names s.high high b s.to to) s.among)
 
-pub stands-found : (v : Ancestry) (a b : List ℕ) (low high : ℕ) (row : List ℕ) → place_of v.names a ≡ Some low → place_of v.names b ≡ Some high → slice_get v.rows low ≡ Some row → Stands v a b → IsIn high row
-stands-found v a b low high row from to at s = subst (IsIn high) (edges-get v.rows low row at) (at-places v a b low high from to s)
+pub stands-found : (v : Ancestry) (a b : List ℕ) (low high : ℕ) (row : List ℕ) → place_of v.names a ≡ Some low → place_of v.names b ≡ Some high → slice_get v.rows low ≡ Some row → Stands v a b → Contains row high
+stands-found v a b low high row from to at s = subst (λ l. Contains l high) (edges-get v.rows low row at) (at-places v a b low high from to s)
 
 pub stands-never : {P : Type 0} (v : Ancestry) (a b : List ℕ) (low high : ℕ) → place_of v.names a ≡ Some low → place_of v.names b ≡ Some high → slice_get v.rows low ≡ None → Stands v a b → P
 stands-never v a b low high from to at s = none-in high (edges v.rows low) (get-none v.rows low at) (at-places v a b low high from to s)

@@ -1,8 +1,10 @@
 -- Two lists that say the same of the supers of all that a class reaches give it the same ancestors.
-use Rattle.std.proofs.Common.{◌≡◌, ◌∙◌, ap, sym, subst, refl, ℕ, Bool, true, false, List, [], ◌∷◌, ◌⊎◌, inl, inr}
+use Rattle.graphs.proofs.Paths.{one-step, step-then, then-step, along}
+use Rattle.graphs.proofs.Elements.{none_in}
+use Rattle.graphs.specs.Paths.{IsPathBy, Leads}
+use Rattle.std.proofs.Common.{◌≡◌, ◌∙◌, ap, sym, subst, refl, ℕ, Bool, true, false, List, [], ◌∷◌, ◌⊎◌, inl, inr, Contains}
 use Rattle.known_classes.specs.declared.summary.ClassSummary.{ClassSummary}
 use Rattle.known_classes.specs.Merging.{merged}
-use Rattle.subtyping.specs.Paths.{IsOneOf, IsPathBy, Leads}
 use Rattle.subtyping.specs.Steps.{object, supers_in, supers_of, IsSuper, IsSuperStep}
 use Rattle.subtyping.specs.Alike.{SupersAlike, Unraised, IsClear, IsRowKept, IsRaisedSet}
 use Rattle.known_classes.proofs.Ways.{no-true}
@@ -12,29 +14,18 @@ use Rattle.known_classes.proofs.Merges.{kept-class}
 Reached : List ClassSummary → List ℕ → List ℕ → Type 0
 Reached old a x = (x ≡ a) ⊎ Leads (IsSuper old) a x
 
-path-on : {A : Type 0} (s : A → A → Type 0) (a : A) (via : List A) (x y : A) → IsPathBy s a via x → s x y → Leads s a y
-unfolding IsPathBy
-path-on s a [] x y p q = (x ∷ [], (p, q))
-path-on s a (c ∷ via) x y p q = let r = path-on s c via x y p.1 q in (c ∷ r.0, (p.0, r.1))
-
 further : (old : List ClassSummary) (a x y : List ℕ) → Reached old a x → IsSuper old x y → Reached old a y
-unfolding Reached IsPathBy
-further old a x y (inl e) s = inr ([], subst (λ z. IsSuper old z y) e s)
-further old a x y (inr p) s = inr (path-on (IsSuper old) a p.0 x y p.1 s)
-
--- along a path
-along : {A : Type 0} (P : A → Type 0) (s t : A → A → Type 0) → ((x y : A) → P x → s x y → t x y) → ((x y : A) → P x → s x y → P y) → (a : A) (via : List A) (b : A) → P a → IsPathBy s a via b → IsPathBy t a via b
-unfolding IsPathBy
-along P s t f g a [] b h p = f a b h p
-along P s t f g a (c ∷ via) b h p = (f a c h p.0, along P s t f g c via b (g a c h p.0) p.1)
+unfolding Reached
+further old a x y (inl e) s = inr (one-step (IsSuper old) a y (subst (λ z. IsSuper old z y) e s))
+further old a x y (inr p) s = inr (then-step (IsSuper old) a x y p s)
 
 super-back : (old new : List ClassSummary) (a : List ℕ) → SupersAlike old new a → (x y : List ℕ) → Reached old a x → IsSuper new x y → IsSuper old x y
 unfolding Reached
-super-back old new a h x y r s = subst (λ z. IsOneOf y z) (h x r) s
+super-back old new a h x y r s = subst (λ z. Contains z y) (h x r) s
 
 super-on : (old new : List ClassSummary) (a : List ℕ) → SupersAlike old new a → (x y : List ℕ) → Reached old a x → IsSuper old x y → IsSuper new x y
 unfolding Reached
-super-on old new a h x y r s = subst (λ z. IsOneOf y z) (sym (h x r)) s
+super-on old new a h x y r s = subst (λ z. Contains z y) (sym (h x r)) s
 
 lead-back : (old new : List ClassSummary) (a : List ℕ) → SupersAlike old new a → (x y : List ℕ) → Reached old a x → Leads (IsSuper new) x y → Leads (IsSuper old) x y
 lead-back old new a h x y r p = (p.0, along (Reached old a) (IsSuper new) (IsSuper old) (super-back old new a h) (λ u v q s. further old a u v q (super-back old new a h u v q s)) x p.0 y r p.1)
@@ -75,18 +66,10 @@ set-supers old new touched n h e c (inl q) = h.same c (subst (λ z. touched z �
 set-supers old new touched n h e c (inr p) = h.same c (up-all old new touched h n p.0 c e p.1)
 
 -- with no cycle, and nothing above Object, each recorded super counts
-none-of : {A : Type 0} (x : A) → IsOneOf x [] → ⊥
-unfolding IsOneOf
-none-of x h = absurd h
-
-then : {A : Type 0} (s : A → A → Type 0) (a b c : A) → s a b → Leads s b c → Leads s a c
-unfolding IsPathBy
-then s a b c h p = (b ∷ p.0, (h, p.1))
-
 step-up : (cs : List ClassSummary) → IsClear cs → (x y : List ℕ) → IsSuper cs x y → IsSuperStep cs x y
 step-up cs h x y s =
-    let o : (x ≡ object → ⊥) = (λ e. none-of y (subst (λ z. IsOneOf y z) (ap (supers_of cs) e ∙ h.top) s)) in
-    (o, s, λ p. h.cycles x o (then (IsSuper cs) x y x s p))
+    let o : (x ≡ object → ⊥) = (λ e. none_in y (subst (λ z. Contains z y) (ap (supers_of cs) e ∙ h.top) s)) in
+    (o, s, λ p. h.cycles x o (step-then (IsSuper cs) x y x s p))
 
 path-up : (cs : List ClassSummary) → IsClear cs → (a : List ℕ) (via : List (List ℕ)) (b : List ℕ) → IsPathBy (IsSuper cs) a via b → IsPathBy (IsSuperStep cs) a via b
 unfolding IsPathBy

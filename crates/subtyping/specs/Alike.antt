@@ -1,8 +1,8 @@
 -- When two lists of classes say the same of the supers of all that a class reaches.
+use Rattle.graphs.specs.Paths.{Leads}
 use Rattle.std.specs.Prelude.{◌≡◌, ℕ, ◌⊎◌, Bool, true, false, List, [], None}
 use Rattle.known_classes.specs.declared.summary.ClassSummary.{ClassSummary}
 use Rattle.known_classes.specs.Merging.{last_named}
-use Rattle.subtyping.specs.Paths.{Leads}
 use Rattle.subtyping.specs.Steps.{object, IsSuper, IsSuperStep, supers_of}
 
 -- The class and each name that it reaches by recorded supers, known or not, has the same supers in both lists.

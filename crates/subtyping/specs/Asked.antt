@@ -1,9 +1,8 @@
 -- What is asked of the ancestors, where `above` says which names stand above which.
-use Rattle.std.specs.Prelude.{◌≡◌, ◌≢◌, ℕ, zero, suc, ◌⊎◌, List, Option, Some, None}
+use Rattle.std.specs.Prelude.{◌≡◌, ◌≢◌, ℕ, zero, suc, ◌⊎◌, List, Option, Some, None, Contains}
 use Rattle.type_names.specs.declared.kinds.Base.{Base}
 use Rattle.type_names.specs.declared.kinds.Base.TheVariants.{Class}
 use Rattle.type_names.specs.declared.kinds.Erased.{Erased}
-use Rattle.subtyping.specs.Paths.{IsOneOf}
 use Rattle.subtyping.specs.Steps.{object, cloneable, serializable, wider, IsReference, IsOfArrays}
 
 -- The name of a class.
@@ -18,7 +17,7 @@ IsClassBelow above a b = above a b ⊎ ((a ≢ object) × (b ≡ object))
 -- Types without dimensions.
 abbrev pub IsBaseBelow : (List ℕ → List ℕ → Type 0) → Base → Base → Type 0
 IsBaseBelow above (Class a) (Class b) = IsClassBelow above a b
-IsBaseBelow above p q = IsOneOf q (wider p)
+IsBaseBelow above p q = Contains (wider p) q
 
 -- Arrays are below Object, Cloneable, Serializable and what stands above these.
 abbrev pub IsArrayBelow : (List ℕ → List ℕ → Type 0) → Base → Type 0

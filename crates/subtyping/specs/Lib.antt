@@ -1,4 +1,3 @@
-pub mod Paths
 pub mod Steps
 pub mod Places
 pub mod Asked

@@ -1,10 +1,10 @@
 -- The names that occur among the classes, each at a place, and the ancestors of each as places.
-use Rattle.std.specs.Prelude.{◌≡◌, ℕ, suc, ◌≤◌, ◌<◌, if◌then◌else◌, List, [], ◌∷◌, length, map, slice_index, slice_get, bytes_eq, option_map, Option, Some, None}
+use Rattle.graphs.specs.Paths.{Leads}
+use Rattle.std.specs.Prelude.{◌≡◌, ℕ, suc, ◌≤◌, ◌<◌, if◌then◌else◌, List, [], ◌∷◌, length, map, slice_index, slice_get, bytes_eq, option_map, Option, Some, None, Contains}
 use Rattle.std.specs.List.{filter_map}
-use Rattle.graphs.specs.Graph.{IsIn, edges, IsForward, AreAncestors}
+use Rattle.graphs.specs.Graph.{edges, IsForward, AreAncestors}
 use Rattle.known_classes.specs.Known.{KnownClasses}
 use Rattle.known_classes.specs.declared.summary.ClassSummary.{ClassSummary}
-use Rattle.subtyping.specs.Paths.{IsOneOf, Leads}
 use Rattle.subtyping.specs.Steps.{object, supers_of, IsSuperStep}
 
 -- The place of a name.
@@ -23,7 +23,7 @@ pub record Stands (ancestry : Ancestry) (a b : List ℕ) : Type 0 where
   pub high : ℕ
   pub from : place_of ancestry.names a ≡ Some low
   pub to : place_of ancestry.names b ≡ Some high
-  pub among : IsIn high (edges ancestry.rows low)
+  pub among : Contains (edges ancestry.rows low) high
 
 -- The numbers rise.
 abbrev pub Rises : List ℕ → Type 0
@@ -50,7 +50,7 @@ IsGrown old new = (name : List ℕ) (i : ℕ) → place_of old name ≡ Some i �
 -- The class and its supers have places.
 pub record IsListed (names : List (List ℕ)) (class : ClassSummary) : Type 0 where
   pub own : IsPlaced names class.name
-  pub supers : (b : List ℕ) → IsOneOf b class.supers → IsPlaced names b
+  pub supers : (b : List ℕ) → Contains class.supers b → IsPlaced names b
 
 -- The places of the supers of a class.
 abbrev pub row_of : KnownClasses → List (List ℕ) → List ℕ → List ℕ

@@ -1,12 +1,12 @@
 -- Direct steps of the strict subtype relation, after JLS 4.10 and 5.1.2, and its paths.
-use Rattle.std.specs.Prelude.{◌≡◌, ◌≢◌, ℕ, zero, suc, List, [], ◌∷◌, ◌⊎◌, ⊤, Option, Some, None}
+use Rattle.graphs.specs.Paths.{Leads}
+use Rattle.std.specs.Prelude.{◌≡◌, ◌≢◌, ℕ, zero, suc, List, [], ◌∷◌, ◌⊎◌, ⊤, Option, Some, None, Contains}
 use lib.Chars.{codes}
 use Rattle.type_names.specs.declared.kinds.Base.{Base}
 use Rattle.type_names.specs.declared.kinds.Base.TheVariants.{Byte, Char, Double, Float, Int, Long, Short, Boolean, Class}
 use Rattle.type_names.specs.declared.kinds.Erased.{Erased}
 use Rattle.known_classes.specs.declared.summary.ClassSummary.{ClassSummary}
 use Rattle.known_classes.specs.Known.{KnownClasses, class_named}
-use Rattle.subtyping.specs.Paths.{IsOneOf, Leads}
 
 -- The class above all others, and those above all arrays (JLS 4.10.3).
 abbrev pub object : List ℕ
@@ -29,7 +29,7 @@ supers_of known a = supers_in (class_named known a)
 
 -- b is recorded as a super of a.
 abbrev pub IsSuper : KnownClasses → List ℕ → List ℕ → Type 0
-IsSuper known a b = IsOneOf b (supers_of known a)
+IsSuper known a b = Contains (supers_of known a) b
 
 -- A class to one of its supers, except from Object, and except where that super reaches the class again by supers.
 abbrev pub IsSuperStep : KnownClasses → List ℕ → List ℕ → Type 0
@@ -54,7 +54,7 @@ wider (Class name) = []
 -- Between types without dimensions.
 abbrev pub IsBaseStep : KnownClasses → Base → Base → Type 0
 IsBaseStep known (Class a) (Class b) = IsClassStep known a b
-IsBaseStep known p q = IsOneOf q (wider p)
+IsBaseStep known p q = Contains (wider p) q
 
 -- Classes and arrays are reference types.
 abbrev pub IsReference : ℕ → Base → Type 0
@@ -64,7 +64,7 @@ IsReference zero p = ⊥
 
 -- The classes to which each array steps.
 abbrev pub IsOfArrays : Base → Type 0
-IsOfArrays q = IsOneOf q (Class object ∷ Class cloneable ∷ Class serializable ∷ [])
+IsOfArrays q = Contains (Class object ∷ Class cloneable ∷ Class serializable ∷ []) q
 
 -- From n dimensions of p to m dimensions of q: an array to the classes of arrays, and to an array of what its
 -- elements step to, where these are of a reference type.

@@ -1,7 +1,7 @@
+ghost use Rattle.graphs.specs.Paths.{Leads};
 ghost use Rattle.std.specs.Prelude.{◌≡◌, ℕ, Bool, false, List};
 ghost use Rattle.known_classes.specs.Known.{KnownClasses};
 ghost use Rattle.known_classes.specs.Merging.{merged};
-ghost use Rattle.subtyping.specs.Paths.{Leads};
 ghost use Rattle.subtyping.specs.Steps.{IsSuperStep};
 ghost use Rattle.subtyping.specs.Alike.{SupersAlike, Unraised, IsClear, IsRowKept, IsRaisedSet};
 

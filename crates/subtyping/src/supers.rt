@@ -1,7 +1,6 @@
-ghost use Rattle.std.specs.Prelude.{◌≡◌, ◌<◌, ℕ, List, OnOk, IfOk, length, slice_get, Some};
+ghost use Rattle.std.specs.Prelude.{◌≡◌, ◌<◌, ℕ, List, OnOk, IfOk, length, slice_get, Some, Contains};
 ghost use Rattle.std.specs.List.{filter_map};
 ghost use Rattle.graphs.specs.Graph.{InRange, AreFree, AreAncestors};
-ghost use Rattle.subtyping.specs.Paths.{IsOneOf};
 ghost use Rattle.subtyping.specs.Places.{place_of, IsPlaced, IsGrown, IsListed, AreListed, row_of, graph_of, Rises, IsWithout, AreRows};
 ghost use Rattle.subtyping.specs.Steps.{object};
 
@@ -14,7 +13,7 @@ use std::alloc::{AllocError, Global};
 
 /// Gives places to these names.
 fn add_all(alloc: Global, names: &mut Names, supers: &[Text]) -> Result<(), AllocError>
-    ensures placed { OnOk result ((b : List ℕ) → IsOneOf b supers.now → IsPlaced names.new b) }
+    ensures placed { OnOk result ((b : List ℕ) → Contains supers.now b → IsPlaced names.new b) }
     ensures grown { IsGrown names.old names.new }
 {
     for name in supers {

@@ -1,5 +1,4 @@
-ghost use Rattle.std.specs.Prelude.{◌≡◌, true};
-ghost use Rattle.subtyping.specs.Paths.{IsOneOf};
+ghost use Rattle.std.specs.Prelude.{◌≡◌, true, Contains};
 ghost use Rattle.subtyping.specs.Steps.{wider};
 ghost use Rattle.subtyping.specs.Widening.{rank};
 
@@ -29,8 +28,8 @@ fn rank(base: &Base) -> u8
 
 /// Whether one primitive type widens to another (JLS 5.1.2).
 pub(crate) fn widens(from: &Base, to: &Base) -> bool
-    ensures sound { result ≡ true → IsOneOf to.now (wider from.now) }
-    ensures complete { IsOneOf to.now (wider from.now) → result ≡ true }
+    ensures sound { result ≡ true → Contains (wider from.now) to.now }
+    ensures complete { Contains (wider from.now) to.now → result ≡ true }
 {
     let (low, high) = (rank(from), rank(to));
     low < high && high < BOOLEAN && high != CHAR

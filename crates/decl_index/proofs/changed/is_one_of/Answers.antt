@@ -1,11 +1,11 @@
+use Rattle.graphs.proofs.Elements.{none_in}
 use Rattle.std.proofs.Common.{rules, ◌≡◌, true, false}
 use Rattle.decl_index.proofs.Names.{same}
-use Rattle.decl_index.proofs.RowLemmas.{oneof-none}
 use Rattle.decl_index.proofs.Searches.{one-at, not-next}
 use Rattle.decl_index.proofs.changed.is_one_of.Goals as goal
 
 pub loop-one-init : goal.loop-one-init
-loop-one-init c = λ h. oneof-none c.args.name.now h
+loop-one-init c = λ h. none_in c.args.name.now h
 
 pub loop-one-preserved : goal.loop-one-preserved
 loop-one-preserved c =

@@ -1,8 +1,7 @@
-use Rattle.std.proofs.Common.{rules, ◌≡◌, ◌<◌, ◌∙◌, map, length, true, Some, None, subst}
+use Rattle.std.proofs.Common.{rules, ◌≡◌, ◌<◌, ◌∙◌, map, length, true, Some, None, subst, Contains}
 use Rattle.std.specs.Arc.{arc_value}
 use Rattle.std.proofs.lemmas.List.{length-map}
 use Rattle.known_classes.specs.Known.{class_named, IsPlaceOf}
-use Rattle.decl_index.specs.Refusals.{IsOneOf}
 use Rattle.decl_index.specs.Changed.{IsReached}
 use Rattle.decl_index.proofs.RowLemmas.{got_read}
 use Rattle.decl_index.proofs.Searches.{avoids-unknown, avoids-reached, not-one}
@@ -20,5 +19,5 @@ returns-in-Some-2 c = λ e.
     let within : c.in-Some.place < length c.args.classes.now = subst (λ n. c.in-Some.place < n) (length-map c.args.classes.now arc_value) at.0 in
     let known : class_named cs c.args.name.now ≡ Some (arc_value c.index-classes-place.result) = at.1 ∙ got_read arc_value c.args.classes.now c.in-Some.place c.index-classes-place.result within c.index-classes-place.is in
     let reached : IsReached cs (arc_value c.index-classes-place.result) c.in-Some-2.found = search rules in
-    let complete : IsOneOf c.args.name.now c.in-Some-2.found → c.is_one_of.result ≡ true = search rules in
+    let complete = λ (h : Contains c.in-Some-2.found c.args.name.now). c.is_one_of.ensures.complete (rw c.as_slice.ensures h) in
     avoids-reached cs c.args.name.now (arc_value c.index-classes-place.result) c.in-Some-2.found known reached (not-one c.is_one_of.result complete e)

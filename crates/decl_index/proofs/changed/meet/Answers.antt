@@ -1,5 +1,4 @@
-use Rattle.std.proofs.Common.{rules, ◌≡◌, ◌++◌, ◌∷◌, []}
-use Rattle.decl_index.specs.Refusals.{IsOneOf}
+use Rattle.std.proofs.Common.{rules, ◌≡◌, ◌++◌, ◌∷◌, [], Contains}
 use Rattle.decl_index.proofs.Searches.{met-none, met-there, met-push}
 use Rattle.decl_index.proofs.changed.meet.Goals as goal
 
@@ -8,7 +7,7 @@ loop-name-init c = met-none c.args.found.now
 
 pub loop-name-preserved-then-is_one_of : goal.loop-name-preserved-then-is_one_of
 loop-name-preserved-then-is_one_of c =
-    let there : IsOneOf c.name-item.result c.loop-name.found = search rules in
+    let there : Contains c.loop-name.found c.name-item.result = search rules in
     met-there c.args.names.now c.args.found.now c.loop-name.found c.loop-name.name-index c.name-item.result (search rules) c.name-item.is there c.loop-name.invariant
 
 pub loop-name-preserved : goal.loop-name-preserved

@@ -1,6 +1,6 @@
 use Rattle.std.proofs.Common.{rules}
 use Rattle.graphs.specs.Graph.{Reaches}
-use Rattle.graphs.proofs.Rows.{none-kept, kept-next, kept-over}
+use Rattle.graphs.proofs.Rows.{none-kept, kept-next, kept-over, forward-row}
 use Rattle.graphs.proofs.cycles.forward_row.Goals as goal
 
 pub loop-next-init : goal.loop-next-init
@@ -11,3 +11,6 @@ loop-next-preserved-then-branch c = kept-over (λ b. Reaches c.args.graph.now b 
 
 pub loop-next-preserved : goal.loop-next-preserved
 loop-next-preserved c = kept-next (λ b. Reaches c.args.graph.now b c.args.node) c.row-nodes.result.now c.loop-next.kept c.push.new.self c.loop-next.next-index c.in_ok-comes_back.field-0 (search rules) c.loop-next.invariant (c.in_ok-comes_back.ensures.1) c.if-branch.false c.in_ok-push.ensures.ok
+
+pub returns : goal.returns
+returns c = forward-row c.args.graph.now c.args.node c.row-nodes.result.now c.loop-next.kept c.loop-next.next-index c.row-nodes.ensures (search rules) c.loop-next.invariant

@@ -1,5 +1,4 @@
-use Rattle.std.proofs.Common.{rules, ◌≡◌, ℕ, subst}
-use Rattle.graphs.specs.Graph.{IsIn}
+use Rattle.std.proofs.Common.{rules, ◌≡◌, ℕ, subst, Contains}
 use Rattle.graphs.proofs.Turning.{rooted-free}
 use Rattle.graphs.proofs.joined.rooted.Goals as goal
 
@@ -12,7 +11,7 @@ loop-node-init c = record {
 pub loop-node-preserved : goal.loop-node-preserved
 loop-node-preserved c =
     let same : c.deref.result.now ≡ c.in_ok-nodes.nodes.items = search rules in
-    let all = λ (b : ℕ) (h : IsIn b c.deref.result.now). (c.in_ok-nodes.ensures.exact b).0 (subst (IsIn b) same h) in
+    let all = λ (b : ℕ) (h : Contains c.deref.result.now b). (c.in_ok-nodes.ensures.exact b).0 (subst (λ l. Contains l b) same h) in
     record {
       free = c.in_ok-nodes.ensures.free;
       rooted = c.mark_rooted.ensures c.args.graph.now all c.loop-node.invariant.rooted;

@@ -1,9 +1,10 @@
-use Rattle.std.proofs.Common.{rules}
-use Rattle.graphs.proofs.Turning.{some-none, some-more, some-over, some-all}
+use Rattle.std.proofs.Common.{rules, ◌≡◌, []}
+use Rattle.graphs.proofs.Elements.{none_in}
+use Rattle.graphs.proofs.Turning.{some-more, some-over, some-all}
 use Rattle.graphs.proofs.joined.row_within.Goals as goal
 
 pub loop-next-init : goal.loop-next-init
-loop-next-init c = some-none c.new-kept.result _ (search rules)
+loop-next-init c b h = let none : c.new-kept.result ≡ [] = search rules in none_in b (rw none at h)
 
 pub loop-next-preserved-then-root_of-root : goal.loop-next-preserved-then-root_of-root
 loop-next-preserved-then-root_of-root c = some-over c.args.nodes.now c.loop-next.kept c.loop-next.next-index (search rules) c.loop-next.invariant

@@ -5,6 +5,12 @@ use Rattle.graphs.proofs.Lists.{found_first, found_more, found_all, free_again, 
 use Rattle.graphs.proofs.Once.{fresh-is, apart-first, apart-more}
 use Rattle.graphs.proofs.reach.ancestors.Goals as goal
 
+pub mark_row-requires : goal.mark_row-requires
+mark_row-requires c b h = rw c.requires.marks.0 (c.requires.range c.args.from b (rw c.row.ensures at h))
+
+pub mark_row-requires-in-Some : goal.mark_row-requires-in-Some
+mark_row-requires-in-Some c b h = rw c.loop-node.invariant.search.long (c.requires.range c.in-Some.node b (rw c.row-in-Some.ensures at h))
+
 pub loop-node-init : goal.loop-node-init
 loop-node-init c =
     let m = row_is (edges c.args.graph.now c.args.from) (c.args.marks.now.items, c.new-waiting.result.items) (c.mark_row.new.marks.items, c.mark_row.new.waiting.items) (λ b h. rw c.requires.marks.0 (c.requires.range c.args.from b h)) (search rules) in

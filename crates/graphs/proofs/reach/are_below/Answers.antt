@@ -1,5 +1,5 @@
+use Rattle.graphs.proofs.Elements.{none_in}
 use Rattle.std.proofs.Common.{rules}
-use Rattle.graphs.proofs.Marks.{none_in}
 use Rattle.graphs.proofs.Rows.{bound-more, bound-all, not-below}
 use Rattle.graphs.proofs.reach.are_below.Goals as goal
 

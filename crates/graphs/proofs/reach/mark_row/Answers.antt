@@ -1,9 +1,10 @@
+use Rattle.std.proofs.lemmas.List.Elements.{Contains-get_or}
 use Rattle.std.proofs.Common.{rules, ◌∙◌, sym}
-use Rattle.graphs.proofs.Marks.{in_at, row_step, row_end}
+use Rattle.graphs.proofs.Marks.{row_step, row_end}
 use Rattle.graphs.proofs.reach.mark_row.Goals as goal
 
 pub mark-requires : goal.mark-requires
-mark-requires c = rw c.loop-node.invariant.long (c.requires _ (in_at c.args.nodes.now c.loop-node.node-index (search rules)))
+mark-requires c = rw c.loop-node.invariant.long (c.requires _ (Contains-get_or c.args.nodes.now c.loop-node.node-index 0 (search rules)))
 
 pub loop-node-preserved : goal.loop-node-preserved
 loop-node-preserved c = record {

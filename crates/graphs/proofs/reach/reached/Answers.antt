@@ -3,6 +3,14 @@ use Rattle.graphs.specs.Graph.{edges}
 use Rattle.graphs.proofs.Marks.{row_is, begins, goes_on, ends, none_marked, smaller}
 use Rattle.graphs.proofs.reach.reached.Goals as goal
 
+pub mark_row-requires : goal.mark_row-requires
+mark_row-requires c b h =
+    let long : length c.in_ok-marks.marks.items ≡ length c.args.graph.now = search rules in
+    rw long (c.requires.range c.args.from b (rw c.row.ensures at h))
+
+pub mark_row-requires-in-Some : goal.mark_row-requires-in-Some
+mark_row-requires-in-Some c b h = rw c.loop-node.invariant.long (c.requires.range c.in-Some.node b (rw c.row-in-Some.ensures at h))
+
 pub loop-node-init : goal.loop-node-init
 loop-node-init c =
     let long : length c.in_ok-marks.marks.items ≡ length c.args.graph.now = search rules in

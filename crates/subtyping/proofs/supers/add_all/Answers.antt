@@ -1,11 +1,12 @@
+use Rattle.graphs.proofs.Elements.{none_in}
 use Rattle.std.proofs.Common.{subst}
 use Rattle.subtyping.specs.Places.{IsPlaced}
-use Rattle.subtyping.proofs.Searching.{each-none, each-more}
+use Rattle.subtyping.proofs.Searching.{each-more}
 use Rattle.subtyping.proofs.Indices.{grown-then, placed-grown}
 use Rattle.subtyping.proofs.supers.add_all.Goals as goal
 
 pub loop-name-init : goal.loop-name-init
-loop-name-init c = record { placed = each-none (IsPlaced c.args.names.now); grown = λ name i h. h }
+loop-name-init c = record { placed = λ b h. none_in b h; grown = λ name i h. h }
 
 pub loop-name-preserved : goal.loop-name-preserved
 loop-name-preserved c = record {

@@ -1,10 +1,9 @@
-use Rattle.std.proofs.Common.{ℕ, List, take}
-use Rattle.subtyping.specs.Paths.{IsOneOf}
+use Rattle.std.proofs.Common.{ℕ, List, take, Contains}
 use Rattle.subtyping.specs.Places.{IsPlaced, IsGrown}
 use Rattle.subtyping.proofs.supers.add_all.Given as goal
 
 abbrev pub invariant-loop-name : goal.invariant-loop-name
 invariant-loop-name l = record {
-  placed : (b : List ℕ) → IsOneOf b (take l.name-index l.supers) → IsPlaced l.names b;
+  placed : (b : List ℕ) → Contains (take l.name-index l.supers) b → IsPlaced l.names b;
   grown : IsGrown l.fn.names l.names;
 }

@@ -1,10 +1,5 @@
 -- Paths of steps.
-use Rattle.std.specs.Prelude.{◌≡◌, List, [], ◌∷◌, ◌⊎◌}
-
--- The value is one of these.
-unfoldable pub IsOneOf : {A : Type 0} → A → List A → Type 0
-IsOneOf x [] = ⊥
-IsOneOf x (y ∷ ys) = (y ≡ x) ⊎ IsOneOf x ys
+use Rattle.std.specs.Prelude.{List, [], ◌∷◌}
 
 -- One step or more go from a to b, through these in order.
 unfoldable pub IsPathBy : {A : Type 0} → (A → A → Type 0) → A → List A → A → Type 0
