@@ -1,10 +1,10 @@
 -- The words and numbers of a line, and the places of names in a list.
-use Rattle.std.specs.Prelude.{ℕ, zero, suc, Bool, ◌&&◌, ◌==◌, not, nat_le, List, [], ◌∷◌, length, map, if◌then◌else◌, Option, Some, None, is_some, option_map, unwrap_or}
-use Rattle.std.specs.Prelude.{bytes_eq}
+use Rattle.std.specs.Prelude.{ℕ, zero, suc, Bool, ◌&&◌, ◌==◌, not, nat_le, List, [], ◌∷◌, length, map, if◌then◌else◌, is_some, unwrap_or}
 use Rattle.std.specs.List.{slice_split, list_any}
 use Rattle.std.specs.Str.{all_ascii_digits}
 use Rattle.std.specs.Str.Parse.{digits_value}
 use denote.Ref.{Bor}
+use Rattle.name_places.specs.Places.{place_of}
 
 -- what some texts hold
 abbrev pub texts : List (Bor (List ℕ)) → List (List ℕ)
@@ -31,11 +31,6 @@ is_number w = (nat_le 1 (length w) && nat_le (length w) 9) && all_ascii_digits w
 -- the value of a number in decimal, 0 where it is none
 unfoldable pub number : List ℕ → ℕ
 number w = if is_number w then digits_value 10 w else 0
-
--- the place of a name in a list of names, from 0
-unfoldable pub place_of : List (List ℕ) → List ℕ → Option ℕ
-place_of [] t = None
-place_of (x ∷ xs) t = if bytes_eq x t then Some 0 else option_map suc (place_of xs t)
 
 -- whether a name stands in a list of names
 abbrev pub has : List (List ℕ) → List ℕ → Bool

@@ -6,9 +6,9 @@ ghost use Rattle.sheets.specs.Sheets.{form_of, wanted, decl_of, has_all};
 ghost use Rattle.terms.specs.declared.parts.Arg.TheVariants.{Plain};
 
 use crate::kind::FormWord;
-use crate::names::Names;
 use crate::words::{number, prefix, tail, word};
 use lists::{Items, Text};
+use name_places::Names;
 use std::alloc::{AllocError, Global};
 use terms::{Arg, Decl, Form};
 

@@ -8,10 +8,10 @@ ghost use Rattle.sheets.specs.Standing.{added, seen_by, RefusesAt, Takes};
 use crate::cause::SheetCause;
 use crate::declaration::decl_of;
 use crate::kind::{FormWord, Kind, kind_of};
-use crate::names::Names;
 use crate::reading::SheetFault;
 use crate::words::{is_number, number, word, words_of};
 use lists::{Items, Text};
+use name_places::Names;
 use std::alloc::Global;
 use terms::Decl;
 
@@ -107,7 +107,7 @@ impl Sheet {
         if self.names.place(name).is_some() {
             return Err(SheetCause::TypeTwice.at(number_of_line));
         }
-        self.names.add(alloc, name)?;
+        self.names.push(alloc, name)?;
         Ok(())
     }
 

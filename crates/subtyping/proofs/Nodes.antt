@@ -11,8 +11,9 @@ use Rattle.graphs.specs.Graph.{edges, Reaches, InRange, IsForward, IsEdge}
 use Rattle.known_classes.specs.declared.summary.ClassSummary.{ClassSummary}
 use Rattle.known_classes.specs.Known.{KnownClasses, class_named}
 use Rattle.subtyping.specs.Steps.{object, supers_in, supers_of, IsSuper, IsSuperStep}
-use Rattle.subtyping.specs.Places.{place_of, Ancestry, Stands, Rises, AllRise, IsAncestry, IsPlaced, AreListed, row_of, graph_of, IsWithout, AreRows}
-use Rattle.subtyping.proofs.Indices.{place-get}
+use Rattle.name_places.specs.Places.{place_of, IsPlaced}
+use Rattle.subtyping.specs.Places.{Ancestry, Stands, Rises, AllRise, IsAncestry, AreListed, row_of, graph_of, IsWithout, AreRows}
+use Rattle.name_places.proofs.Places.{place-get}
 use Rattle.subtyping.proofs.Searching.{edges-get}
 
 -- the name stands at the place

@@ -1,16 +1,12 @@
 -- The names that occur among the classes, each at a place, and the ancestors of each as places.
 use Rattle.graphs.specs.Paths.{Leads}
-use Rattle.std.specs.Prelude.{◌≡◌, ℕ, suc, ◌≤◌, ◌<◌, if◌then◌else◌, List, [], ◌∷◌, length, map, slice_index, slice_get, bytes_eq, option_map, Option, Some, None, Contains}
+use Rattle.std.specs.Prelude.{◌≡◌, ℕ, ◌≤◌, ◌<◌, List, [], length, map, slice_index, slice_get, Some, Contains}
 use Rattle.std.specs.List.{filter_map}
 use Rattle.graphs.specs.Graph.{edges, IsForward, AreAncestors}
 use Rattle.known_classes.specs.Known.{KnownClasses}
+use Rattle.name_places.specs.Places.{place_of, IsPlaced}
 use Rattle.known_classes.specs.declared.summary.ClassSummary.{ClassSummary}
 use Rattle.subtyping.specs.Steps.{object, supers_of, IsSuperStep}
-
--- The place of a name.
-unfoldable pub place_of : List (List ℕ) → List ℕ → Option ℕ
-place_of [] name = None
-place_of (x ∷ xs) name = if bytes_eq x name then Some 0 else option_map suc (place_of xs name)
 
 -- Names, and for each the places of its ancestors, in rising order.
 pub record Ancestry : Type 0 where
@@ -38,14 +34,6 @@ pub record IsAncestry (known : KnownClasses) (ancestry : Ancestry) : Type 0 wher
   pub rises : AllRise ancestry.rows
   pub sound : (a b : List ℕ) → Stands ancestry a b → Leads (IsSuperStep known) a b
   pub complete : (a b : List ℕ) → Leads (IsSuperStep known) a b → Stands ancestry a b
-
--- The name has a place.
-abbrev pub IsPlaced : List (List ℕ) → List ℕ → Type 0
-IsPlaced names name = (i : ℕ) × (place_of names name ≡ Some i)
-
--- A name that had a place has it still.
-abbrev pub IsGrown : List (List ℕ) → List (List ℕ) → Type 0
-IsGrown old new = (name : List ℕ) (i : ℕ) → place_of old name ≡ Some i → place_of new name ≡ Some i
 
 -- The class and its supers have places.
 pub record IsListed (names : List (List ℕ)) (class : ClassSummary) : Type 0 where

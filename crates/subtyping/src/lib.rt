@@ -1,10 +1,10 @@
 // Which erased types are strict subtypes of which, among known classes. The main definition is
 // `IsStrictSubtype`, a path of direct steps; `Subtypes` answers it from the ancestors of each class, which it
-// also lists. It stands on `known_classes`, `type_names` and `graphs`.
+// also lists. It stands on `known_classes`, `type_names`, `name_places`
+// and `graphs`.
 #![tactic(auto)]
 
 mod merges;
-mod names;
 mod subtypes;
 mod supers;
 mod widening;

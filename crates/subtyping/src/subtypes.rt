@@ -4,14 +4,15 @@ ghost use Rattle.type_names.specs.declared.kinds.Base.TheVariants.{Class};
 ghost use Rattle.known_classes.specs.Known.{KnownClasses};
 ghost use Rattle.subtyping.specs.Steps.{IsStrictSubtype, IsReference, IsOfArrays};
 ghost use Rattle.graphs.specs.Graph.{edges};
-ghost use Rattle.subtyping.specs.Places.{place_of, Stands, Rises, IsAncestry};
+ghost use Rattle.name_places.specs.Places.{place_of};
+ghost use Rattle.subtyping.specs.Places.{Stands, Rises, IsAncestry};
 ghost use Rattle.subtyping.specs.Asked.{class_name, IsClassBelow, IsBaseBelow, IsArrayBelow, IsBelow};
 
-use crate::names::Names;
-use crate::supers::{graph_of, names_of, rows_above, steps_of};
+use crate::supers::{graph_of, names_of, place_in, rows_above, steps_of};
 use crate::widening::widens;
 use known_classes::Classes;
 use lists::{Items, Text};
+use name_places::Names;
 use std::alloc::{AllocError, Global};
 use std::cmp::Ordering;
 use std::marker::Model;
@@ -65,8 +66,8 @@ fn is_of_arrays(name: &str) -> bool
 }
 
 impl Subtypes {
-    /// The subtypes among these classes. It takes time linear in the classes with their ancestors, but for
-    /// the logarithm of looking names up.
+    /// The subtypes among these classes. It takes time linear in the classes with their ancestors; names are
+    /// looked up by their hash.
     pub fn new<C: Classes>(alloc: Global, known: &C) -> Result<Subtypes, AllocError>
         ensures of_known { IfOk result (λ s. IsAncestry (C.listed known.now) s) }
     {
@@ -81,7 +82,7 @@ impl Subtypes {
     pub fn place(&self, name: &str) -> Option<usize>
         ensures place { result ≡ place_of self.now.names name.now }
     {
-        self.names.place(name)
+        place_in(&self.names, name)
     }
 
     /// The internal name of the class at a place.
@@ -107,10 +108,10 @@ impl Subtypes {
         ensures sound { result ≡ true → Stands self.now a.now b.now }
         ensures complete { Stands self.now a.now b.now → result ≡ true }
     {
-        let Some(low) = self.names.place(a) else {
+        let Some(low) = self.place(a) else {
             return false;
         };
-        let Some(high) = self.names.place(b) else {
+        let Some(high) = self.place(b) else {
             return false;
         };
         match self.rows.get(low) {

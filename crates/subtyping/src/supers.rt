@@ -1,15 +1,26 @@
 ghost use Rattle.std.specs.Prelude.{◌≡◌, ◌<◌, ℕ, List, OnOk, IfOk, length, slice_get, Some, Contains};
 ghost use Rattle.std.specs.List.{filter_map};
 ghost use Rattle.graphs.specs.Graph.{InRange, AreFree, AreAncestors};
-ghost use Rattle.subtyping.specs.Places.{place_of, IsPlaced, IsGrown, IsListed, AreListed, row_of, graph_of, Rises, IsWithout, AreRows};
+ghost use Rattle.name_places.specs.Places.{place_of, IsPlaced, IsGrown};
+ghost use Rattle.subtyping.specs.Places.{IsListed, AreListed, row_of, graph_of, Rises, IsWithout, AreRows};
 ghost use Rattle.subtyping.specs.Steps.{object};
 
-use crate::names::Names;
 use crate::subtypes::OBJECT;
 use graphs::{ancestors, free_marks, without_cycles};
 use known_classes::{ClassSummary, Classes};
 use lists::{Items, Text};
+use name_places::Names;
 use std::alloc::{AllocError, Global};
+
+/// The place of a name, as the number of a node.
+pub(crate) fn place_in(names: &Names, name: &str) -> Option<usize>
+    ensures { result ≡ place_of names.now name.now }
+{
+    match names.place(name) {
+        Some(place) => Some(place as usize),
+        None => None,
+    }
+}
 
 /// Gives places to these names.
 fn add_all(alloc: Global, names: &mut Names, supers: &[Text]) -> Result<(), AllocError>
@@ -48,7 +59,7 @@ fn places_of(alloc: Global, names: &Names, supers: &[Text]) -> Result<Items<usiz
 {
     let mut row = Items::new(alloc);
     for name in supers {
-        let Some(place) = names.place(name.as_str()) else {
+        let Some(place) = place_in(names, name.as_str()) else {
             continue;
         };
         row.push(place)?;
@@ -97,7 +108,7 @@ pub(crate) fn steps_of(
     ensures { IfOk result (λ rows. IsWithout names.now graph.now rows) }
 {
     let mut rows = without_cycles(alloc, graph)?;
-    let Some(place) = names.place(OBJECT) else {
+    let Some(place) = place_in(names, OBJECT) else {
         return Ok(rows);
     };
     rows.set(place, Items::new(alloc));

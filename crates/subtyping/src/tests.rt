@@ -1,4 +1,3 @@
-use crate::names::Names;
 use crate::widening::widens;
 use std::alloc::AllocError;
 use type_names::Base;
@@ -37,17 +36,4 @@ fn primitives_widen_by_the_table(rt: HostRuntime) {
             assert_eq!(rt; found, wider.contains(to), "{from} {to}");
         }
     }
-}
-
-#[test]
-fn a_name_has_one_place(rt: HostRuntime) -> Result<(), AllocError> {
-    let mut names = Names::new(rt.alloc());
-    names.add(rt.alloc(), "p/A")?;
-    names.add(rt.alloc(), "p/B")?;
-    names.add(rt.alloc(), "p/A")?;
-    assert_eq!(rt; names.len(), 2);
-    assert!(rt; names.place("p/A") == Some(0));
-    assert!(rt; names.place("p/B") == Some(1));
-    assert!(rt; names.place("p/C").is_none());
-    Ok(())
 }

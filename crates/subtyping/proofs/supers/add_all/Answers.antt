@@ -1,8 +1,8 @@
 use Rattle.graphs.proofs.Elements.{none_in}
 use Rattle.std.proofs.Common.{subst}
-use Rattle.subtyping.specs.Places.{IsPlaced}
+use Rattle.name_places.specs.Places.{IsPlaced}
 use Rattle.subtyping.proofs.Searching.{each-more}
-use Rattle.subtyping.proofs.Indices.{grown-then, placed-grown}
+use Rattle.name_places.proofs.Places.{grown-then, placed-grown}
 use Rattle.subtyping.proofs.supers.add_all.Goals as goal
 
 pub loop-name-init : goal.loop-name-init

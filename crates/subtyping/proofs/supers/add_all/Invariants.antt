@@ -1,5 +1,5 @@
 use Rattle.std.proofs.Common.{ℕ, List, take, Contains}
-use Rattle.subtyping.specs.Places.{IsPlaced, IsGrown}
+use Rattle.name_places.specs.Places.{IsPlaced, IsGrown}
 use Rattle.subtyping.proofs.supers.add_all.Given as goal
 
 abbrev pub invariant-loop-name : goal.invariant-loop-name

@@ -1,6 +1,6 @@
 use Rattle.std.proofs.Common.{◌≡◌, take}
 use Rattle.std.specs.List.{filter_map}
-use Rattle.subtyping.specs.Places.{place_of}
+use Rattle.name_places.specs.Places.{place_of}
 use Rattle.subtyping.proofs.supers.places_of.Given as goal
 
 abbrev pub invariant-loop-name : goal.invariant-loop-name

@@ -1,5 +1,6 @@
 use Rattle.std.proofs.Common.{rules, ◌≡◌, ◌∙◌, sym, Some, None, slice_get}
-use Rattle.subtyping.specs.Places.{place_of, AllRise}
+use Rattle.name_places.specs.Places.{place_of}
+use Rattle.subtyping.specs.Places.{AllRise}
 use Rattle.subtyping.proofs.Searching.{search-in}
 use Rattle.subtyping.proofs.Nodes.{row-rises, stands-sound, stands-found, stands-never}
 use Rattle.subtyping.proofs.subtypes.Subtypes.stands.Goals as goal

@@ -1,12 +1,13 @@
-ghost use Rattle.std.specs.Prelude.{◌≡◌, ◌<◌, ◌^◌, ◌++◌, ◌∷◌, [], None, OnOk, length};
-ghost use Rattle.sheets.specs.Words.{place_of};
+ghost use Rattle.std.specs.Prelude.{◌≡◌, ◌<◌, ◌^◌, ◌++◌, ◌∷◌, [], None, OnOk, OnErr, length};
+ghost use Rattle.name_places.specs.Places.{place_of, IsPlaced, IsGrown};
 
 use lists::{Items, Text};
 use std::alloc::{AllocError, Global};
 use std::collections::HashMap;
 use std::marker::Model;
 
-/// Names in their order, with an index: a name is looked up by its hash. Contracts see the list.
+/// Names in their order, with an index: a name is looked up by its hash. Contracts see the list. The hash has a
+/// fixed seed, so names that are made to collide slow their own table.
 #[derive(Drop)]
 pub struct Names {
     texts: Items<Text>,
@@ -16,7 +17,7 @@ pub struct Names {
 impl Model for Names {
     ghost use Rattle.std.specs.Prelude.{◌≡◌, List, ℕ};
     ghost use Rattle.std.specs.HashMap.{get_by_text};
-    ghost use Rattle.sheets.specs.Words.{place_of};
+    ghost use Rattle.name_places.specs.Places.{place_of};
 
     ghost Value = { List (List ℕ) };
 
@@ -36,6 +37,20 @@ impl Names {
         }
     }
 
+    /// How many names there are.
+    pub fn len(&self) -> usize
+        ensures { result ≡ length self.now }
+    {
+        self.texts.len()
+    }
+
+    /// The names in order.
+    pub fn texts(&self) -> &[Text]
+        ensures { result.now ≡ self.now }
+    {
+        self.texts.as_slice()
+    }
+
     /// The place of a name, from 0.
     pub fn place(&self, name: &str) -> Option<u32>
         ensures { result ≡ place_of self.now name.now }
@@ -43,11 +58,12 @@ impl Names {
         self.places.get(name).copied()
     }
 
-    /// Adds a name at the end.
-    pub fn add(&mut self, alloc: Global, name: &str) -> Result<(), AllocError>
+    /// Gives a new name the next place.
+    pub fn push(&mut self, alloc: Global, name: &str) -> Result<(), AllocError>
         requires room { length self.old < 2 ^ 32 }
         requires fresh { place_of self.old name.now ≡ None }
-        ensures { OnOk result (self.new ≡ self.old ++ name.now ∷ []) }
+        ensures added { OnOk result (self.new ≡ self.old ++ name.now ∷ []) }
+        ensures kept { OnErr result (self.new ≡ self.old) }
     {
         let text = Text::from_str(alloc, name)?;
         let key = String::from_str(alloc, name)?;
@@ -60,6 +76,21 @@ impl Names {
                 Err(AllocError)
             }
         }
+    }
+
+    /// Gives a name a place, if it has none. It answers `AllocError` also where a new name would be one more than
+    /// 2^32.
+    pub fn add(&mut self, alloc: Global, name: &str) -> Result<(), AllocError>
+        ensures placed { OnOk result (IsPlaced self.new name.now) }
+        ensures grown { IsGrown self.old self.new }
+    {
+        if self.place(name).is_some() {
+            return Ok(());
+        }
+        if self.len() > u32::MAX as usize {
+            return Err(AllocError);
+        }
+        self.push(alloc, name)
     }
 
     /// The names alone.

@@ -1,7 +1,7 @@
 use Rattle.std.proofs.Common.{rules, ◌≡◌, ◌++◌, ◌∷◌, []}
 use Rattle.std.specs.Prelude.{string_bytes}
-use Rattle.subtyping.proofs.Indices.{index-added}
-use Rattle.subtyping.proofs.names.Names.push.Goals as goal
+use Rattle.name_places.proofs.Places.{index-added}
+use Rattle.name_places.proofs.names.Names.push.Goals as goal
 
 pub invariant_of-self-in-Ok : goal.invariant_of-self-in-Ok
 invariant_of-self-in-Ok c =

@@ -1,0 +1,26 @@
+use crate::Names;
+use std::alloc::AllocError;
+
+#[test]
+fn a_name_has_one_place(rt: HostRuntime) -> Result<(), AllocError> {
+    let mut names = Names::new(rt.alloc());
+    names.add(rt.alloc(), "p/A")?;
+    names.push(rt.alloc(), "p/B")?;
+    names.add(rt.alloc(), "p/A")?;
+    assert_eq!(rt; names.len(), 2);
+    assert!(rt; names.place("p/A") == Some(0));
+    assert!(rt; names.place("p/B") == Some(1));
+    assert!(rt; names.place("p/C").is_none());
+    Ok(())
+}
+
+#[test]
+fn names_stand_in_order(rt: HostRuntime) -> Result<(), AllocError> {
+    let mut names = Names::new(rt.alloc());
+    names.add(rt.alloc(), "z")?;
+    names.add(rt.alloc(), "a")?;
+    assert!(rt; names.texts()[1].as_str() == "a");
+    let texts = names.into_texts();
+    assert_eq!(rt; texts.len(), 2);
+    Ok(())
+}

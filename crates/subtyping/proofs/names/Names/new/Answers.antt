@@ -1,5 +1,0 @@
-use Rattle.subtyping.proofs.Indices.{index-empty}
-use Rattle.subtyping.proofs.names.Names.new.Goals as goal
-
-pub invariant_of-result : goal.invariant_of-result
-invariant_of-result c = index-empty c.new-2.result c.new.result c.new-2.ensures.empty c.new.ensures
