@@ -1,6 +1,7 @@
 use crate::{Arg, Ctx, Decl, Env, EnvFault, Form, Parts, Term, TermArg};
 use lists::{Copies, Items, Text};
-use std::alloc::{AllocError, Global};
+use std::alloc::Global;
+use std::process::Abort;
 
 /// What is told of a small environment: the types int, long and short, `decl 5 int name x` and one more
 /// declaration.
@@ -24,71 +25,86 @@ const COERCIONS: Sheet = Sheet {
     goal: 1,
 };
 
-fn types(alloc: Global) -> Result<Items<Text>, AllocError> {
-    let mut types = Items::new(alloc);
-    for word in ["int", "long", "short"] {
-        types.push(Text::from_str(alloc, word)?)?;
-    }
-    Ok(types)
+fn text(rt: &impl Abort, alloc: Global, word: &str) -> Text {
+    Text::from_str(alloc, word).expect(rt, "memory")
 }
 
-/// A declaration over at most one argument.
-fn decl(
-    alloc: Global,
-    form: Form,
-    arg: Option<Arg>,
-    of: u32,
-    weight: u32,
-) -> Result<Decl, AllocError> {
-    let mut args = Items::new(alloc);
-    if let Some(arg) = arg {
-        args.push(arg)?;
+fn types(rt: &impl Abort, alloc: Global) -> Items<Text> {
+    let mut types = Items::new(alloc);
+    for word in &["int", "long", "short"] {
+        types.push(text(rt, alloc, word)).expect(rt, "memory");
     }
-    Ok(Decl {
+    types
+}
+
+/// `decl 5 int name x`, and a declaration of this form over at most one argument.
+fn decls(
+    rt: &impl Abort,
+    alloc: Global,
+    sheet: &Sheet,
+    form: Form,
+    args: Items<Arg>,
+) -> Items<Decl> {
+    let x = Decl {
+        args: Items::new(alloc),
+        result: 0,
+        weight: 5,
+        crowded: false,
+        form: Form::Name(text(rt, alloc, "x")),
+    };
+    let last = Decl {
         args,
-        result: of,
-        weight,
+        result: sheet.of,
+        weight: sheet.weight,
         crowded: false,
         form,
-    })
-}
-
-/// `decl 5 int name x`, and this one.
-fn decls(alloc: Global, last: Decl) -> Result<Items<Decl>, AllocError> {
-    let x = Form::Name(Text::from_str(alloc, "x")?);
+    };
     let mut decls = Items::new(alloc);
-    decls.push(decl(alloc, x, None, 0, 5)?)?;
-    decls.push(last)?;
-    Ok(decls)
+    decls.push(x).expect(rt, "memory");
+    decls.push(last).expect(rt, "memory");
+    decls
 }
 
-fn parts(alloc: Global, sheet: Sheet, form: Form, arg: Option<Arg>) -> Result<Parts, AllocError> {
-    Ok(Parts {
-        types: types(alloc)?,
-        pairs: Items::from_slice(alloc, sheet.pairs)?,
-        decls: decls(alloc, decl(alloc, form, arg, sheet.of, sheet.weight)?)?,
+/// What is made of the sheet whose last declaration has this form and these arguments.
+fn checked(
+    rt: &impl Abort,
+    alloc: Global,
+    sheet: &Sheet,
+    form: Form,
+    args: Items<Arg>,
+) -> Result<Env, EnvFault> {
+    let parts = Parts {
+        types: types(rt, alloc),
+        pairs: Items::from_slice(alloc, sheet.pairs).expect(rt, "memory"),
+        decls: decls(rt, alloc, sheet, form, args),
         goal: sheet.goal,
         limit: sheet.limit,
         depth: sheet.depth,
-        binder: Text::from_str(alloc, "p")?,
-    })
-}
-
-fn checked(alloc: Global, parts: Parts) -> Result<Env, EnvFault> {
-    if !parts.has_lengths() {
-        return Err(EnvFault::OutOfMemory);
-    }
+        binder: text(rt, alloc, "p"),
+    };
+    assert!(rt; parts.has_lengths());
     Env::checked(alloc, parts)
 }
 
-/// The environment of a sheet whose last declaration is a call of one long.
-fn calls(alloc: Global, sheet: Sheet) -> Result<Env, EnvFault> {
-    let f = Form::Call(Text::from_str(alloc, "f")?);
-    checked(alloc, parts(alloc, sheet, f, Some(Arg::Plain(1)))?)
+fn one_arg(rt: &impl Abort, alloc: Global, arg: Arg) -> Items<Arg> {
+    let mut args = Items::new(alloc);
+    args.push(arg).expect(rt, "memory");
+    args
+}
+
+/// What is made of the sheet whose last declaration is a call of one long.
+fn calls(rt: &impl Abort, alloc: Global, sheet: &Sheet) -> Result<Env, EnvFault> {
+    checked(
+        rt,
+        alloc,
+        sheet,
+        Form::Call(text(rt, alloc, "f")),
+        one_arg(rt, alloc, Arg::Plain(1)),
+    )
 }
 
 /// `decl 10 long lambda long int -> int`, `goal long`, `limit 20`.
-fn lambdas(alloc: Global, depth: u32) -> Result<Env, EnvFault> {
+fn lambdas(rt: &impl Abort, alloc: Global, depth: u32) -> Env {
     let sheet = Sheet {
         limit: 20,
         depth,
@@ -97,29 +113,36 @@ fn lambdas(alloc: Global, depth: u32) -> Result<Env, EnvFault> {
         of: 1,
         goal: 1,
     };
-    let form = Form::Lambda(Text::from_str(alloc, "I")?);
-    let arg = Arg::Fun(Items::from_slice(alloc, &[0])?, 0);
-    checked(alloc, parts(alloc, sheet, form, Some(arg))?)
+    let params = Items::from_slice(alloc, &[0]).expect(rt, "memory");
+    let args = one_arg(rt, alloc, Arg::Fun(params, 0));
+    checked(rt, alloc, &sheet, Form::Lambda(text(rt, alloc, "I")), args).expect(
+        rt,
+        "an environment",
+    )
+}
+
+fn coercions(rt: &impl Abort, alloc: Global) -> Env {
+    calls(rt, alloc, &COERCIONS).expect(rt, "an environment")
 }
 
 /// The last declaration over one argument.
-fn over(alloc: Global, arg: TermArg) -> Result<Term, AllocError> {
+fn over(rt: &impl Abort, alloc: Global, arg: TermArg) -> Term {
     let mut args = Items::new(alloc);
-    args.push(arg)?;
-    Ok(Term::Head(1, args))
+    args.push(arg).expect(rt, "memory");
+    Term::Head(1, args)
 }
 
-fn leaf(alloc: Global, number: u32) -> Term {
+fn leaf(rt: &impl Abort, alloc: Global, number: u32) -> Term {
     Term::Head(number, Items::new(alloc))
 }
 
 /// `x` under so many calls.
-fn nested(alloc: Global, calls: u32) -> Result<Term, AllocError> {
-    let mut term = leaf(alloc, 0);
+fn nested(rt: &impl Abort, alloc: Global, calls: u32) -> Term {
+    let mut term = leaf(rt, alloc, 0);
     for _ in 0..calls {
-        term = over(alloc, TermArg::Plain(term))?;
+        term = over(rt, alloc, TermArg::Plain(term));
     }
-    Ok(term)
+    term
 }
 
 /// Whether the term has this weight, and is an inhabitant as said.
@@ -127,116 +150,139 @@ fn is_so(env: &Env, term: &Term, weight: Option<u32>, inhabitant: bool) -> bool 
     env.weight(&Ctx::empty(), term) == weight && env.is_inhabitant(term) == inhabitant
 }
 
-#[test]
-fn coercions_are_weighed_at_their_places(rt: HostRuntime) -> Result<(), EnvFault> {
-    let env = calls(rt.alloc(), COERCIONS)?;
-    for (calls, weight, inhabitant) in [
-        (0, 5, true),
-        (1, 35, true),
-        (2, 65, true),
-        (3, 95, false),
-    ] {
-        assert!(rt; is_so(&env, &nested(rt.alloc(), calls)?, Some(weight), inhabitant));
+/// Whether `x` under these numbers of calls has its weights, and is an inhabitant as said.
+fn are_so(rt: &impl Abort, alloc: Global, env: &Env, rows: &[(u32, u32, bool)]) -> bool {
+    for row in rows {
+        if !is_so(env, &nested(rt, alloc, row.0), Some(row.1), row.2) {
+            return false;
+        }
     }
-    Ok(())
+    true
 }
 
 #[test]
-fn the_limit_counts_the_goals_coercion(rt: HostRuntime) -> Result<(), EnvFault> {
-    let env = calls(
-        rt.alloc(),
-        Sheet {
-            limit: 74,
-            ..COERCIONS
-        },
-    )?;
-    for (calls, weight, inhabitant) in [(1, 35, true), (2, 65, false)] {
-        assert!(rt; is_so(&env, &nested(rt.alloc(), calls)?, Some(weight), inhabitant));
-    }
-    Ok(())
+fn coercions_are_weighed_at_their_places(rt: HostRuntime) {
+    let rows = [(0, 5, true), (1, 35, true), (2, 65, true), (3, 95, false)];
+    assert!(rt; are_so(&rt, rt.alloc(), &coercions(&rt, rt.alloc()), &rows));
 }
 
 #[test]
-fn what_has_no_type_has_no_weight(rt: HostRuntime) -> Result<(), EnvFault> {
-    let env = calls(rt.alloc(), COERCIONS)?;
-    assert!(rt; is_so(&env, &leaf(rt.alloc(), 1), None, false));
-    assert!(rt; is_so(&env, &leaf(rt.alloc(), 2), None, false));
+fn the_limit_counts_the_goals_coercion(rt: HostRuntime) {
+    let sheet = Sheet {
+        limit: 74,
+        ..COERCIONS
+    };
+    let env = calls(&rt, rt.alloc(), &sheet).expect(&rt, "an environment");
+    assert!(rt; are_so(&rt, rt.alloc(), &env, &[(1, 35, true), (2, 65, false)]));
+}
+
+#[test]
+fn what_has_no_type_has_no_weight(rt: HostRuntime) {
+    let env = coercions(&rt, rt.alloc());
+    assert!(rt; is_so(&env, &leaf(&rt, rt.alloc(), 1), None, false));
+    assert!(rt; is_so(&env, &leaf(&rt, rt.alloc(), 2), None, false));
     assert!(rt; is_so(&env, &Term::Var(0), None, false));
     assert!(rt; env.is_below(0, 1) && !env.is_below(1, 0));
-    Ok(())
 }
 
 #[test]
-fn copies_answer_alike(rt: HostRuntime) -> Result<(), EnvFault> {
-    let env = calls(rt.alloc(), COERCIONS)?.copy(rt.alloc())?;
-    let term = nested(rt.alloc(), 2)?.copy(rt.alloc())?;
+fn copies_answer_alike(rt: HostRuntime) {
+    let env = coercions(&rt, rt.alloc())
+        .copy(rt.alloc())
+        .expect(&rt, "memory");
+    let term = nested(&rt, rt.alloc(), 2)
+        .copy(rt.alloc())
+        .expect(&rt, "memory");
     assert!(rt; is_so(&env, &term, Some(65), true));
-    assert_eq!(rt; env.parts().decls.len(), 2);
-    Ok(())
+    assert!(rt; env.parts().decls.len() == 2);
 }
 
 /// The environment of the same parts, which are valid.
-fn again(alloc: Global, env: &Env) -> Result<Env, AllocError> {
-    Env::of_valid(alloc, env.parts().copy(alloc)?)
+fn again(rt: &impl Abort, alloc: Global, env: &Env) -> Env {
+    let parts = env.parts().copy(alloc).expect(rt, "memory");
+    Env::of_valid(alloc, parts).expect(rt, "memory")
 }
 
 #[test]
-fn valid_parts_are_an_environment(rt: HostRuntime) -> Result<(), EnvFault> {
-    let env = again(rt.alloc(), &calls(rt.alloc(), COERCIONS)?)?;
+fn valid_parts_are_an_environment(rt: HostRuntime) {
+    let env = again(&rt, rt.alloc(), &coercions(&rt, rt.alloc()));
     assert!(rt; env.is_below(0, 1) && !env.is_below(1, 0) && !env.is_below(0, 2));
-    assert!(rt; is_so(&env, &nested(rt.alloc(), 2)?, Some(65), true));
-    Ok(())
+    assert!(rt; is_so(&env, &nested(&rt, rt.alloc(), 2), Some(65), true));
+}
+
+/// Whether the environment's weights are those of every environment, and the step from int to long a coercion.
+fn has_its_weights(env: &Env) -> bool {
+    env.variable_weight() == 1
+        && env.binder_weight() == 1
+        && env.coercion_weight() == 10
+        && env.step(0, 1) == 10
+        && env.step(1, 1) == 0
 }
 
 #[test]
-fn an_environment_tells_its_weights(rt: HostRuntime) -> Result<(), EnvFault> {
-    let env = calls(rt.alloc(), COERCIONS)?;
-    assert_eq!(rt; env.variable_weight(), 1);
-    assert_eq!(rt; env.binder_weight(), 1);
-    assert_eq!(rt; env.coercion_weight(), 10);
-    assert_eq!(rt; env.step(0, 1), 10);
-    assert_eq!(rt; env.step(1, 1), 0);
-    Ok(())
+fn an_environment_tells_its_weights(rt: HostRuntime) {
+    assert!(rt; has_its_weights(&coercions(&rt, rt.alloc())));
+}
+
+/// Whether the lambda of this body has this weight, and is an inhabitant as said.
+fn is_lambda_so(
+    rt: &impl Abort,
+    alloc: Global,
+    env: &Env,
+    body: Term,
+    weight: Option<u32>,
+    inhabitant: bool,
+) -> bool {
+    is_so(
+        env,
+        &over(rt, alloc, TermArg::Lam(body)),
+        weight,
+        inhabitant,
+    )
 }
 
 #[test]
-fn lambdas_bind_and_are_weighed(rt: HostRuntime) -> Result<(), EnvFault> {
-    let bound = over(rt.alloc(), TermArg::Lam(Term::Var(0)))?;
-    let env = lambdas(rt.alloc(), 1)?;
-    assert!(rt; is_so(&env, &bound, Some(12), true));
+fn lambdas_bind_and_are_weighed(rt: HostRuntime) {
+    let env = lambdas(&rt, rt.alloc(), 1);
+    assert!(rt; is_lambda_so(&rt, rt.alloc(), &env, Term::Var(0), Some(12), true));
     assert!(rt;
-        is_so(
+        is_lambda_so(
+            &rt,
+            rt.alloc(),
             &env,
-            &over(rt.alloc(), TermArg::Lam(leaf(rt.alloc(), 0)))?,
+            leaf(&rt, rt.alloc(), 0),
             Some(16),
             true
         )
     );
+    assert!(rt; is_lambda_so(&rt, rt.alloc(), &env, Term::Var(1), None, false));
     assert!(rt;
-        is_so(
-            &env,
-            &over(rt.alloc(), TermArg::Lam(Term::Var(1)))?,
-            None,
+        is_lambda_so(
+            &rt,
+            rt.alloc(),
+            &lambdas(&rt, rt.alloc(), 0),
+            Term::Var(0),
+            Some(12),
             false
         )
     );
-    assert!(rt; is_so(&lambdas(rt.alloc(), 0)?, &bound, Some(12), false));
-    Ok(())
 }
 
 #[test]
-fn contexts_have_at_most_three_rows(rt: HostRuntime) -> Result<(), EnvFault> {
-    let env = lambdas(rt.alloc(), 1)?;
+fn contexts_have_at_most_three_rows(rt: HostRuntime) {
+    let env = lambdas(&rt, rt.alloc(), 1);
     let row = [0];
     let full = Ctx::empty().with(&row).with(&row).with(&row);
-    assert_eq!(rt; env.type_of(&full, &Term::Var(2)), Some(0));
-    assert_eq!(rt; env.type_of(&full, &Term::Var(3)), None);
-    assert_eq!(rt;
-        env.type_of(&full, &over(rt.alloc(), TermArg::Lam(Term::Var(0)))?),
-        None
+    assert!(rt; env.type_of(&full, &Term::Var(2)) == Some(0));
+    assert!(rt; env.type_of(&full, &Term::Var(3)).is_none());
+    assert!(rt;
+        env.type_of(&full, &over(&rt, rt.alloc(), TermArg::Lam(Term::Var(0))))
+            .is_none()
     );
-    assert_eq!(rt; env.type_of(&Ctx { used: 4, ..full }, &Term::Var(0)), None);
-    Ok(())
+    assert!(rt;
+        env.type_of(&Ctx { used: 4, ..full }, &Term::Var(0))
+            .is_none()
+    );
 }
 
 /// Sheets, each with the first fault of its environment.
@@ -325,20 +371,28 @@ const FAULTS: [(Sheet, EnvFault); 12] = [
 ];
 
 #[test]
-fn the_first_fault_is_answered(rt: HostRuntime) -> Result<(), AllocError> {
-    for (sheet, fault) in FAULTS {
-        assert!(rt; calls(rt.alloc(), sheet).is_err_and(|e| e == fault));
+fn the_first_fault_is_answered(rt: HostRuntime) {
+    for (sheet, fault) in &FAULTS {
+        assert!(rt; calls(&rt, rt.alloc(), sheet).err() == Some(*fault));
     }
-    Ok(())
 }
 
 #[test]
-fn arguments_suit_their_form(rt: HostRuntime) -> Result<(), AllocError> {
+fn arguments_suit_their_form(rt: HostRuntime) {
     let wrong = checked(
+        &rt,
         rt.alloc(),
-        parts(rt.alloc(), COERCIONS, Form::This, Some(Arg::Plain(1)))?,
+        &COERCIONS,
+        Form::This,
+        one_arg(&rt, rt.alloc(), Arg::Plain(1)),
     );
-    assert!(rt; wrong.is_err_and(|e| e == EnvFault::Form(1)));
-    assert!(rt; checked(rt.alloc(), parts(rt.alloc(), COERCIONS, Form::This, None)?).is_ok());
-    Ok(())
+    assert!(rt; wrong.err() == Some(EnvFault::Form(1)));
+    let right = checked(
+        &rt,
+        rt.alloc(),
+        &COERCIONS,
+        Form::This,
+        Items::new(rt.alloc()),
+    );
+    assert!(rt; right.is_ok());
 }
