@@ -1,52 +1,63 @@
-use crate::{Change, ChangeFault, Index};
+use crate::{Change, Index};
 use known_classes::{ClassSummary, Classes, Merged, Nesting};
 use lists::{Items, Text};
-use std::alloc::{AllocError, Global};
-use std::test::Fail;
+use std::alloc::Global;
+use std::process::Abort;
 
-/// A class with these flags, nested in a class by a simple name where `outer` isn't empty.
-fn class(alloc: Global, row: &(&str, u16, &str, &str)) -> Result<ClassSummary, AllocError> {
-    let nesting = Nesting {
-        outer: Some(Text::from_str(alloc, row.2)?),
-        simple: Some(Text::from_str(alloc, row.3)?),
+/// A class: its name, its flags, the class around it where that isn't empty, and its simple name there.
+type Row<'a> = (&'a str, u16, &'a str, &'a str);
+
+fn text(rt: &impl Abort, alloc: Global, word: &str) -> Text {
+    Text::from_str(alloc, word).expect(rt, "memory")
+}
+
+fn nesting(rt: &impl Abort, alloc: Global, outer: &str, simple: &str) -> Option<Nesting> {
+    if outer.is_empty() {
+        return None;
+    }
+    Some(Nesting {
+        outer: Some(text(rt, alloc, outer)),
+        simple: Some(text(rt, alloc, simple)),
         flags: 9,
-    };
-    Ok(ClassSummary {
-        name: Text::from_str(alloc, row.0)?,
-        flags: row.1,
-        nesting: if row.2.is_empty() {
-            None
-        } else {
-            Some(nesting)
-        },
-        supers: Items::new(alloc),
-        fields: Items::new(alloc),
-        methods: Items::new(alloc),
     })
 }
 
-fn classes(
-    alloc: Global,
-    rows: &[(&str, u16, &str, &str)],
-) -> Result<Items<ClassSummary>, AllocError> {
-    let mut items = Items::new(alloc);
+fn classes(rt: &impl Abort, alloc: Global, rows: &[Row<'_>]) -> Items<ClassSummary> {
+    let mut classes = Items::new(alloc);
     for row in rows {
-        items.push(class(alloc, row)?)?;
+        let class = ClassSummary {
+            name: text(rt, alloc, row.0),
+            flags: row.1,
+            nesting: nesting(rt, alloc, row.2, row.3),
+            supers: Items::new(alloc),
+            fields: Items::new(alloc),
+            methods: Items::new(alloc),
+        };
+        classes.push(class).expect(rt, "memory");
     }
-    Ok(items)
+    classes
 }
 
-fn index_of(alloc: Global, rows: &[(&str, u16, &str, &str)]) -> Result<Index, ChangeFault> {
+/// The index of the classes of `BASE`.
+fn base(rt: &impl Abort, alloc: Global) -> Index {
     let change = Change::Publish {
-        puts: classes(alloc, rows)?,
+        puts: classes(rt, alloc, &BASE),
         removes: Items::new(alloc),
         counts: Items::new(alloc),
     };
-    let index = Index::empty(alloc)?;
-    if index.number() == u32::MAX {
-        return Err(ChangeFault::OutOfMemory);
-    }
-    index.apply(alloc, &change)
+    let index = Index::empty(alloc).expect(rt, "memory");
+    assert!(rt; index.number() < u32::MAX);
+    index.apply(alloc, &change).expect(rt, "an index")
+}
+
+/// These classes over those of an index.
+fn merged<'a>(
+    rt: &impl Abort,
+    alloc: Global,
+    index: &'a Index,
+    rows: &[Row<'_>],
+) -> Merged<'a, Index> {
+    Merged::new(alloc, index, classes(rt, alloc, rows)).expect(rt, "memory")
 }
 
 /// The flags of the class at this place, 0 where there is none.
@@ -57,7 +68,27 @@ fn flags_at<C: Classes>(known: &C, place: Option<usize>) -> u16 {
     }
 }
 
-const BASE: [(&str, u16, &str, &str); 4] = [
+/// Whether the classes of these canonical names have these flags.
+fn are_called<C: Classes>(known: &C, rows: &[(&str, u16)]) -> bool {
+    for (name, flags) in rows {
+        if flags_at(known, known.by_canonical(name)) != *flags {
+            return false;
+        }
+    }
+    true
+}
+
+/// Whether the classes of these outer classes and simple names have these flags.
+fn are_nested<C: Classes>(known: &C, rows: &[(&str, &str, u16)]) -> bool {
+    for (outer, name, flags) in rows {
+        if flags_at(known, known.nested(outer, name)) != *flags {
+            return false;
+        }
+    }
+    true
+}
+
+const BASE: [Row<'static>; 4] = [
     ("p/A", 1, "", ""),
     ("p/A$B", 2, "p/A", "B"),
     ("p/C", 3, "", ""),
@@ -65,7 +96,7 @@ const BASE: [(&str, u16, &str, &str); 4] = [
 ];
 
 /// `p/A` is replaced twice, `p/E` is added twice, and `p/C` is now within `p/E`.
-const EXTRA: [(&str, u16, &str, &str); 7] = [
+const EXTRA: [Row<'static>; 7] = [
     ("p/A", 11, "", ""),
     ("p/E", 12, "", ""),
     ("p/C", 13, "p/E", "X"),
@@ -106,38 +137,33 @@ const CALLED: [(&str, u16); 11] = [
 ];
 
 #[test]
-fn merged_classes_stand_in_their_places(rt: HostRuntime) -> Result<(), Fail> {
-    let index = index_of(rt.alloc(), &BASE)?;
-    let known = Merged::new(rt.alloc(), &index, classes(rt.alloc(), &EXTRA)?)?;
+fn merged_classes_stand_in_their_places(rt: HostRuntime) {
+    let index = base(&rt, rt.alloc());
+    let known = merged(&rt, rt.alloc(), &index, &EXTRA);
     assert!(rt; known.count() == PLACES.len());
     for place in 0..PLACES.len() {
         assert!(rt; flags_at(&known, Some(place)) == PLACES[place]);
     }
-    Ok(())
 }
 
 #[test]
-fn merged_classes_are_found_by_name(rt: HostRuntime) -> Result<(), Fail> {
-    let index = index_of(rt.alloc(), &BASE)?;
-    let known = Merged::new(rt.alloc(), &index, classes(rt.alloc(), &EXTRA)?)?;
-    for (name, flags) in NAMES {
-        assert!(rt; flags_at(&known, known.find(name)) == flags);
+fn merged_classes_are_found_by_name(rt: HostRuntime) {
+    let index = base(&rt, rt.alloc());
+    let known = merged(&rt, rt.alloc(), &index, &EXTRA);
+    for (name, flags) in &NAMES {
+        assert!(rt; flags_at(&known, known.find(name)) == *flags);
     }
-    Ok(())
 }
 
 #[test]
-fn merged_classes_are_found_by_canonical_name(rt: HostRuntime) -> Result<(), Fail> {
-    let index = index_of(rt.alloc(), &BASE)?;
-    let known = Merged::new(rt.alloc(), &index, classes(rt.alloc(), &EXTRA)?)?;
-    for (name, flags) in CALLED {
-        assert!(rt; flags_at(&known, known.by_canonical(name)) == flags);
-    }
-    Ok(())
+fn merged_classes_are_found_by_canonical_name(rt: HostRuntime) {
+    let index = base(&rt, rt.alloc());
+    let known = merged(&rt, rt.alloc(), &index, &EXTRA);
+    assert!(rt; are_called(&known, &CALLED));
 }
 
 /// Classes that leave the names of the others as they are: `p/A` keeps its nesting, the others are new.
-const BESIDE: [(&str, u16, &str, &str); 4] = [
+const BESIDE: [Row<'static>; 4] = [
     ("p/A", 11, "", ""),
     ("p/A$N", 12, "p/A", "N"),
     ("p/A$N$M", 13, "p/A$N", "M"),
@@ -182,37 +208,28 @@ fn canonical_of<'a, C: Classes>(known: &'a C, name: &str) -> &'a str {
 }
 
 #[test]
-fn a_merge_beside_its_base_is_found_by_canonical_name(rt: HostRuntime) -> Result<(), Fail> {
-    let index = index_of(rt.alloc(), &BASE)?;
-    let known = Merged::new(rt.alloc(), &index, classes(rt.alloc(), &BESIDE)?)?;
-    for (name, flags) in BESIDE_CALLED {
-        assert!(rt; flags_at(&known, known.by_canonical(name)) == flags);
-    }
+fn a_merge_beside_its_base_is_found_by_canonical_name(rt: HostRuntime) {
+    let index = base(&rt, rt.alloc());
+    let known = merged(&rt, rt.alloc(), &index, &BESIDE);
+    assert!(rt; are_called(&known, &BESIDE_CALLED));
     assert_eq!(rt; canonical_of(&known, "p/A$N$M"), "p.A.N.M");
     assert_eq!(rt; canonical_of(&known, "p/C$D"), "p.C.D");
-    Ok(())
 }
 
 #[test]
-fn a_merge_beside_its_base_knows_nested_classes(rt: HostRuntime) -> Result<(), Fail> {
-    let index = index_of(rt.alloc(), &BASE)?;
-    let known = Merged::new(rt.alloc(), &index, classes(rt.alloc(), &BESIDE)?)?;
-    for (outer, name, flags) in BESIDE_NESTED {
-        assert!(rt; flags_at(&known, known.nested(outer, name)) == flags);
-    }
+fn a_merge_beside_its_base_knows_nested_classes(rt: HostRuntime) {
+    let index = base(&rt, rt.alloc());
+    let known = merged(&rt, rt.alloc(), &index, &BESIDE);
+    assert!(rt; are_nested(&known, &BESIDE_NESTED));
     assert!(rt; known.surrounds("p/C") && known.surrounds("p/A$N"));
     assert!(rt; !known.surrounds("p/E"));
-    Ok(())
 }
 
 #[test]
-fn a_merge_that_moves_classes_knows_nested_classes(rt: HostRuntime) -> Result<(), Fail> {
-    let index = index_of(rt.alloc(), &BASE)?;
-    let known = Merged::new(rt.alloc(), &index, classes(rt.alloc(), &EXTRA)?)?;
-    for (outer, name, flags) in NESTED {
-        assert!(rt; flags_at(&known, known.nested(outer, name)) == flags);
-    }
+fn a_merge_that_moves_classes_knows_nested_classes(rt: HostRuntime) {
+    let index = base(&rt, rt.alloc());
+    let known = merged(&rt, rt.alloc(), &index, &EXTRA);
+    assert!(rt; are_nested(&known, &NESTED));
     assert_eq!(rt; canonical_of(&known, "p/C$D"), "p.E.X.D");
     assert!(rt; known.surrounds("p/S"));
-    Ok(())
 }
