@@ -1,0 +1,12 @@
+pub mod Tests
+pub mod Lists
+pub mod Named
+pub mod Chains
+pub mod Shortest
+pub mod Dims
+pub mod SameTypes
+pub mod Places
+pub mod PairRows
+pub mod SceneLaws
+pub mod Descriptors
+pub mod Searches

@@ -1,0 +1,8 @@
+use Rattle.std.proofs.Common.{◌≡◌, take, not}
+use Rattle.std.specs.List.{list_any, filter}
+use Rattle.offers.specs.Omissions.{overrides}
+use Rattle.offers.specs.Views.{scene}
+use Rattle.offers.proofs.overrides.left_of.Given as goal
+
+abbrev pub invariant-loop-member : goal.invariant-loop-member
+invariant-loop-member l = l.all ≡ filter (λ m. not (list_any (overrides (scene l.view) m) l.members)) (take l.member-index l.members)

@@ -1,0 +1,15 @@
+pub mod Sites
+pub mod Scenes
+pub mod Reach
+pub mod Spellings
+pub mod Candidates
+pub mod Omissions
+pub mod Functional
+pub mod Order
+pub mod Views
+pub mod Sorting
+pub mod Reached
+pub mod Pairs
+pub mod Types
+pub mod Weighing
+pub mod Offers

@@ -1,0 +1,200 @@
+ghost use Rattle.std.specs.Prelude.{◌≡◌, ◌++◌, [], IfOk, OnOk};
+ghost use Rattle.offers.specs.Scenes.{of_class};
+ghost use Rattle.offers.specs.Reach.{offered};
+ghost use Rattle.offers.specs.Functional.{is_interface, faces_above, is_whole, is_giver, is_given, is_of_object, is_promise, promises, group, one_method, method_in, face_of, faces_by, faces};
+ghost use Rattle.offers.specs.Views.{scene};
+
+use crate::calls::{are_same_calls, has_body, is_of_object};
+use crate::candidates::has_result;
+use crate::interfaces::{faces_above, is_below, is_interface, is_whole};
+use crate::member::Face;
+use crate::reach::{ABSTRACT, has_flag};
+use crate::spelling::class_spelling;
+use crate::view::{View, of_class};
+use known_classes::{ClassSummary, MethodSummary};
+use lists::{Copies, Items, Text, copy_all};
+use std::alloc::{AllocError, Global};
+
+/// Whether an interface is below the owner of a method and has a body for it.
+fn is_giver(
+    alloc: Global,
+    view: &View<'_>,
+    owner: &ClassSummary,
+    method: &MethodSummary,
+    other: &ClassSummary,
+) -> Result<bool, AllocError>
+    ensures { IfOk result (λ yes. yes ≡ is_giver (scene view.now) owner.now method.now other.now) }
+{
+    let below = is_below(alloc, view, &other.name, &owner.name)?;
+    if !below {
+        return Ok(false);
+    }
+    Ok(has_body(method, other.methods.as_slice()))
+}
+
+/// Whether one of these interfaces is.
+#[tactic(auto, unfolding(crate::specs::Functional::is_given))]
+fn is_given(
+    alloc: Global,
+    view: &View<'_>,
+    faces: &[ClassSummary],
+    owner: &ClassSummary,
+    method: &MethodSummary,
+) -> Result<bool, AllocError>
+    ensures { IfOk result (λ yes. yes ≡ is_given (scene view.now) faces.now owner.now method.now) }
+{
+    for other in faces {
+        let gives = is_giver(alloc, view, owner, method, other)?;
+        if gives {
+            return Ok(true);
+        }
+    }
+    Ok(false)
+}
+
+/// Whether a method of an interface is abstract, with no body given, and none of java/lang/Object's.
+fn is_promise(
+    alloc: Global,
+    view: &View<'_>,
+    faces: &[ClassSummary],
+    owner: &ClassSummary,
+    method: &MethodSummary,
+) -> Result<bool, AllocError>
+    ensures { IfOk result (λ yes. yes ≡ is_promise (scene view.now) faces.now owner.now method.now) }
+{
+    if !has_flag(method.flags, ABSTRACT) {
+        return Ok(false);
+    }
+    let given = is_given(alloc, view, faces, owner, method)?;
+    if given {
+        return Ok(false);
+    }
+    let of_object = is_of_object(alloc, method)?;
+    Ok(!of_object)
+}
+
+/// Copies of the methods of an interface that are.
+fn promises(
+    alloc: Global,
+    view: &View<'_>,
+    faces: &[ClassSummary],
+    owner: &ClassSummary,
+) -> Result<Items<MethodSummary>, AllocError>
+    ensures { IfOk result (λ all. all ≡ promises (scene view.now) faces.now owner.now) }
+{
+    let mut all = Items::new(alloc);
+    for method in owner.methods.as_slice() {
+        let promise = is_promise(alloc, view, faces, owner, method)?;
+        if promise {
+            all.push(method.copy(alloc)?)?;
+        }
+    }
+    Ok(all)
+}
+
+/// Copies of the methods of these interfaces that are.
+fn group(
+    alloc: Global,
+    view: &View<'_>,
+    faces: &[ClassSummary],
+) -> Result<Items<MethodSummary>, AllocError>
+    ensures { IfOk result (λ all. all ≡ group (scene view.now) faces.now) }
+{
+    let mut all = Items::new(alloc);
+    for owner in faces {
+        all.append(promises(alloc, view, faces, owner)?)?;
+    }
+    Ok(all)
+}
+
+/// A copy of the method that all of these are, where they are one and it has a result.
+fn one_method(alloc: Global, methods: &[MethodSummary]) -> Result<Option<MethodSummary>, AllocError>
+    ensures { IfOk result (λ one. one ≡ one_method methods.now) }
+{
+    match methods {
+        [] => Ok(None),
+        [first, more @ ..] => {
+            if !has_result(&first.result) {
+                return Ok(None);
+            }
+            let same = are_same_calls(alloc, first, more)?;
+            if !same {
+                return Ok(None);
+            }
+            Ok(Some(first.copy(alloc)?))
+        }
+    }
+}
+
+/// The one method of a functional interface.
+#[tactic(auto, unfolding(crate::specs::Functional::method_in))]
+fn method_in(
+    alloc: Global,
+    view: &View<'_>,
+    class: &ClassSummary,
+) -> Result<Option<MethodSummary>, AllocError>
+    ensures { IfOk result (λ one. one ≡ method_in (scene view.now) class.now) }
+{
+    if !is_interface(class) {
+        return Ok(None);
+    }
+    if class_spelling(alloc, view, &class.name)?.is_none() {
+        return Ok(None);
+    }
+    let whole = is_whole(alloc, view, class)?;
+    if !whole {
+        return Ok(None);
+    }
+    let faces = faces_above(alloc, view, class)?;
+    let methods = group(alloc, view, faces.as_slice())?;
+    let one = one_method(alloc, methods.as_slice())?;
+    Ok(one)
+}
+
+/// What a lambda of a functional interface with this method takes and gives.
+fn face_of(alloc: Global, name: &Text, method: &MethodSummary) -> Result<Face, AllocError>
+    ensures { IfOk result (λ face. face ≡ face_of name.now method.now) }
+{
+    let kind = match &method.result {
+        Some(kind) => kind.copy(alloc)?,
+        None => of_class(alloc, name)?,
+    };
+    Ok(Face {
+        name: name.copy(alloc)?,
+        params: copy_all(alloc, &method.params)?,
+        result: kind,
+    })
+}
+
+/// Adds a class that is a functional interface.
+fn add_lambda(
+    alloc: Global,
+    view: &View<'_>,
+    class: &ClassSummary,
+    all: &mut Items<Face>,
+) -> Result<(), AllocError>
+    ensures { OnOk result (all.new ≡ all.old ++ faces_by class.now.name (method_in (scene view.now) class.now)) }
+{
+    let Some(method) = method_in(alloc, view, class)? else {
+        return Ok(());
+    };
+    all.push(face_of(alloc, &class.name, &method)?)?;
+    Ok(())
+}
+
+/// The functional interfaces among the offered classes.
+#[tactic(auto, unfolding(crate::specs::Functional::faces))]
+pub(crate) fn faces(
+    alloc: Global,
+    view: &View<'_>,
+    classes: &[ClassSummary],
+) -> Result<Items<Face>, AllocError>
+    requires { classes.now ≡ offered (scene view.now) }
+    ensures { IfOk result (λ all. all ≡ faces (scene view.now)) }
+{
+    let mut all = Items::new(alloc);
+    for class in classes {
+        add_lambda(alloc, view, class, &mut all)?;
+    }
+    Ok(all)
+}

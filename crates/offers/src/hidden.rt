@@ -1,0 +1,150 @@
+ghost use Rattle.std.specs.Prelude.{◌≡◌, ◌≤◌, ◌++◌, map, take, length, not, get_or, [], if◌then◌else◌, codes, IfOk, OnOk};
+ghost use Rattle.std.specs.List.{list_any, filter, flat_map, range_with_len};
+ghost use Rattle.class_summary.specs.Sources.{joined, around, internal_name};
+ghost use Rattle.known_classes.specs.Known.{class_named};
+ghost use Rattle.offers.specs.Scenes.{is_among};
+ghost use Rattle.offers.specs.Spellings.{parts};
+ghost use Rattle.offers.specs.Omissions.{is_static_field, field_text, field_texts, prefixes, scope_names, field_names, names_around, names_above, taken_names, is_hidden, shown_of, after_five};
+ghost use Rattle.offers.specs.Views.{scene};
+
+use crate::candidates::same_kind;
+use crate::member::{Kind, Member};
+use crate::repeats::is_static;
+use crate::texts::{is_among, joined, parts};
+use crate::view::View;
+use crate::written::{after_four, owner_text, static_text};
+use lists::{Copies, Items, Text};
+use std::alloc::{AllocError, Global};
+use type_names::Erased;
+
+/// Whether a member is a static field.
+fn is_static_field(member: &Member) -> bool
+    ensures { result ≡ is_static_field member.now }
+{
+    same_kind(member.kind, Kind::Field) && is_static(member)
+}
+
+/// Adds the text of a member that is a static field.
+fn add_field_text(
+    alloc: Global,
+    view: &View<'_>,
+    member: &Member,
+    all: &mut Items<Text>,
+) -> Result<(), AllocError>
+    ensures { OnOk result (all.new ≡ all.old ++ field_text (scene view.now) member.now) }
+{
+    if is_static_field(member) {
+        all.push(static_text(alloc, view, member)?)?;
+    }
+    Ok(())
+}
+
+/// The texts of the static fields among these members.
+fn field_texts(
+    alloc: Global,
+    view: &View<'_>,
+    members: &[Member],
+) -> Result<Items<Text>, AllocError>
+    ensures { IfOk result (λ all. all ≡ field_texts (scene view.now) members.now) }
+{
+    let mut all = Items::new(alloc);
+    for member in members {
+        add_field_text(alloc, view, member, &mut all)?;
+    }
+    Ok(all)
+}
+
+/// The first n parts, with dots between them.
+fn prefix(alloc: Global, parts: &[Text], n: usize) -> Result<Text, AllocError>
+    requires { n ≤ length parts.now }
+    ensures { IfOk result (λ text. text ≡ joined (codes ".") (take n parts.now)) }
+{
+    let text = joined(alloc, ".", &parts[..n])?;
+    Ok(text)
+}
+
+/// A text, whole and cut before each of its dots.
+fn prefixes(alloc: Global, text: &Text) -> Result<Items<Text>, AllocError>
+    ensures { IfOk result (λ all. all ≡ prefixes text.now) }
+{
+    let parts = parts(alloc, text.as_str())?;
+    let mut all = Items::new(alloc);
+    for i in 0..parts.len() {
+        all.push(prefix(alloc, parts.as_slice(), i + 1)?)?;
+    }
+    Ok(all)
+}
+
+/// Whether one of these texts is among the others.
+fn is_any_among(texts: &[Text], others: &[Text]) -> bool
+    ensures { result ≡ list_any (is_among others.now) texts.now }
+{
+    texts.iter().any(|t| is_among(others, t.as_str()))
+}
+
+/// The first of these texts, the empty one where there is none.
+fn first_of(texts: &[Text]) -> &str
+    ensures { result.now ≡ get_or texts.now 0 [] }
+{
+    match texts {
+        [] => "",
+        [first, ..] => first.as_str(),
+    }
+}
+
+/// Whether a variable, a field or one of these static fields takes the text of a static member's owner.
+#[tactic(auto, unfolding(crate::specs::Omissions::is_hidden))]
+fn is_hidden(
+    alloc: Global,
+    view: &View<'_>,
+    names: &[Text],
+    fields: &[Text],
+    member: &Member,
+) -> Result<bool, AllocError>
+    ensures { IfOk result (λ yes. yes ≡ is_hidden (scene view.now) names.now fields.now member.now) }
+{
+    if !is_static(member) {
+        return Ok(false);
+    }
+    let owner = owner_text(alloc, view, member)?;
+    let parts = parts(alloc, owner.as_str())?;
+    let prefixes = prefixes(alloc, &owner)?;
+    Ok(is_among(names, first_of(parts.as_slice())) || is_any_among(prefixes.as_slice(), fields))
+}
+
+/// Copies of the members that are left after the fifth omission.
+fn shown_of(
+    alloc: Global,
+    view: &View<'_>,
+    names: &[Text],
+    members: &[Member],
+) -> Result<Items<Member>, AllocError>
+    ensures { IfOk result (λ all. all ≡ shown_of (scene view.now) names.now members.now) }
+{
+    let fields = field_texts(alloc, view, members)?;
+    let mut all = Items::new(alloc);
+    for member in members {
+        let hidden = is_hidden(alloc, view, names, fields.as_slice(), member)?;
+        if !hidden {
+            all.push(member.copy(alloc)?)?;
+        }
+    }
+    Ok(all)
+}
+
+/// The members that are left after all five omissions; `names` are those that variables and fields take.
+#[tactic(auto, unfolding(crate::specs::Omissions::after_five))]
+pub(crate) fn after_five(
+    alloc: Global,
+    view: &View<'_>,
+    types: &[Erased],
+    names: &[Text],
+    members: &[Member],
+) -> Result<Items<Member>, AllocError>
+    requires { names.now ≡ taken_names (scene view.now) }
+    ensures { IfOk result (λ all. all ≡ after_five (scene view.now) types.now members.now) }
+{
+    let left = after_four(alloc, view, types, members)?;
+    let shown = shown_of(alloc, view, names, left.as_slice())?;
+    Ok(shown)
+}

@@ -1,0 +1,150 @@
+ghost use Rattle.std.specs.Prelude.{◌≡◌, ◌++◌, ◌∷◌, [], if◌then◌else◌, IfOk, OnOk};
+ghost use Rattle.std.specs.List.{list_all};
+ghost use Rattle.offers.specs.Scenes.{of_class, at_or_below};
+ghost use Rattle.offers.specs.Functional.{is_interface, is_face, faces_above, is_there, is_whole};
+ghost use Rattle.offers.specs.Views.{scene};
+
+use crate::reach::{INTERFACE, has_flag};
+use crate::types::same_type;
+use crate::view::{View, of_class};
+use known_classes::ClassSummary;
+use lists::{Copies, Items, Text};
+use std::alloc::{AllocError, Global};
+
+/// Whether a class is an interface.
+pub(crate) fn is_interface(class: &ClassSummary) -> bool
+    ensures { result ≡ is_interface class.now }
+{
+    has_flag(class.flags, INTERFACE)
+}
+
+/// Whether a class is another, or below it.
+fn at_or_below(alloc: Global, view: &View<'_>, a: &Text, b: &Text) -> Result<bool, AllocError>
+    ensures { IfOk result (λ yes. yes ≡ at_or_below (scene view.now) (of_class a.now) (of_class b.now)) }
+{
+    let low = of_class(alloc, a)?;
+    let high = of_class(alloc, b)?;
+    if same_type(&low, &high) {
+        return Ok(true);
+    }
+    Ok(view.is_below(&low, &high))
+}
+
+/// Whether a class is below another.
+pub(crate) fn is_below(
+    alloc: Global,
+    view: &View<'_>,
+    a: &Text,
+    b: &Text,
+) -> Result<bool, AllocError>
+    ensures { IfOk result (λ yes. yes ≡ (scene view.now).below (of_class a.now) (of_class b.now)) }
+{
+    let low = of_class(alloc, a)?;
+    let high = of_class(alloc, b)?;
+    Ok(view.is_below(&low, &high))
+}
+
+/// Whether a class is an interface at or above another class.
+fn is_face(
+    alloc: Global,
+    view: &View<'_>,
+    class: &ClassSummary,
+    other: &ClassSummary,
+) -> Result<bool, AllocError>
+    ensures { IfOk result (λ yes. yes ≡ is_face (scene view.now) class.now other.now) }
+{
+    if !is_interface(other) {
+        return Ok(false);
+    }
+    let at = at_or_below(alloc, view, &class.name, &other.name)?;
+    Ok(at)
+}
+
+/// Adds a copy of an interface at or above a class.
+fn add_face(
+    alloc: Global,
+    view: &View<'_>,
+    class: &ClassSummary,
+    other: &ClassSummary,
+    all: &mut Items<ClassSummary>,
+) -> Result<(), AllocError>
+    ensures { OnOk result (all.new ≡ all.old ++ (if is_face (scene view.now) class.now other.now then other.now ∷ [] else [])) }
+{
+    let is_one = is_face(alloc, view, class, other)?;
+    if is_one {
+        all.push(other.copy(alloc)?)?;
+    }
+    Ok(())
+}
+
+/// Copies of the known interfaces at or above a class.
+#[tactic(auto, unfolding(crate::specs::Functional::faces_above))]
+pub(crate) fn faces_above(
+    alloc: Global,
+    view: &View<'_>,
+    class: &ClassSummary,
+) -> Result<Items<ClassSummary>, AllocError>
+    ensures { IfOk result (λ all. all ≡ faces_above (scene view.now) class.now) }
+{
+    let mut all = Items::new(alloc);
+    for place in 0..view.count() {
+        add_face(alloc, view, class, view.at(place), &mut all)?;
+    }
+    Ok(all)
+}
+
+/// Whether a class isn't above another, is Object, or is known.
+fn is_there(
+    alloc: Global,
+    view: &View<'_>,
+    class: &ClassSummary,
+    name: &Text,
+) -> Result<bool, AllocError>
+    ensures { IfOk result (λ yes. yes ≡ is_there (scene view.now) class.now name.now) }
+{
+    let below = is_below(alloc, view, &class.name, name)?;
+    if !below {
+        return Ok(true);
+    }
+    if name.as_str() == "java/lang/Object" {
+        return Ok(true);
+    }
+    Ok(view.class(name.as_str()).is_some())
+}
+
+/// Whether this holds of each of these.
+fn are_there(
+    alloc: Global,
+    view: &View<'_>,
+    class: &ClassSummary,
+    names: &[Text],
+) -> Result<bool, AllocError>
+    ensures { IfOk result (λ yes. yes ≡ list_all (is_there (scene view.now) class.now) names.now) }
+{
+    for name in names {
+        let there = is_there(alloc, view, class, name)?;
+        if !there {
+            return Ok(false);
+        }
+    }
+    Ok(true)
+}
+
+/// Whether what stands above a class is known, but for java/lang/Object.
+#[tactic(auto, unfolding(crate::specs::Functional::is_whole))]
+pub(crate) fn is_whole(
+    alloc: Global,
+    view: &View<'_>,
+    class: &ClassSummary,
+) -> Result<bool, AllocError>
+    ensures { IfOk result (λ yes. yes ≡ is_whole (scene view.now) class.now) }
+{
+    for place in 0..view.count() {
+        let supers = view.at(place).supers.as_slice();
+        let there = are_there(alloc, view, class, supers)?;
+        if !there {
+            return Ok(false);
+        }
+    }
+    Ok(true)
+}

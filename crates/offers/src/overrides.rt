@@ -1,0 +1,116 @@
+ghost use Rattle.std.specs.Prelude.{◌≡◌, not, IfOk, ◌∷◌};
+ghost use Rattle.std.specs.List.{list_any, filter};
+ghost use Rattle.offers.specs.declared.member.Kind.{Kind};
+ghost use Rattle.offers.specs.Scenes.{of_class, same_type};
+ghost use Rattle.offers.specs.Reach.{offered};
+ghost use Rattle.offers.specs.Candidates.{value};
+ghost use Rattle.offers.specs.Omissions.{is_instance, same_types, overrides, left_of, after_two, after_three};
+ghost use Rattle.offers.specs.Views.{scene};
+
+use crate::candidates::same_kind;
+use crate::member::{Kind, Member};
+use crate::repeats::{after_two, is_private, is_static, value};
+use crate::types::{same_type, same_types};
+use crate::view::{View, of_class};
+use known_classes::ClassSummary;
+use lists::{Copies, Items};
+use std::alloc::{AllocError, Global};
+
+/// Whether a member is a method that isn't static.
+pub(crate) fn is_instance(member: &Member) -> bool
+    ensures { result ≡ is_instance member.now }
+{
+    same_kind(member.kind, Kind::Method) && !is_static(member)
+}
+
+/// Whether methods have one descriptor.
+fn same_descriptor(alloc: Global, a: &Member, b: &Member) -> Result<bool, AllocError>
+    ensures { IfOk result (λ same. same ≡ same_types (value a.now ∷ a.now.params) (value b.now ∷ b.now.params)) }
+{
+    let left = value(alloc, a)?;
+    let right = value(alloc, b)?;
+    if !same_type(&left, &right) {
+        return Ok(false);
+    }
+    Ok(same_types(a.params.as_slice(), b.params.as_slice()))
+}
+
+/// Whether the owner of a member is a strict subtype of that of another.
+fn is_owner_below(
+    alloc: Global,
+    view: &View<'_>,
+    a: &Member,
+    b: &Member,
+) -> Result<bool, AllocError>
+    ensures { IfOk result (λ yes. yes ≡ (scene view.now).below (of_class a.now.owner) (of_class b.now.owner)) }
+{
+    let low = of_class(alloc, &a.owner)?;
+    let high = of_class(alloc, &b.owner)?;
+    Ok(view.is_below(&low, &high))
+}
+
+/// Whether a method stands for another of its name and descriptor in a type above its owner.
+#[tactic(auto, unfolding(crate::specs::Omissions::overrides))]
+fn overrides(alloc: Global, view: &View<'_>, a: &Member, b: &Member) -> Result<bool, AllocError>
+    ensures { IfOk result (λ yes. yes ≡ overrides (scene view.now) a.now b.now) }
+{
+    if !is_instance(a) || !is_instance(b) || is_private(b) {
+        return Ok(false);
+    }
+    if a.name.as_str() != b.name.as_str() {
+        return Ok(false);
+    }
+    let same = same_descriptor(alloc, a, b)?;
+    if !same {
+        return Ok(false);
+    }
+    let below = is_owner_below(alloc, view, a, b)?;
+    Ok(below)
+}
+
+/// Whether a method stands for one of these.
+fn is_overriding(
+    alloc: Global,
+    view: &View<'_>,
+    member: &Member,
+    members: &[Member],
+) -> Result<bool, AllocError>
+    ensures { IfOk result (λ yes. yes ≡ list_any (overrides (scene view.now) member.now) members.now) }
+{
+    for other in members {
+        let over = overrides(alloc, view, member, other)?;
+        if over {
+            return Ok(true);
+        }
+    }
+    Ok(false)
+}
+
+/// Copies of the members that stand for none of the others.
+fn left_of(alloc: Global, view: &View<'_>, members: &[Member]) -> Result<Items<Member>, AllocError>
+    ensures { IfOk result (λ all. all ≡ left_of (scene view.now) members.now) }
+{
+    let mut all = Items::new(alloc);
+    for member in members {
+        let over = is_overriding(alloc, view, member, members)?;
+        if !over {
+            all.push(member.copy(alloc)?)?;
+        }
+    }
+    Ok(all)
+}
+
+/// The candidates of the offered classes after the first three omissions.
+#[tactic(auto, unfolding(crate::specs::Omissions::after_two, crate::specs::Omissions::after_three))]
+pub(crate) fn after_three(
+    alloc: Global,
+    view: &View<'_>,
+    classes: &[ClassSummary],
+) -> Result<Items<Member>, AllocError>
+    requires { classes.now ≡ offered (scene view.now) }
+    ensures { IfOk result (λ all. all ≡ after_three (scene view.now)) }
+{
+    let members = after_two(alloc, view, classes)?;
+    let left = left_of(alloc, view, members.as_slice())?;
+    Ok(left)
+}

@@ -1,0 +1,144 @@
+ghost use Rattle.std.specs.Prelude.{◌≡◌, ◌||◌, [], fold, IfOk, OnOk};
+ghost use Rattle.std.specs.List.{list_any, filter, flat_map};
+ghost use Rattle.offers.specs.declared.member.Kind.{Kind};
+ghost use Rattle.offers.specs.Spellings.{is_identifier};
+ghost use Rattle.offers.specs.Candidates.{same_kind, is_static, is_private, value, candidates};
+ghost use Rattle.offers.specs.Omissions.{is_kin, is_again, is_named, with_first, firsts};
+ghost use Rattle.offers.specs.Views.{scene};
+
+use crate::candidates::{candidates, same_kind};
+use crate::member::{Kind, Member};
+use crate::reach::{PRIVATE, STATIC, has_flag};
+use crate::types::same_types;
+use crate::view::{View, of_class};
+use crate::words::is_identifier;
+use known_classes::ClassSummary;
+use lists::{Copies, Items};
+use std::alloc::{AllocError, Global};
+use type_names::Erased;
+
+/// Whether a field or a method is static.
+pub(crate) fn is_static(member: &Member) -> bool
+    ensures { result ≡ is_static member.now }
+{
+    has_flag(member.flags, STATIC) && !same_kind(member.kind, Kind::Constructor)
+}
+
+/// Whether a member is private.
+pub(crate) fn is_private(member: &Member) -> bool
+    ensures { result ≡ is_private member.now }
+{
+    has_flag(member.flags, PRIVATE)
+}
+
+/// The type of what a member gives.
+pub(crate) fn value(alloc: Global, member: &Member) -> Result<Erased, AllocError>
+    ensures { IfOk result (λ kind. kind ≡ value member.now) }
+{
+    if let Kind::Constructor = member.kind {
+        let class = of_class(alloc, &member.owner)?;
+        return Ok(class);
+    }
+    match &member.result {
+        Some(kind) => kind.copy(alloc),
+        None => of_class(alloc, &member.owner),
+    }
+}
+
+/// Whether a member is a constructor or its name an identifier.
+fn is_named(member: &Member) -> bool
+    ensures { result ≡ (same_kind member.now.kind Kind.Constructor || is_identifier member.now.name) }
+{
+    same_kind(member.kind, Kind::Constructor) || is_identifier(member.name.as_str())
+}
+
+/// Whether members are of one kind and name.
+pub(crate) fn is_kin(a: &Member, b: &Member) -> bool
+    ensures { result ≡ is_kin a.now b.now }
+{
+    same_kind(a.kind, b.kind) && a.name.as_str() == b.name.as_str()
+}
+
+/// Whether members are of one kind, name and parameter types.
+fn is_again(a: &Member, b: &Member) -> bool
+    ensures { result ≡ is_again a.now b.now }
+{
+    is_kin(a, b) && same_types(a.params.as_slice(), b.params.as_slice())
+}
+
+/// Whether one of these members is of the member's kind, name and parameter types.
+fn is_repeated(member: &Member, kept: &[Member]) -> bool
+    ensures { result ≡ list_any (is_again member.now) kept.now }
+{
+    for other in kept {
+        if is_again(member, other) {
+            return true;
+        }
+    }
+    false
+}
+
+/// Copies of those of these members that are constructors or whose names are identifiers.
+fn named(alloc: Global, view: &View<'_>, members: &[Member]) -> Result<Items<Member>, AllocError>
+    ensures { IfOk result (λ all. all ≡ filter (is_named (scene view.now)) members.now) }
+{
+    let mut all = Items::new(alloc);
+    for member in members {
+        if is_named(member) {
+            all.push(member.copy(alloc)?)?;
+        }
+    }
+    Ok(all)
+}
+
+/// Adds a copy of a member, unless one of its kind, name and parameter types is there.
+#[tactic(auto, unfolding(crate::specs::Omissions::with_first))]
+fn add_first(alloc: Global, kept: &mut Items<Member>, member: &Member) -> Result<(), AllocError>
+    ensures { OnOk result (kept.new ≡ with_first kept.old member.now) }
+{
+    if is_repeated(member, kept.as_slice()) {
+        return Ok(());
+    }
+    kept.push(member.copy(alloc)?)?;
+    Ok(())
+}
+
+/// Of each kind, name and parameter types the first of these members.
+fn firsts(alloc: Global, members: &[Member]) -> Result<Items<Member>, AllocError>
+    ensures { IfOk result (λ all. all ≡ firsts members.now) }
+{
+    let mut kept = Items::new(alloc);
+    for member in members {
+        add_first(alloc, &mut kept, member)?;
+    }
+    Ok(kept)
+}
+
+/// The candidates of a class after the first two omissions.
+fn left_in(
+    alloc: Global,
+    view: &View<'_>,
+    class: &ClassSummary,
+) -> Result<Items<Member>, AllocError>
+    ensures { IfOk result (λ all. all ≡ firsts (filter (is_named (scene view.now)) (candidates (scene view.now) class.now))) }
+{
+    let all = candidates(alloc, view, class)?;
+    let named = named(alloc, view, all.as_slice())?;
+    let kept = firsts(alloc, named.as_slice())?;
+    Ok(kept)
+}
+
+/// The candidates of these classes after the first two omissions.
+pub(crate) fn after_two(
+    alloc: Global,
+    view: &View<'_>,
+    classes: &[ClassSummary],
+) -> Result<Items<Member>, AllocError>
+    ensures { IfOk result (λ all. all ≡ flat_map (λ c. firsts (filter (is_named (scene view.now)) (candidates (scene view.now) c))) classes.now) }
+{
+    let mut all = Items::new(alloc);
+    for class in classes {
+        all.append(left_in(alloc, view, class)?)?;
+    }
+    Ok(all)
+}
