@@ -1,6 +1,7 @@
 -- No entry of a written pool stands twice.
-use Rattle.std.proofs.Common.{◌≡◌, ◌≢◌, ℕ, Bool, true, false, ◌||◌, cond, List, [], ◌∷◌, ◌++◌, map, fold, length, ◌<◌, refl, sym, ap, ◌∙◌, Option, Some, None}
+use Rattle.std.proofs.Common.{◌≡◌, ◌≢◌, ℕ, zero, suc, arith, AllPairs, Bool, true, false, ◌||◌, cond, List, [], ◌∷◌, ◌++◌, map, fold, length, ◌<◌, refl, sym, ap, ◌∙◌, Option, Some, None}
 use Rattle.std.specs.List.{flat_map, AllByRecursion}
+use Rattle.std.proofs.lemmas.List.Elements.{All-from_recursion}
 use Rattle.byteorder.specs.Endian.{big_number}
 use Rattle.class_pool.specs.Spelling.{utf8, fixed}
 use Rattle.class_pool.specs.Index.{text_in}
@@ -11,7 +12,7 @@ use Rattle.class_shape.specs.declared.shapes.MemberShape.{MemberShape}
 use Rattle.class_shape.specs.declared.shapes.InnerRow.{InnerRow}
 use Rattle.workload.specs.Modified.{modified}
 use Rattle.workload.specs.Needs.{Needed, class, text, same, add, once, needs, place, optional, class_needs, text_needs, member_needs, row_needs, inner_needs}
-use Rattle.workload.specs.Layout.{entry_in, entries_in, pool_of, AreDistinct}
+use Rattle.workload.specs.Layout.{entry_in, entries_in, pool_of}
 use Rattle.workload.specs.Spelled.{IsSpelled}
 use Rattle.workload.proofs.PoolLaws.{has, has_all, same_self, text_stands, place_short, number_again}
 use Rattle.workload.proofs.FileLaws.{Holds, IsGood, split, spells}
@@ -155,11 +156,16 @@ apart_from : (pool : List Needed) (x : Needed) (ys : List Needed) → IsGood poo
 apart_from pool x [] good p named apart = tt
 apart_from pool x (y ∷ ys) good p named apart = ((λ e. apart.0 (entry_same pool x y good p named.0 e)), apart_from pool x ys good p named.1 apart.1)
 
-distinct_in : (pool xs : List Needed) → IsGood pool → Named pool xs → Apart xs → AreDistinct (map (entry_in pool) xs)
-distinct_in pool [] good named apart = tt
-distinct_in pool (x ∷ xs) good named apart = (apart_from pool x xs good named.0 named.1 apart.0, distinct_in pool xs good named.1 apart.1)
+pairs_cons : {X : Type 0} (R : X → X → Type 0) (x : X) (xs : List X) → AllByRecursion (R x) xs → AllPairs R xs → AllPairs R (x ∷ xs)
+pairs_cons R x xs first rest i zero d l m = absurd (omega (arith, l))
+pairs_cons R x xs first rest zero (suc j) d l m = All-from_recursion (R x) xs first j d (omega (arith, m))
+pairs_cons R x xs first rest (suc i) (suc j) d l m = rest i j d (omega (arith, l)) (omega (arith, m))
 
-pub pool_distinct : (s : ClassShape) → length (pool_of s) < 65535 → AllByRecursion IsSpelled (pool_of s) → AreDistinct (entries_in (pool_of s))
+distinct_in : (pool xs : List Needed) → IsGood pool → Named pool xs → Apart xs → AllPairs (λ a b. a ≢ b) (map (entry_in pool) xs)
+distinct_in pool [] good named apart = λ i j d l m. absurd (omega (arith, m))
+distinct_in pool (x ∷ xs) good named apart = pairs_cons (λ a b. a ≢ b) (entry_in pool x) (map (entry_in pool) xs) (apart_from pool x xs good named.0 named.1 apart.0) (distinct_in pool xs good named.1 apart.1)
+
+pub pool_distinct : (s : ClassShape) → length (pool_of s) < 65535 → AllByRecursion IsSpelled (pool_of s) → AllPairs (λ a b. a ≢ b) (entries_in (pool_of s))
 pool_distinct s small spelled =
     let good : IsGood (pool_of s) = record { small = small; spelled = spelled } in
     let named : Named (pool_of s) (needs s) = needs_named s (pool_of s) (has_all (needs s)) in

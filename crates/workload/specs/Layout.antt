@@ -1,7 +1,7 @@
 -- The one file that is written of a shape: its pool holds each needed entry once, where it is first needed, and
 -- its parts name these places. No member has an attribute (JVMS 4.1 to 4.7).
-use Rattle.std.specs.Prelude.{◌≢◌, ⊤, ℕ, ◌+◌, ◌*◌, List, [], ◌∷◌, ◌++◌, map, length, Option, Some, None}
-use Rattle.std.specs.List.{flat_map, AllByRecursion}
+use Rattle.std.specs.Prelude.{ℕ, ◌+◌, ◌*◌, List, [], ◌∷◌, ◌++◌, map, length, Option, Some, None}
+use Rattle.std.specs.List.{flat_map}
 use Rattle.byteorder.specs.Endian.{big_bytes}
 use Rattle.class_pool.specs.Spelling.{Entry, utf8, fixed, Head, head}
 use Rattle.class_shape.specs.declared.shapes.ClassShape.{ClassShape}
@@ -62,11 +62,6 @@ body_in pool s = record { own = own_in pool s; lists = lists_in pool s }
 
 abbrev pub head_in : List Needed → ClassShape → Head
 head_in pool s = record { header = record { minor = s.minor; major = s.major; count = length pool + 1 }; entries = entries_in pool }
-
--- No entry stands twice.
-abbrev pub AreDistinct : List Entry → Type 0
-AreDistinct [] = ⊤
-AreDistinct (e ∷ es) = AllByRecursion (λ x. e ≢ x) es × AreDistinct es
 
 -- The entries that the pool of a shape's file holds, by their places from 1 on.
 abbrev pub pool_of : ClassShape → List Needed

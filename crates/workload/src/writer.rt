@@ -1,10 +1,10 @@
-ghost use Rattle.std.specs.Prelude.{◌≡◌, ◌≤◌, ◌<◌, ◌++◌, OnOk, IfOk, IfErr, true, false, length};
+ghost use Rattle.std.specs.Prelude.{◌≡◌, ◌≤◌, ◌<◌, ◌++◌, OnOk, IfOk, IfErr, true, false, length, ◌≢◌, AllPairs};
 ghost use Rattle.std.specs.List.{list_any};
 ghost use Rattle.class_pool.specs.Spelling.{Head, IsPoolOf, head, header_bytes};
 ghost use Rattle.class_shape.specs.Parts.{body};
 ghost use Rattle.class_shape.specs.Shapes.{IsClassFile};
 ghost use Rattle.workload.specs.declared.fault.WriteFault.TheVariants.{TooBig};
-ghost use Rattle.workload.specs.Layout.{head_in, body_in, pool_of, file_of, entries_in, AreDistinct};
+ghost use Rattle.workload.specs.Layout.{head_in, body_in, pool_of, file_of, entries_in};
 ghost use Rattle.workload.specs.Writing.{IsWhole, is_too_big, has_long_list, is_long_text};
 ghost use Rattle.workload.specs.Spelled.{IsWritten};
 
@@ -89,7 +89,7 @@ pub fn write_class(alloc: Global, shape: &ClassShape) -> Result<Items<u8>, Write
     // The pool that a reader finds holds each needed entry once, where it is first needed.
     ensures pool { IfOk result (λ bytes. (h : Head) → IsPoolOf bytes h → h.entries ≡ entries_in (pool_of shape.now)) }
     // No entry of that pool stands twice.
-    ensures distinct { IfOk result (λ bytes. (h : Head) → IsPoolOf bytes h → AreDistinct h.entries) }
+    ensures distinct { IfOk result (λ bytes. (h : Head) → IsPoolOf bytes h → AllPairs (λ a b. a ≢ b) h.entries) }
     // A shape that is too big is not written.
     ensures small { IfOk result (λ bytes. is_too_big shape.now ≡ false) }
     // Only a shape that is too big is refused as such.
