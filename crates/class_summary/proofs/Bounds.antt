@@ -7,9 +7,9 @@ use Rattle.java_units.specs.declared.types.TypeText.{TypeText}
 use Rattle.java_units.specs.declared.types.TypeVar.{TypeVar}
 use Rattle.known_classes.specs.NameTables.{Table}
 use Rattle.known_classes.proofs.TableLemmas.{swap}
-use Rattle.class_summary.specs.declared.variables.Ending.{Ending}
+use Rattle.class_summary.specs.declared.ends.Ending.{Ending}
 use Rattle.class_summary.specs.VariableTables.{bound_at}
-use Rattle.class_summary.specs.Variables.{Scope, End, Found, bound_of, found_here, variable_in, variable_of, end_at, more_dims, by_bound, by_variable, through, variables, end_with}
+use Rattle.class_summary.specs.Variables.{Scope, End, Found, bound_of, found_here, variable_in, end_at, variables}
 
 bound-nil : (name : List ℕ) → bound_of name [] ≡ None
 unfolding bound_of
@@ -51,11 +51,6 @@ bounds_end vars left table l h name =
     let z : left ≡ 0 = omega arith in
     h.each name ∙ ap (λ (k : ℕ). bound_of name (drop k vars)) z
 
--- the bound of a variable that is handed out
-pub bound_copied : (found : Option (Bor TypeVar)) → option_map (λ (v : Bor TypeVar). v.now.bound) found ≡ option_map (λ (v : TypeVar). v.bound) (option_copied found)
-bound_copied None = refl
-bound_copied (Some v) = refl
-
 variable-cons : (name : List ℕ) (s : Scope) (ss : List Scope) → variable_in name (s ∷ ss) ≡ found_here s ss (bound_of name s.vars) (variable_in name ss)
 unfolding variable_in
 variable-cons name s ss = refl
@@ -90,81 +85,6 @@ steps_on ss i s old new l at e h =
     let t : variables (take (i + 1) ss) ≡ variables (take i ss) + length (get_or ss i s).vars = ap (λ (k : ℕ). variables (take k ss)) (add-one i) ∙ variables-take ss i s l in
     let v : length s.vars ≡ length (get_or ss i s).vars = ap (λ (x : Scope). length x.vars) at in
     omega (arith, t, v, e, h)
-
-through-suc : (n class : ℕ) (parts : List (List ℕ)) (ss : List Scope) → through (suc n) class parts ss ≡ by_variable class parts (variable_of parts ss) (λ f b. through n f.class b.parts f.scopes)
-unfolding through
-through-suc n class parts ss = refl
-
-through-zero : (class : ℕ) (parts : List (List ℕ)) (ss : List Scope) → through 0 class parts ss ≡ None
-unfolding through
-through-zero class parts ss = refl
-
-more-is : (d : ℕ) (x : Option End) → is_some (more_dims d x) ≡ is_some x
-more-is d None = refl
-more-is d (Some x) = refl
-
-more-more : (a b : ℕ) (x : Option End) → more_dims a (more_dims b x) ≡ more_dims (a + b) x
-more-more a b None = refl
-more-more a b (Some x) = ap (λ (d : ℕ). Some (end_at d x.class x.parts)) (sym (add_assoc a b x.dims))
-
-with-more : (own class : ℕ) (w : Option End) (e : End) → more_dims own w ≡ Some e → end_with own class w ≡ e
-with-more own class None e h = absurd (cc)
-with-more own class (Some x) e h = cc
-
-none-from : (w : Option End) → is_some w ≡ false → w ≡ None
-none-from None e = refl
-none-from (Some x) e = absurd (cc)
-
--- what is left of the way ends where the whole does, with the dimensions up to here where these fit
-pub record GoesOn (whole : Option End) (own : ℕ) (dims : Option ℕ) (left class : ℕ) (parts : List (List ℕ)) (ss : List Scope) : Type 0 where
-  pub ends : is_some whole ≡ is_some (through left class parts ss)
-  pub same : (d : ℕ) → dims ≡ Some d → more_dims own whole ≡ more_dims d (through left class parts ss)
-
-pub goes_first : (own n left class : ℕ) (all parts : List (List ℕ)) (ss : List Scope) → parts ≡ all → n ≡ left → GoesOn (through n class all ss) own (Some own) left class parts ss
-goes_first own n left class all parts ss e l =
-    let t : through n class all ss ≡ through left class parts ss = ap (λ (k : ℕ). through k class all ss) l ∙ ap (λ (p : List (List ℕ)). through left class p ss) (sym e) in
-    record {
-      ends = ap is_some t;
-      same = λ d x. let q : own ≡ d = cc in ap (λ (k : ℕ). more_dims k (through n class all ss)) q ∙ ap (more_dims d) t;
-    }
-
--- one step of what is left
-opened : (left class : ℕ) (parts : List (List ℕ)) (ss : List Scope) (f : Option Found) → 0 < left → variable_of parts ss ≡ f → through left class parts ss ≡ by_variable class parts f (λ f b. through (left - 1) f.class b.parts f.scopes)
-opened left class parts ss f l e =
-    let s : left ≡ suc (left - 1) = omega arith in
-    ap (λ (k : ℕ). through k class parts ss) s ∙ (through-suc (left - 1) class parts ss ∙ ap (λ (q : Option Found). by_variable class parts q (λ f b. through (left - 1) f.class b.parts f.scopes)) e)
-
-stopped : (whole : Option End) (own d class left here at : ℕ) (dims : Option ℕ) (parts : List (List ℕ)) (ss : List Scope) (last : Option (List (List ℕ))) → GoesOn whole own dims left here parts ss → dims ≡ Some d → through left here parts ss ≡ Some (end_at 0 at last) → end_at d at last ≡ end_with own class whole
-stopped whole own d class left here at dims parts ss last g e t =
-    sym (with-more own class whole (end_at d at last) (g.same d e ∙ (ap (more_dims d) t ∙ ap (λ (k : ℕ). Some (end_at k at last)) (add-zero d))))
-
--- the name is no variable
-pub goes_name : (whole : Option End) (own d class left here : ℕ) (dims : Option ℕ) (parts : List (List ℕ)) (ss : List Scope) → 0 < left → GoesOn whole own dims left here parts ss → dims ≡ Some d → variable_of parts ss ≡ None → end_at d here (Some parts) ≡ end_with own class whole
-goes_name whole own d class left here dims parts ss l g e v = stopped whole own d class left here here dims parts ss (Some parts) g e (opened left here parts ss None l v)
-
--- it is a variable without a bound
-pub goes_object : (whole : Option End) (own d class left here : ℕ) (dims : Option ℕ) (parts : List (List ℕ)) (ss : List Scope) (f : Found) → 0 < left → GoesOn whole own dims left here parts ss → dims ≡ Some d → variable_of parts ss ≡ Some f → f.bound ≡ None → end_at d f.class None ≡ end_with own class whole
-goes_object whole own d class left here dims parts ss f l g e v b =
-    stopped whole own d class left here f.class dims parts ss None g e (opened left here parts ss (Some f) l v ∙ ap (λ (x : Option TypeText). by_bound f.class x (λ b. through (left - 1) f.class b.parts f.scopes)) b)
-
--- it is a variable with a bound
-pub goes_bound : (whole : Option End) (own left here : ℕ) (dims new : Option ℕ) (parts : List (List ℕ)) (ss : List Scope) (f : Found) (b : TypeText) → 0 < left → GoesOn whole own dims left here parts ss → variable_of parts ss ≡ Some f → f.bound ≡ Some b → IfSome new (λ sum. (b.dims ≤ sum) × (dims ≡ Some (sum - b.dims))) → GoesOn whole own new (left - 1) f.class b.parts f.scopes
-goes_bound whole own left here dims new parts ss f b l g v e s =
-    let rest : Option End = through (left - 1) f.class b.parts f.scopes in
-    let t : through left here parts ss ≡ more_dims b.dims rest = opened left here parts ss (Some f) l v ∙ ap (λ (x : Option TypeText). by_bound f.class x (λ b. through (left - 1) f.class b.parts f.scopes)) e in
-    record {
-      ends = g.ends ∙ (ap is_some t ∙ more-is b.dims rest);
-      same = λ d x. let P : Option ℕ → Type 0 = λ o. IfSome o (λ sum. (b.dims ≤ sum) × (dims ≡ Some (sum - b.dims))) in
-          let y : (b.dims ≤ d) × (dims ≡ Some (d - b.dims)) = subst P x s in
-          let z : d - b.dims + b.dims ≡ d = omega (arith, y.0) in
-          g.same (d - b.dims) y.1 ∙ (ap (more_dims (d - b.dims)) t ∙ (more-more (d - b.dims) b.dims rest ∙ ap (λ (k : ℕ). more_dims k rest) z));
-    }
-
--- there are more bounds than variables
-pub goes_round : (whole : Option End) (own class left here : ℕ) (dims : Option ℕ) (parts : List (List ℕ)) (ss : List Scope) → left ≡ 0 → GoesOn whole own dims left here parts ss → end_at own class None ≡ end_with own class whole
-goes_round whole own class left here dims parts ss l g =
-    let n : is_some whole ≡ false = g.ends ∙ ap is_some (ap (λ (k : ℕ). through k here parts ss) l ∙ through-zero here parts ss) in
-    ap (end_with own class) (sym (none-from whole n))
 
 -- an end that was made so
 pub ended_with : {E : Type 0} (r : Result Ending E) (dims : Option ℕ) (class : ℕ) (parts : Option (List (List ℕ))) (whole : End) → IfOk r (λ end. (dims ≡ Some end.dims) × (end.class ≡ class) × (option_copied end.parts ≡ parts)) → ((d : ℕ) → dims ≡ Some d → end_at d class parts ≡ whole) → IfOk r (λ end. end_at end.dims end.class (option_copied end.parts) ≡ whole)

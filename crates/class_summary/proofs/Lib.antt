@@ -2,6 +2,8 @@ pub mod Bounds
 pub mod Greatest
 pub mod Imports
 pub mod Rows
+pub mod Scopes
 pub mod Searches
 pub mod Sources
 pub mod UnitTables
+pub mod VariableEnds

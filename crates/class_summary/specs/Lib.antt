@@ -2,6 +2,7 @@ pub mod Flags
 pub mod Summaries
 pub mod Sources
 pub mod Variables
+pub mod VariableEnds
 pub mod VariableTables
 pub mod Names
 pub mod ImportTables

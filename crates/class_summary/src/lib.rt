@@ -4,6 +4,8 @@
 // on, on `class_shape` and on `java_units`.
 #![tactic(auto)]
 
+mod bound_order;
+mod ends;
 mod naming;
 mod paths;
 mod resolver;
@@ -11,6 +13,7 @@ mod rules;
 mod shape;
 mod single_imports;
 mod source;
+mod unit_ends;
 mod unit_names;
 mod variable_names;
 mod variables;

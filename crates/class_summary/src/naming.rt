@@ -2,12 +2,14 @@ ghost use Rattle.std.specs.Prelude.{◌≡◌, ◌+◌, ◌<◌, ◌^◌, IfOk};
 ghost use Rattle.std.specs.Option.{option_copied};
 ghost use Rattle.java_units.specs.UnitLaws.{IsNested};
 ghost use Rattle.java_units.specs.Dimensions.{dims_of_bounds};
+ghost use Rattle.class_summary.specs.Variables.{end_at, end_of, scopes_at};
 ghost use Rattle.class_summary.specs.Names.{internal_of, simple_class, canonical_of, member_class, dotted_class, in_package_else, class_of_name, primitive, primitive_of, base_of, denoted_type};
 
+use crate::ends::{Ending, end_of};
 use crate::paths::{canonical_name, follow, joined};
 use crate::rules::{Denoted, class_with, internal_of, is, joined_with, simple_class, spelled};
 use crate::unit_names::UnitNames;
-use crate::variables::{end_of, scopes_at};
+use crate::variables::scopes_at;
 use java_units::TypeText;
 use known_classes::{Classes, canonical_named};
 use lists::{Copies, Text};
@@ -165,6 +167,22 @@ fn base_of<C: Classes>(
     Ok(Base::Class(internal_of(alloc, unit, &found)?))
 }
 
+/// Where a type ends at a class of the text, or at a method of it, through the bounds of its variables.
+fn end_at<'a>(
+    alloc: Global,
+    unit: &UnitNames<'a>,
+    class: usize,
+    method: Option<usize>,
+    kind: &'a TypeText,
+) -> Result<Ending<'a>, AllocError>
+    requires { IsNested unit.now.classes }
+    ensures { IfOk result (λ end. end_at end.dims end.class (option_copied end.parts) ≡ end_of (scopes_at unit.now.classes class method) class kind.now) }
+{
+    let scopes = scopes_at(alloc, unit.classes(), unit.variables(), class, method)?;
+    let own = unit.ends_at(class, method)?;
+    end_of(scopes.as_slice(), unit.class_ends(), own, class, kind)
+}
+
 /// The erased type that a type denotes at a class of the text, or at a method of it.
 #[tactic(auto, unfolding(crate::specs::Names::denoted_type))]
 pub fn resolve_at<C: Classes>(
@@ -179,8 +197,7 @@ pub fn resolve_at<C: Classes>(
     requires dims { name.now.dims + dims_of_bounds unit.now.classes < 2 ^ 64 }
     ensures { IfOk result (λ kind. kind ≡ denoted_type unit.now class method name.now (C.listed known.now)) }
 {
-    let scopes = scopes_at(alloc, unit, class, method)?;
-    let end = end_of(scopes.as_slice(), class, name)?;
+    let end = end_at(alloc, unit, class, method, name)?;
     let base = base_of(alloc, unit, end.class, known, end.parts)?;
     Ok(Erased {
         dims: end.dims,

@@ -3,12 +3,16 @@ ghost use Rattle.std.specs.Option.{option_copied};
 ghost use Rattle.std.specs.BTreeMap.{get_by_text};
 ghost use Rattle.class_summary.specs.Sources.{name_at, internal_name, canonical_name};
 ghost use Rattle.class_summary.specs.Names.{own_by_canonical, member_named, imported, enclosing};
+ghost use Rattle.class_summary.specs.Variables.{scopes_at};
+ghost use Rattle.class_summary.specs.VariableEnds.{AreEnds, AreClassEnds};
 ghost use Rattle.class_summary.specs.UnitTables.{numbered, GivesCanonical, GivesTop, GiveMembers};
 ghost use Rattle.known_classes.specs.NameTables.{Table};
 
+use crate::ends::Ends;
 use crate::paths::{canonical_name, internal_name};
 use crate::rules::is_member;
 use crate::single_imports::singles_in;
+use crate::unit_ends::UnitEnds;
 use crate::variable_names::ClassVariables;
 use java_units::{Import, SourceClass, Unit};
 use known_classes::{put, put_at};
@@ -30,6 +34,8 @@ pub struct UnitNames<'a> {
     members: Vec<BTreeMap<String, usize>>,
     /// For each class its type variables and those of its methods.
     variables: Vec<ClassVariables<'a>>,
+    /// Where these variables end through their bounds.
+    ends: UnitEnds<'a>,
     /// The places of the imports without star by their last names, of several the first.
     single: BTreeMap<String, usize>,
 }
@@ -39,13 +45,14 @@ impl<'a> Model for UnitNames<'a> {
     ghost use Rattle.std.specs.BTreeMap.{get_by_text};
     ghost use Rattle.class_summary.specs.Sources.{internal_name};
     ghost use Rattle.class_summary.specs.ImportTables.{GivesImported};
+    ghost use Rattle.class_summary.specs.VariableEnds.{AreClassEnds, AreMethodEnds};
     ghost use Rattle.class_summary.specs.UnitTables.{SourceUnit, numbered, GivesCanonical, GivesTop, GiveMembers};
 
     ghost Value = { SourceUnit };
 
     ghost view = { λ n. n.unit.now };
 
-    ghost invariant = { λ n. (n.internal ≡ numbered (internal_name n.unit.now) 0 (length n.unit.now.classes)) × GivesCanonical n.unit.now (get_by_text n.by_canonical) × GivesTop n.unit.now.classes (get_by_text n.top) × GiveMembers n.unit.now.classes (map get_by_text n.members.items) × (n.variables.items ≡ n.unit.now.classes) × GivesImported n.unit.now.imports (get_by_text n.single) };
+    ghost invariant = { λ n. (n.internal ≡ numbered (internal_name n.unit.now) 0 (length n.unit.now.classes)) × GivesCanonical n.unit.now (get_by_text n.by_canonical) × GivesTop n.unit.now.classes (get_by_text n.top) × GiveMembers n.unit.now.classes (map get_by_text n.members.items) × (n.variables.items ≡ n.unit.now.classes) × AreClassEnds n.unit.now.classes n.ends.classes.items × AreMethodEnds n.unit.now.classes n.ends.methods.items × GivesImported n.unit.now.imports (get_by_text n.single) };
 }
 
 /// The internal names of the classes of a text.
@@ -158,13 +165,16 @@ impl<'a> UnitNames<'a> {
     pub fn new(alloc: Global, unit: &'a Unit) -> Result<UnitNames<'a>, AllocError>
         ensures { IfOk result (λ names. names ≡ unit.now) }
     {
+        let variables = variables_in(alloc, unit.classes.as_slice())?;
+        let ends = UnitEnds::new(alloc, unit.classes.as_slice(), variables.as_slice())?;
         Ok(UnitNames {
             unit,
             internal: internal_names(alloc, unit)?,
             by_canonical: canonical_in(alloc, unit)?,
             top: top_in(alloc, unit.classes.as_slice())?,
             members: members_in(alloc, unit.classes.as_slice())?,
-            variables: variables_in(alloc, unit.classes.as_slice())?,
+            variables,
+            ends,
             single: singles_in(alloc, unit.imports.as_slice())?,
         })
     }
@@ -207,11 +217,32 @@ impl<'a> UnitNames<'a> {
         &self.unit.package
     }
 
-    /// The type variables of the class of this number, and those of its methods.
-    pub fn variables(&self, class: usize) -> Option<&ClassVariables<'a>>
-        ensures { option_copied result ≡ slice_get self.now.classes class }
+    /// The type variables of the classes, and those of their methods.
+    pub fn variables(&self) -> &[ClassVariables<'a>]
+        ensures { result.now ≡ self.now.classes }
     {
-        self.variables.get(class)
+        self.variables.as_slice()
+    }
+
+    /// Where the variables of the classes end.
+    pub fn class_ends(&self) -> &[Ends<'a>]
+        ensures { AreClassEnds self.now.classes result.now }
+    {
+        self.ends.classes.as_slice()
+    }
+
+    /// Where the variables of a class end, or of a method of it; want of memory where there is none.
+    pub fn ends_at(&self, class: usize, method: Option<usize>) -> Result<&Ends<'a>, AllocError>
+        ensures { IfOk result (λ ends. AreEnds (scopes_at self.now.classes class method) ends.now) }
+    {
+        let found = match method {
+            Some(method) => self.ends.of_method(class, method),
+            None => self.ends.classes.get(class),
+        };
+        match found {
+            Some(ends) => Ok(ends),
+            None => Err(AllocError),
+        }
     }
 
     /// The internal name of the class number i.

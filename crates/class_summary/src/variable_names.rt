@@ -1,15 +1,22 @@
-ghost use Rattle.std.specs.Prelude.{◌≡◌, map, slice_get, length, IfOk};
+ghost use Rattle.std.specs.Prelude.{◌≡◌, Some, None, map, slice_get, length, IfOk, IfSome, IfNone};
 ghost use Rattle.std.specs.Option.{option_copied, option_map};
 ghost use Rattle.std.specs.BTreeMap.{get_by_text};
 ghost use Rattle.class_summary.specs.Variables.{bound_of};
-ghost use Rattle.class_summary.specs.VariableTables.{GivesBounds, variables_of};
+ghost use Rattle.class_summary.specs.VariableTables.{GivesBounds, bound_at, variables_of};
 
-use java_units::{SourceClass, SourceMethod, TypeVar};
+use java_units::{SourceClass, SourceMethod, TypeText, TypeVar};
 use known_classes::put;
 use lists::{Text, at};
 use std::alloc::{AllocError, Global};
 use std::collections::BTreeMap;
 use std::marker::Model;
+
+/// A variable by its place in its declaration, with its bound.
+#[derive(Drop)]
+pub struct Named<'a> {
+    pub place: usize,
+    pub bound: Option<&'a TypeText>,
+}
 
 /// The type variables that a class or a method declares, with the place of the first of each name.
 #[derive(Drop)]
@@ -63,12 +70,31 @@ impl<'a> VariableNames<'a> {
     }
 
     /// The first variable with this name.
-    pub fn named(&self, name: &Text) -> Option<&'a TypeVar>
-        ensures { option_map (λ v. v.now.bound) result ≡ bound_of name.now self.now }
+    pub fn named(&self, name: &Text) -> Option<Named<'a>>
+        ensures none { IfNone result (bound_of name.now self.now ≡ None) }
+        ensures some { IfSome result (λ v. (bound_of name.now self.now ≡ Some (option_copied v.bound)) × (bound_at self.now (Some v.place) ≡ Some (option_copied v.bound))) }
     {
         let Some(place) = self.places.get(name.as_str()).copied() else {
             return None;
         };
+        let Some(var) = at(self.vars, place) else {
+            return None;
+        };
+        Some(Named {
+            place,
+            bound: var.bound.as_ref(),
+        })
+    }
+
+    /// The place of the first variable with this name, where there is one.
+    pub fn place(&self, name: &Text) -> Option<usize> {
+        self.places.get(name.as_str()).copied()
+    }
+
+    /// The variable at a place.
+    pub fn at(&self, place: usize) -> Option<&'a TypeVar>
+        ensures { option_map (λ v. v.now.bound) result ≡ bound_at self.now (Some place) }
+    {
         at(self.vars, place)
     }
 }

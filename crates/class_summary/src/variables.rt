@@ -1,23 +1,24 @@
-ghost use Rattle.std.specs.Prelude.{◌≡◌, ◌-◌, ◌<◌, ◌≤◌, ◌++◌, suc, length, drop, map, Some, None, IfOk, IfSome, MatchOption};
+ghost use Rattle.std.specs.Prelude.{◌≡◌, ◌++◌, suc, length, drop, map, Some, None, IfOk, IfSome, IfNone, MatchOption};
 ghost use Rattle.std.specs.Option.{option_copied, option_map};
-ghost use Rattle.class_summary.specs.Variables.{Scope, bound_of, variable_in, variable_of, variables, end_at, end_of, class_scope, method_scope, scopes_at};
+ghost use Rattle.class_summary.specs.Variables.{Scope, bound_of, variable_in, variable_of, variables, class_scope, method_scope, scopes_at};
+ghost use Rattle.class_summary.specs.VariableTables.{bound_at};
+ghost use Rattle.class_summary.specs.VariableEnds.{StandsAt};
 
 use crate::paths::around;
-use crate::unit_names::UnitNames;
-use crate::variable_names::VariableNames;
-use java_units::{TypeText, TypeVar};
+use crate::variable_names::{ClassVariables, Named, VariableNames};
+use java_units::{SourceClass, TypeText, TypeVar};
 use lists::Text;
 use std::alloc::{AllocError, Global};
 use std::marker::Model;
 
 /// The type variables that a class or a method declares, with the number of that class.
 #[derive(Drop)]
-pub struct Declared<'a> {
+pub struct Declared<'s, 'a> {
     class: usize,
-    names: Option<&'a VariableNames<'a>>,
+    names: Option<&'s VariableNames<'a>>,
 }
 
-impl<'a> Model for Declared<'a> {
+impl<'s, 'a> Model for Declared<'s, 'a> {
     ghost use Rattle.std.specs.Prelude.{[], unwrap_or};
     ghost use Rattle.std.specs.Option.{option_copied};
     ghost use Rattle.class_summary.specs.Variables.{Scope};
@@ -27,15 +28,16 @@ impl<'a> Model for Declared<'a> {
     ghost view = { λ d. record { class = d.class; vars = unwrap_or (option_copied d.names) [] } };
 }
 
-impl<'a> Declared<'a> {
-    fn class(&self) -> usize
+impl<'s, 'a> Declared<'s, 'a> {
+    /// The number of the class.
+    pub fn class(&self) -> usize
         ensures { result ≡ self.now.class }
     {
         self.class
     }
 
     /// How many variables it declares.
-    fn count(&self) -> usize
+    pub fn count(&self) -> usize
         ensures { result ≡ length self.now.vars }
     {
         match self.names {
@@ -46,46 +48,61 @@ impl<'a> Declared<'a> {
 
     /// The first variable with this name.
     #[tactic(auto, unfolding(crate::specs::Variables::bound_of))]
-    fn named(&self, name: &Text) -> Option<&'a TypeVar>
-        ensures { option_map (λ v. v.now.bound) result ≡ bound_of name.now self.now.vars }
+    fn named(&self, name: &Text) -> Option<Named<'a>>
+        ensures none { IfNone result (bound_of name.now self.now.vars ≡ None) }
+        ensures some { IfSome result (λ v. (bound_of name.now self.now.vars ≡ Some (option_copied v.bound)) × (bound_at self.now.vars (Some v.place) ≡ Some (option_copied v.bound))) }
     {
         match self.names {
             Some(names) => names.named(name),
             None => None,
         }
     }
+
+    /// The place of the first variable with this name.
+    pub fn place(&self, name: &Text) -> Option<usize> {
+        match self.names {
+            Some(names) => names.place(name),
+            None => None,
+        }
+    }
+
+    /// The variable at a place.
+    pub fn at(&self, place: usize) -> Option<&'a TypeVar>
+        ensures { option_map (λ v. v.now.bound) result ≡ bound_at self.now.vars (Some place) }
+    {
+        match self.names {
+            Some(names) => names.at(place),
+            None => None,
+        }
+    }
 }
 
-/// Where a type ends after the bounds of its variables: its dimensions, the class at which its last name
-/// stands, and the parts of that name, or None for `java/lang/Object`.
+/// A variable that was found: the place of its scope and its own place there, the class at which it is declared, and
+/// its bound.
 #[derive(Drop)]
-pub struct Ending<'a> {
-    pub dims: u64,
+pub struct Met<'a> {
+    pub level: usize,
+    pub place: usize,
     pub class: usize,
-    pub parts: Option<&'a [Text]>,
+    pub bound: Option<&'a TypeText>,
 }
 
-/// A variable that was found: the place of its scope, the class at which it is declared, and its bound.
-#[derive(Drop)]
-struct Met<'a> {
-    level: usize,
-    class: usize,
-    bound: Option<&'a TypeText>,
-}
-
-/// The variable with this name in the first scope from a place on that declares one.
-fn variable_in<'a>(scopes: &[Declared<'a>], from: usize, name: &Text) -> Option<Met<'a>>
-    ensures { MatchOption result (variable_in name.now (drop from scopes.now) ≡ None) (λ m. variable_in name.now (drop from scopes.now) ≡ Some (record { bound = option_copied m.bound; class = m.class; scopes = drop m.level scopes.now })) }
+/// The variable with this name in the first scope that declares one.
+fn variable_in<'a>(scopes: &[Declared<'_, 'a>], name: &Text) -> Option<Met<'a>>
+    ensures none { IfNone result (variable_in name.now scopes.now ≡ None) }
+    ensures found { IfSome result (λ m. variable_in name.now scopes.now ≡ Some (record { bound = option_copied m.bound; class = m.class; scopes = drop m.level scopes.now })) }
+    ensures stands { IfSome result (λ m. StandsAt scopes.now m.level m.place m.class (option_copied m.bound)) }
 {
-    for i in from..scopes.len() {
+    for i in 0..scopes.len() {
         let scope = &scopes[i];
         let Some(var) = scope.named(name) else {
             continue;
         };
         return Some(Met {
             level: i,
+            place: var.place,
             class: scope.class(),
-            bound: var.bound.as_ref(),
+            bound: var.bound,
         });
     }
     None
@@ -93,17 +110,19 @@ fn variable_in<'a>(scopes: &[Declared<'a>], from: usize, name: &Text) -> Option<
 
 /// The variable that a type is, where it is a single name.
 #[tactic(auto, unfolding(crate::specs::Variables::variable_of))]
-fn variable_of<'a>(scopes: &[Declared<'a>], from: usize, parts: &[Text]) -> Option<Met<'a>>
-    ensures { MatchOption result (variable_of parts.now (drop from scopes.now) ≡ None) (λ m. variable_of parts.now (drop from scopes.now) ≡ Some (record { bound = option_copied m.bound; class = m.class; scopes = drop m.level scopes.now })) }
+pub fn variable_of<'a>(scopes: &[Declared<'_, 'a>], parts: &[Text]) -> Option<Met<'a>>
+    ensures none { IfNone result (variable_of parts.now scopes.now ≡ None) }
+    ensures found { IfSome result (λ m. variable_of parts.now scopes.now ≡ Some (record { bound = option_copied m.bound; class = m.class; scopes = drop m.level scopes.now })) }
+    ensures stands { IfSome result (λ m. StandsAt scopes.now m.level m.place m.class (option_copied m.bound)) }
 {
     match parts {
-        [name] => variable_in(scopes, from, name),
+        [name] => variable_in(scopes, name),
         _ => None,
     }
 }
 
 /// How many variables the scopes declare, and one more; None where that can't be counted.
-fn most_steps(scopes: &[Declared<'_>]) -> Option<usize>
+pub fn most_steps(scopes: &[Declared<'_, '_>]) -> Option<usize>
     ensures { IfSome result (λ n. n ≡ suc (variables scopes.now)) }
 {
     let mut count = 1usize;
@@ -113,63 +132,11 @@ fn most_steps(scopes: &[Declared<'_>]) -> Option<usize>
     Some(count)
 }
 
-/// The sum of dimensions, where it fits.
-fn more_dims(dims: Option<u64>, own: u64) -> Option<u64>
-    ensures { IfSome result (λ sum. (own ≤ sum) × (dims ≡ Some (sum - own))) }
-{
-    dims?.checked_add(own)
-}
-
-/// An end with these dimensions; want of memory where they don't fit.
-fn ended<'a>(
-    dims: Option<u64>,
-    class: usize,
-    parts: Option<&'a [Text]>,
-) -> Result<Ending<'a>, AllocError>
-    ensures { IfOk result (λ end. (dims ≡ Some end.dims) × (end.class ≡ class) × (option_copied end.parts ≡ option_copied parts.entry)) }
-{
-    let Some(dims) = dims else {
-        return Err(AllocError);
-    };
-    Ok(Ending { dims, class, parts })
-}
-
-/// Where a type ends through the bounds of its variables; want of memory also where the variables or the
-/// dimensions are too many to be counted.
-pub fn end_of<'a>(
-    scopes: &[Declared<'a>],
-    class: usize,
-    kind: &'a TypeText,
-) -> Result<Ending<'a>, AllocError>
-    ensures { IfOk result (λ end. end_at end.dims end.class (option_copied end.parts) ≡ end_of scopes.now class kind.now) }
-{
-    let Some(steps) = most_steps(scopes) else {
-        return Err(AllocError);
-    };
-    let mut level: usize = 0;
-    let mut here = class;
-    let mut dims = Some(kind.dims);
-    let mut parts = kind.parts.as_slice();
-    for _step in 0..steps {
-        let Some(met) = variable_of(scopes, level, parts) else {
-            return ended(dims, here, Some(parts));
-        };
-        let Some(bound) = met.bound else {
-            return ended(dims, met.class, None);
-        };
-        level = met.level;
-        here = met.class;
-        dims = more_dims(dims, bound.dims);
-        parts = bound.parts.as_slice();
-    }
-    ended(Some(kind.dims), class, None)
-}
-
 /// The variables that the class number i declares.
-fn class_scope<'a>(unit: &'a UnitNames<'a>, class: usize) -> Declared<'a>
-    ensures { result ≡ class_scope unit.now.classes class }
+fn class_scope<'s, 'a>(classes: &'s [ClassVariables<'a>], class: usize) -> Declared<'s, 'a>
+    ensures { result ≡ class_scope classes.now class }
 {
-    let names = match unit.variables(class) {
+    let names = match classes.get(class) {
         Some(declared) => Some(declared.own()),
         None => None,
     };
@@ -177,10 +144,14 @@ fn class_scope<'a>(unit: &'a UnitNames<'a>, class: usize) -> Declared<'a>
 }
 
 /// The variables that a method of the class number i declares.
-fn method_scope<'a>(unit: &'a UnitNames<'a>, class: usize, method: usize) -> Declared<'a>
-    ensures { result ≡ method_scope unit.now.classes class method }
+fn method_scope<'s, 'a>(
+    classes: &'s [ClassVariables<'a>],
+    class: usize,
+    method: usize,
+) -> Declared<'s, 'a>
+    ensures { result ≡ method_scope classes.now class method }
 {
-    let names = match unit.variables(class) {
+    let names = match classes.get(class) {
         Some(declared) => declared.method(method),
         None => None,
     };
@@ -188,33 +159,35 @@ fn method_scope<'a>(unit: &'a UnitNames<'a>, class: usize, method: usize) -> Dec
 }
 
 /// These scopes, and then those of these classes.
-fn with_classes<'a>(
-    mut scopes: Vec<Declared<'a>>,
-    unit: &'a UnitNames<'a>,
+fn with_classes<'s, 'a>(
+    mut scopes: Vec<Declared<'s, 'a>>,
+    classes: &'s [ClassVariables<'a>],
     numbers: &[usize],
-) -> Result<Vec<Declared<'a>>, AllocError>
-    ensures { IfOk result (λ all. all.items ≡ scopes.entry.items ++ map (class_scope unit.now.classes) numbers.now) }
+) -> Result<Vec<Declared<'s, 'a>>, AllocError>
+    ensures { IfOk result (λ all. all.items ≡ scopes.entry.items ++ map (class_scope classes.now) numbers.now) }
 {
     for i in 0..numbers.len() {
-        scopes.push(class_scope(unit, numbers[i]))?;
+        scopes.push(class_scope(classes, numbers[i]))?;
     }
     Ok(scopes)
 }
 
-/// The scopes at a class, or at a method of it, from the innermost outwards.
-pub fn scopes_at<'a>(
+/// The scopes at a class, or at a method of it, from the innermost outwards; the classes by their variables.
+pub fn scopes_at<'s, 'a>(
     alloc: Global,
-    unit: &'a UnitNames<'a>,
+    classes: &[SourceClass],
+    variables: &'s [ClassVariables<'a>],
     class: usize,
     method: Option<usize>,
-) -> Result<Vec<Declared<'a>>, AllocError>
-    ensures { IfOk result (λ scopes. scopes.items ≡ scopes_at unit.now.classes class method) }
+) -> Result<Vec<Declared<'s, 'a>>, AllocError>
+    requires { variables.now ≡ classes.now }
+    ensures { IfOk result (λ scopes. scopes.items ≡ scopes_at classes.now class method) }
 {
-    let numbers = around(alloc, unit.classes(), class)?;
+    let numbers = around(alloc, classes, class)?;
     let mut first = Vec::new(alloc);
     let Some(method) = method else {
-        return with_classes(first, unit, numbers.as_slice());
+        return with_classes(first, variables, numbers.as_slice());
     };
-    first.push(method_scope(unit, class, method))?;
-    with_classes(first, unit, numbers.as_slice())
+    first.push(method_scope(variables, class, method))?;
+    with_classes(first, variables, numbers.as_slice())
 }

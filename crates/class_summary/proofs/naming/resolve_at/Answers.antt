@@ -1,7 +1,6 @@
-use Rattle.std.proofs.Common.{◌∙◌, ap, List}
+use Rattle.std.proofs.Common.{◌∙◌, ap}
 use Rattle.type_names.specs.declared.kinds.Base.{Base}
 use Rattle.type_names.specs.declared.kinds.Erased.{Erased}
-use Rattle.class_summary.specs.Variables.{Scope, end_of}
 use Rattle.class_summary.specs.Names.{erased_end, denoted_type}
 use Rattle.class_summary.proofs.naming.resolve_at.Goals as goal
 
@@ -9,5 +8,4 @@ pub returns : goal.returns
 unfolding denoted_type
 returns g c =
     let u = c.args.unit.now in
-    let ends = c.in_ok-end.ensures ∙ ap (λ (ss : List Scope). end_of ss c.args.class c.args.name.now) (c.as_slice.ensures.value ∙ c.in_ok-scopes.ensures) in
-    ap (λ (b : Base). let e : Erased = record { dims = c.in_ok-end.end.dims; base = b } in e) c.in_ok-base.ensures ∙ ap (erased_end u (g.C.Classes.listed c.args.known.now)) ends
+    ap (λ (b : Base). let e : Erased = record { dims = c.in_ok-end.end.dims; base = b } in e) c.in_ok-base.ensures ∙ ap (erased_end u (g.C.Classes.listed c.args.known.now)) c.in_ok-end.ensures
