@@ -10,7 +10,7 @@ unfolding joined
 joined-append [] ps = append-nil ps
 joined-append (row ∷ ctx) ps = ap (λ l. row ++ l) (joined-append ctx ps) ∙ sym (append_assoc row (joined ctx) ps)
 
-joined_with-append : (set xs ys : List ℕ) → joined_with set (xs ++ ys) ≡ joined_with (joined_with set xs) ys
+pub joined_with-append : (set xs ys : List ℕ) → joined_with set (xs ++ ys) ≡ joined_with (joined_with set xs) ys
 joined_with-append set [] ys = refl
 joined_with-append set (x ∷ xs) ys = joined_with-append (put x set) xs ys
 

@@ -1,14 +1,12 @@
 -- A type is derivable from the types of a context just where some term fits there.
-use Rattle.std.proofs.Common.{◌≡◌, ℕ, zero, suc, ◌+◌, ◌≤◌, Bool, true, false, ◌&&◌, nat_lt, List, [], ◌∷◌, ◌++◌, length, slice_get, Option, Some, None, refl, ap, subst, ◌∙◌, arith, length-append}
+use Rattle.std.proofs.Common.{◌≡◌, ℕ, zero, suc, ◌+◌, ◌≤◌, true, ◌&&◌, nat_lt, List, [], ◌∷◌, ◌++◌, length, slice_get, Option, Some, None, refl, ap, subst, ◌∙◌, arith, length-append}
 use Rattle.std.proofs.lemmas.Bool.{and_parts, and_from, false≢true, lt-ltb}
 use Rattle.terms.specs.Expr.{Expr, var, head, Args, no_args, plain, lam}
 use Rattle.terms.specs.Typing.{type_in, fits, some_below, is_below, joined}
 use Rattle.terms.specs.declared.parts.Parts.{Parts}
-use Rattle.terms.specs.declared.parts.Decl.{Decl}
 use Rattle.terms.specs.declared.parts.Arg.{Arg}
 use Rattle.terms.specs.declared.parts.Arg.TheVariants.{Plain, Fun}
-use Rattle.terms.specs.Place.{Place, fits_place, shallow, args_shallow}
-use Rattle.terms.specs.Typing.{result_if, args_wanted}
+use Rattle.terms.specs.Place.{fits_place, shallow, args_shallow}
 use Rattle.terms.proofs.Readings.{HeadFits, head_fits}
 use Rattle.succinct.specs.Sets.{has, joined_with, types_bound}
 use Rattle.patterns.specs.Derivable.{Derivable, in_set, by_pair, by_decl, AllDerivable, none, value, lambda}

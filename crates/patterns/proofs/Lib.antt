@@ -1,5 +1,6 @@
 pub mod Mets
 pub mod Tables
+pub mod Bindings
 pub mod Contexts
 pub mod Derives
 pub mod Lists

@@ -1,23 +1,23 @@
 -- The lists of the states, once nothing more can be marked.
-use Rattle.std.proofs.Common.{◌≡◌, ◌⊎◌, inl, inr, ℕ, suc, ◌+◌, ◌<◌, Bool, true, false, ◌||◌, ◌==◌, nat_eq, cond, List, [], ◌∷◌, length, map, filter, get_or, slice_get, Some, None, refl, sym, ap, subst, ◌∙◌, arith}
+use Rattle.std.proofs.Common.{◌≡◌, ◌⊎◌, inl, inr, ℕ, ◌+◌, ◌<◌, Bool, true, false, ◌||◌, ◌==◌, nat_eq, cond, List, [], ◌∷◌, map, filter, get_or, slice_get, Some, None, refl, sym, ap, subst, ◌∙◌, arith}
 use Rattle.std.specs.List.{list_all}
 use Rattle.std.specs.List.{AllByRecursion}
 use Rattle.std.specs.Cmp.Lexicographic.{pointwise}
-use Rattle.std.proofs.lemmas.Bool.{false≢true, or_cases, or_left, or_right, eqb-true}
+use Rattle.std.specs.Ordering.{on, eq_of_both}
+use Rattle.std.proofs.lemmas.Bool.{false≢true, and_from, or_cases, or_left, or_right, eqb-true, eq-eqb}
 use Rattle.std.proofs.lemmas.Cmp.{nat_list_eq_equiv}
-use Rattle.std.proofs.lemmas.Option.{slice_get_within}
 use Rattle.succinct.specs.Compression.{AreDistinct, places_from}
 use Rattle.succinct.specs.Sets.{has, IsRising}
 use Rattle.succinct.specs.declared.kind.Succinct.{Succinct}
 use Rattle.succinct.specs.declared.need.Need.{Need}
 use Rattle.patterns.specs.declared.state.State.{State}
-use Rattle.patterns.specs.declared.type_set.TypeSet.{TypeSet}
+use Rattle.patterns.specs.declared.bound_set.BoundSet.{BoundSet}
 use Rattle.patterns.specs.declared.wanted.Wanted.{Wanted}
 use Rattle.patterns.specs.Met.{AreSound}
 use Rattle.patterns.specs.Patterned.{IsListOf, AreFound, Patterned, sought_from, state_sought}
-use Rattle.patterns.specs.States.{Space, kinds_of, kind_marked, needs_marked, need_marked, IsSettled, IsListed, IsOpenState, list_of, AreLists, place_of, place_in, place_sought, set_sought, AreWanted, AreBound}
+use Rattle.patterns.specs.States.{Space, kinds_of, kind_marked, needs_marked, need_marked, IsSettled, IsListed, IsOpenState, list_of, AreLists, place_of, place_in, place_sought, set_sought, AreWanted}
 use Rattle.patterns.proofs.Mets.{ends_in, in_ends, sound-needs, complete-needs}
-use Rattle.patterns.proofs.Tables.{remap, unmap}
+use Rattle.patterns.proofs.Tables.{remap}
 
 has-filter : (test : ℕ → Bool) (ks : List ℕ) (k : ℕ) → has k (filter test ks) ≡ true → (has k ks ≡ true) × (test k ≡ true)
 has-filter test [] k h = absurd (false≢true h)
@@ -100,19 +100,8 @@ lists-are p kinds states marks shown lists distinct opens settled sound same are
 pub sound-none : (p : Space) (kinds : List Succinct) (states : List State) (marks : List Bool) → ((i : ℕ) → get_or marks i false ≡ false) → AreSound p kinds states marks
 sound-none p kinds states marks none i s at h = absurd (false≢true (sym (none i) ∙ h))
 
-pub types-refl : (x : TypeSet) → pointwise nat_eq x.types x.types ≡ true
-types-refl x = nat_list_eq_equiv.refl x.types
-
-same_set : (s t : TypeSet) → s.types ≡ t.types → s ≡ t
-same_set s t h = ap (λ l. record { types = l }) h
-
--- sets that differ hold different types
-pub distinct-types : (keys : List TypeSet) → AreDistinct keys → AreDistinct (map (λ t. t.types) keys)
-distinct-types keys d i j types p q =
-    let u = unmap (λ (t : TypeSet). t.types) keys i types p in
-    let v = unmap (λ (t : TypeSet). t.types) keys j types q in
-    let same : v.0 ≡ u.0 = same_set v.0 u.0 (v.2 ∙ sym u.2) in
-    d i j u.0 u.1 (v.1 ∙ ap (λ x. Some x) same)
+pub set-refl : (x : BoundSet) → eq_of_both (on (λ y. y.types) (pointwise nat_eq)) (on (λ y. y.left) nat_eq) x x ≡ true
+set-refl x = and_from (pointwise nat_eq x.types x.types) (nat_eq x.left x.left) (nat_list_eq_equiv.refl x.types) (eq-eqb x.left x.left refl)
 
 pub found-same : (p : Space) (kinds kinds' : List Succinct) (goal : ℕ) (states : List State) (lists : List (List ℕ)) → kinds ≡ kinds' → AreFound p kinds goal states lists → AreFound p kinds' goal states lists
 found-same p kinds kinds' goal states lists same f = subst (λ k. AreFound p k goal states lists) same f
@@ -121,16 +110,5 @@ found-same p kinds kinds' goal states lists same f = subst (λ k. AreFound p k g
 pub none-sought : (d : Patterned) (s n : ℕ) (from : State) (w : Wanted) (to : ℕ) → slice_get d.states s ≡ Some from → slice_get d.space.wanted n ≡ Some w → set_sought d.space from.set w ≡ Some to → None ≡ place_of d.states (record { set = to; goal = w.goal }) → None ≡ state_sought d s n
 none-sought d s n from w to at is sought none = none ∙ sym (ap (λ o. place_in d.states w.goal o) sought) ∙ sym (ap (place_sought d.space d.states from) is) ∙ sym (ap (λ o. sought_from d o n) at)
 
-pub wanted-same : (depth : ℕ) (bound : List (List ℕ)) (needs needs' : List Need) (wanted : List Wanted) → needs ≡ needs' → AreWanted depth bound needs wanted → AreWanted depth bound needs' wanted
-wanted-same depth bound needs needs' wanted same are = subst (λ n. AreWanted depth bound n wanted) same are
-
--- from no set on, each set is what a lambda binds
-pub bound-none : (depth : ℕ) (needs needs' : List Need) (old new : List TypeSet) → needs ≡ needs' → old ≡ [] → (AreBound depth needs (map (λ t. t.types) old) → AreBound depth needs (map (λ t. t.types) new)) → AreBound depth needs' (map (λ t. t.types) new)
-bound-none depth needs needs' old new same empty grows = subst (λ n. AreBound depth n (map (λ t. t.types) new)) same (grows (λ k types at. absurd (none old empty k types at)))
-  where
-    none : (l : List TypeSet) → l ≡ [] → (k : ℕ) (types : List ℕ) → slice_get (map (λ t. t.types) l) k ≡ Some types → ⊥
-    none [] e k types at = absurd (omega (arith, slice_get_within [] k types at))
-    none (x ∷ l) e k types at = absurd (no_cons (ap length e))
-      where
-        no_cons : suc (length l) ≡ 0 → ⊥
-        no_cons h = omega (arith, h)
+pub wanted-same : (needs needs' : List Need) (wanted : List Wanted) → needs ≡ needs' → AreWanted needs wanted → AreWanted needs' wanted
+wanted-same needs needs' wanted same are = subst (λ n. AreWanted n wanted) same are

@@ -1,8 +1,8 @@
 -- What is met by kinds and states is derivable by declarations and pairs, and the other way round.
-use Rattle.std.proofs.Common.{◌≡◌, ◌⊎◌, inl, inr, ℕ, zero, suc, ◌+◌, ◌-◌, ◌<◌, ◌≤◌, Bool, true, false, ◌&&◌, ◌==◌, cond, List, [], ◌∷◌, ◌++◌, length, map, get_or, slice_get, Option, Some, None, refl, sym, ap, subst, ◌∙◌, arith}
+use Rattle.std.proofs.Common.{◌≡◌, ◌⊎◌, inl, inr, ℕ, zero, suc, ◌+◌, ◌-◌, ◌<◌, ◌≤◌, Bool, true, false, ◌&&◌, ◌==◌, cond, List, [], ◌∷◌, ◌++◌, length, map, get_or, slice_get, slice_index_or, Option, Some, None, refl, sym, ap, subst, ◌∙◌, arith}
 use Rattle.std.specs.List.{list_any}
 use Rattle.std.specs.Prelude.{⊤}
-use Rattle.std.proofs.lemmas.Bool.{false≢true, and_parts, and_from, or_cases, or_left, or_right, eqb-true, eq-eqb, eqb-false, ne_eqb}
+use Rattle.std.proofs.lemmas.Bool.{false≢true, and_parts, and_from, or_cases, or_left, or_right, eqb-true, eq-eqb, ne_eqb}
 use Rattle.std.proofs.lemmas.Option.{slice_get_within, slice_get-get_or, get_or_from_slice_get}
 use Rattle.terms.specs.Expr.{Expr}
 use Rattle.terms.specs.Faults.{IsValid}
@@ -13,16 +13,18 @@ use Rattle.terms.specs.declared.parts.Arg.TheVariants.{Plain, Fun}
 use Rattle.terms.specs.declared.parts.Parts.{Parts}
 use Rattle.terms.proofs.Valid.{below-transitive, below-itself}
 use Rattle.succinct.specs.Compression.{Compression, IsCompression, IsKindOf, Source, sources, of_decl, of_pair, need_of}
-use Rattle.succinct.specs.Sets.{has, IsRising, joined_with, set_of}
+use Rattle.succinct.specs.Sets.{has, IsRising, joined_with}
 use Rattle.succinct.specs.declared.kind.Succinct.{Succinct}
 use Rattle.succinct.specs.declared.need.Need.{Need}
-use Rattle.succinct.proofs.Rising.{has-joined_with, rising-joined_with}
+use Rattle.succinct.proofs.Rising.{has-joined_with, joined_with-set_of}
 use Rattle.patterns.specs.declared.state.State.{State}
 use Rattle.patterns.specs.declared.wanted.Wanted.{Wanted}
 use Rattle.patterns.specs.Derivable.{Derivable, in_set, by_pair, by_decl, AllDerivable, none, value, lambda}
 use Rattle.patterns.specs.Met.{IsMet, by_set, by_kind, AreMet, met_none, met_more}
 use Rattle.patterns.specs.Patterned.{Patterned, IsListOf, ArePatterns, Agrees}
-use Rattle.patterns.specs.States.{Space, types_at, left_at, set_sought, AreWanted, IsWantedAs, AreBound, IsBoundBy}
+use Rattle.patterns.specs.declared.bound_set.BoundSet.{BoundSet}
+use Rattle.patterns.specs.States.{Space, no_set, types_at, left_at, step_at, set_sought, bound_in, AreWanted, IsWantedAs, AreSteps, AreBound}
+use Rattle.patterns.proofs.Bindings.{set-rising}
 use Rattle.patterns.proofs.Contexts.{get-has}
 use Rattle.patterns.proofs.Tables.{unmap, remap}
 use Rattle.patterns.proofs.Derives.{term-derives, derives-term, SomeTerm}
@@ -38,39 +40,94 @@ pub record IsSought (g : Parts) (p : Space) (s : State) (n : ℕ) : Type 0 where
 pub some_eq : {X : Type 0} (x y : X) → Some x ≡ Some y → x ≡ y
 some_eq x y h = cc
 
--- a lambda can be sought from set 0 alone, where the depth is 1
-pub record FromFirst (p : Space) (set : ℕ) (w : Wanted) (to : ℕ) : Type 0 where
-  pub zero : set ≡ 0
-  pub one : p.depth ≡ 1
-  pub to_is : w.set ≡ to
+-- where the body of a lambda is sought: its types, and one lambda fewer is left
+pub record IsStep (p : Space) (set : ℕ) (need : Need) (to : ℕ) : Type 0 where
+  pub types : types_at p to ≡ joined_with (types_at p set) need.params
+  pub left : left_at p set ≡ suc (left_at p to)
+  pub within : to < length p.bound
 
-pub from-first : (p : Space) (set : ℕ) (w : Wanted) (to : ℕ) → w.lambda ≡ true → set_sought p set w ≡ Some to → FromFirst p set w to
-from-first p set w to l h = go ((set == 0) && (p.depth == 1)) refl (ap (λ b. cond b (cond ((set == 0) && (p.depth == 1)) (Some w.set) None) (Some set)) (sym l) ∙ h)
+is_there : {X : Type 0} → Option X → Bool
+is_there None = false
+is_there (Some x) = true
+
+none_some : {X : Type 0} (x : X) → None ≡ Some x → ⊥
+unfolding is_there
+none_some x h = false≢true (ap is_there h)
+
+set-is : (p : Space) (set : ℕ) (s : BoundSet) → slice_get p.bound set ≡ Some s → slice_index_or p.bound set no_set ≡ s
+set-is p set s h = get_or_from_slice_get p.bound set s no_set h
+
+past-empty : (bound : List BoundSet) (set : ℕ) → slice_get bound set ≡ None → slice_index_or bound set no_set ≡ no_set
+past-empty [] set h = refl
+past-empty (b ∷ bound) zero h = cc
+past-empty (b ∷ bound) (suc set) h = past-empty bound set h
+
+-- a set in which a lambda is left is there
+left-there : (p : Space) (set m : ℕ) → left_at p set ≡ suc m → (s : BoundSet) × (slice_get p.bound set ≡ Some s)
+left-there p set m h = go (slice_get p.bound set) refl
   where
-    go : (b : Bool) → ((set == 0) && (p.depth == 1)) ≡ b → cond b (Some w.set) None ≡ Some to → FromFirst p set w to
-    go true e h' =
-        let both = and_parts (set == 0) (p.depth == 1) e in
-        record { zero = eqb-true set 0 both.0; one = eqb-true p.depth 1 both.1; to_is = some_eq w.set to h' }
-    go false e h' = absurd (none_some h')
-      where
-        is_there : Option ℕ → Bool
-        is_there None = false
-        is_there (Some x) = true
+    go : (o : Option BoundSet) → slice_get p.bound set ≡ o → (s : BoundSet) × (slice_get p.bound set ≡ Some s)
+    go None e = (let z : 0 ≡ suc m = sym (ap (λ (x : BoundSet). x.left) (past-empty p.bound set e)) ∙ h in absurd (omega (arith, z)))
+    go (Some s) e = (s, e)
 
-        none_some : None ≡ Some to → ⊥
-        none_some q = false≢true (ap is_there q)
+-- the step from a set in which a lambda is left
+pub step-there : (p : Space) (needs : List Need) → AreSteps needs p.bound p.steps (length p.bound) → (set n m : ℕ) (need : Need) → left_at p set ≡ suc m → slice_get needs n ≡ Some need → need.lambda ≡ true → (to : ℕ) × (step_at p.steps set n ≡ Some to) × IsStep p set need to
+step-there p needs steps set n m need left at is_lambda =
+    let s = left-there p set m left in
+    let same : slice_index_or p.bound set no_set ≡ s.0 = set-is p set s.0 s.1 in
+    let some : s.0.left ≡ suc m = sym (ap (λ (x : BoundSet). x.left) same) ∙ left in
+    let r = steps set n s.0 need (slice_get_within p.bound set s.0 s.1) s.1 (omega (arith, some)) at is_lambda in
+    let there : slice_index_or p.bound r.0 no_set ≡ bound_in s.0 need = set-is p r.0 (bound_in s.0 need) r.2 in
+    let one : left_at p r.0 ≡ s.0.left - 1 = ap (λ (x : BoundSet). x.left) there in (
+      r.0,
+      r.1,
+      record {
+        types = ap (λ (x : BoundSet). x.types) there ∙ ap (λ (x : BoundSet). joined_with x.types need.params) (sym same);
+        left = omega (arith, left, some, one);
+        within = slice_get_within p.bound r.0 (bound_in s.0 need) r.2;
+      },
+    )
+
+-- a lambda is sought by a step, from a set in which one is left
+pub lambda-step : (p : Space) (needs : List Need) → AreSteps needs p.bound p.steps (length p.bound) → (set n to : ℕ) (need : Need) (w : Wanted) → IsWantedAs n need w → slice_get needs n ≡ Some need → need.lambda ≡ true → set_sought p set w ≡ Some to → IsStep p set need to
+lambda-step p needs steps set n to need w as_wanted at is_lambda h = by_left (left_at p set) refl
+  where
+    sought : cond (left_at p set == 0) None (step_at p.steps set w.number) ≡ Some to
+    sought = ap (λ b. cond b (cond (left_at p set == 0) None (step_at p.steps set w.number)) (Some set)) (sym (as_wanted.lambda ∙ is_lambda)) ∙ h
+
+    by_left : (l : ℕ) → left_at p set ≡ l → IsStep p set need to
+    by_left zero e =
+        let none : (left_at p set == 0) ≡ true = eq-eqb (left_at p set) 0 e in
+        absurd (none_some to (ap (λ b. cond b None (step_at p.steps set w.number)) (sym none) ∙ sought))
+    by_left (suc m) e =
+        let some : (left_at p set == 0) ≡ false = ne_eqb (left_at p set) 0 (λ z. absurd (omega (arith, e, z))) in
+        let r = step-there p needs steps set n m need e at is_lambda in
+        let same : Some r.0 ≡ Some to = sym r.1 ∙ ap (step_at p.steps set) (sym as_wanted.number) ∙ ap (λ b. cond b None (step_at p.steps set w.number)) (sym some) ∙ sought in
+        subst (λ t. IsStep p set need t) (some_eq r.0 to same) r.2
+
+-- and it is sought so wherever one is left
+pub lambda-there : (p : Space) (needs : List Need) → AreSteps needs p.bound p.steps (length p.bound) → (set n m : ℕ) (need : Need) (w : Wanted) → IsWantedAs n need w → slice_get needs n ≡ Some need → need.lambda ≡ true → left_at p set ≡ suc m → (to : ℕ) × (set_sought p set w ≡ Some to) × IsStep p set need to
+lambda-there p needs steps set n m need w as_wanted at is_lambda left =
+    let r = step-there p needs steps set n m need left at is_lambda in
+    let some : (left_at p set == 0) ≡ false = ne_eqb (left_at p set) 0 (λ z. absurd (omega (arith, left, z))) in
+    let sought : set_sought p set w ≡ Some r.0 =
+    ap (λ b. cond b (cond (left_at p set == 0) None (step_at p.steps set w.number)) (Some set)) (as_wanted.lambda ∙ is_lambda)
+    ∙ ap (λ b. cond b None (step_at p.steps set w.number)) some ∙ ap (step_at p.steps set) as_wanted.number ∙ r.1 in
+    (r.0, sought, r.2)
+
+pub plain-sought : (p : Space) (set : ℕ) (w : Wanted) → w.lambda ≡ false → set_sought p set w ≡ Some set
+plain-sought p set w l = ap (λ b. cond b (cond (left_at p set == 0) None (step_at p.steps set w.number)) (Some set)) l
 
 pub plain-same : (p : Space) (set : ℕ) (w : Wanted) (to : ℕ) → w.lambda ≡ false → set_sought p set w ≡ Some to → set ≡ to
-plain-same p set w to l h = some_eq set to (ap (λ b. cond b (cond ((set == 0) && (p.depth == 1)) (Some w.set) None) (Some set)) (sym l) ∙ h)
+plain-same p set w to l h = some_eq set to (sym (plain-sought p set w l) ∙ h)
 
--- the types and lambdas left of a set that a lambda binds
-pub bound-types : (p : Space) (set : ℕ) (types : List ℕ) → 0 < set → slice_get p.bound (set - 1) ≡ Some types → types_at p set ≡ types
-bound-types p set types low is =
-    let b : (set == 0) ≡ false = ne_eqb set 0 (λ e. absurd (omega (arith, low, e))) in
-    ap (λ c. cond c [] (get_or p.bound (set - 1) [])) b ∙ get_or_from_slice_get p.bound (set - 1) types [] is
-
-pub bound-left : (p : Space) (set : ℕ) → 0 < set → left_at p set ≡ 0
-bound-left p set low = ap (λ c. cond c p.depth 0) (ne_eqb set 0 (λ e. absurd (omega (arith, low, e))))
+-- the types of each set come rising
+pub types-rising : (depth : ℕ) (needs : List Need) (p : Space) → AreBound depth needs p.bound → (set : ℕ) → IsRising (types_at p set)
+types-rising depth needs p are set = go (slice_get p.bound set) refl
+  where
+    go : (o : Option BoundSet) → slice_get p.bound set ≡ o → IsRising (types_at p set)
+    go None e = (let R : BoundSet → Type 0 = λ x. IsRising x.types in subst R (sym (past-empty p.bound set e)) tt)
+    go (Some s) e = (let R : BoundSet → Type 0 = λ x. IsRising x.types in subst R (sym (set-is p set s e)) (set-rising depth needs p.bound are set s e))
 
 append-get : {X : Type 0} (xs ys : List X) (n : ℕ) (z : X) → slice_get (xs ++ ys) n ≡ Some z → (slice_get xs n ≡ Some z) ⊎ ((j : ℕ) × (slice_get ys j ≡ Some z))
 append-get [] ys n z h = inr (n, h)
@@ -119,20 +176,7 @@ below-pair g a b h = elim (or_cases (a == b) (is_pair g.pairs a b) h) [
 first-want : (g : Parts) (set : List ℕ) (left b : ℕ) (more : List Arg) → AllDerivable g set left (Plain b ∷ more) → Derivable g set left b
 first-want g set left b more (value set' left' b' more' d rest) = d
 
--- lambdas are left in set 0 alone, where the depth is 1
-pub record FirstSet (p : Space) (set left : ℕ) : Type 0 where
-  pub zero : set ≡ 0
-  pub one : p.depth ≡ 1
-  pub none_left : left ≡ 0
-
-pub first-set : (p : Space) (set left : ℕ) → p.depth ≤ 1 → left_at p set ≡ suc left → FirstSet p set left
-first-set p set left shallow h = go (set == 0) refl h
-  where
-    go : (b : Bool) → (set == 0) ≡ b → cond b p.depth 0 ≡ suc left → FirstSet p set left
-    go true e h' = record { zero = eqb-true set 0 e; one = omega (arith, shallow, h'); none_left = omega (arith, shallow, h') }
-    go false e h' = absurd (omega (arith, h'))
-
-module _ (g : Parts) (c : Compression) (p : Space) (comp : IsCompression g c) (table : AreWanted p.depth p.bound c.needs p.wanted) where
+module _ (g : Parts) (c : Compression) (p : Space) (comp : IsCompression g c) (table : AreWanted c.needs p.wanted) (steps : AreSteps c.needs p.bound p.steps (length p.bound)) (rising : (set : ℕ) → IsRising (types_at p set)) where
   -- the wants of a source are derivable where its needs are sought
   args-from : (s : State) (numbers : List ℕ) (args : List Arg) → map (λ i. slice_get c.needs i) numbers ≡ map (λ a. Some (need_of a)) args → ((n : ℕ) → has n numbers ≡ true → IsSought g p s n) → AllDerivable g (types_at p s.set) (left_at p s.set) args
   args-from s [] [] named each = none (types_at p s.set) (left_at p s.set)
@@ -144,7 +188,7 @@ module _ (g : Parts) (c : Compression) (p : Space) (comp : IsCompression g c) (t
       let q : IsSought g p s n = each n (or_left (n == n) (has n ns) (eq-eqb n n refl)) in
       let w = table n (need_of (Plain b)) first in
       let same : w.0 ≡ q.wanted = some_eq w.0 q.wanted (sym w.1 ∙ q.is) in
-      let as_wanted : IsWantedAs p.depth p.bound (need_of (Plain b)) q.wanted = subst (λ x. IsWantedAs p.depth p.bound (need_of (Plain b)) x) same w.2 in
+      let as_wanted : IsWantedAs n (need_of (Plain b)) q.wanted = subst (λ x. IsWantedAs n (need_of (Plain b)) x) same w.2 in
       let to : q.to ≡ s.set = sym (plain-same p s.set q.wanted q.to as_wanted.lambda q.sought) in
       let d : Derivable g (types_at p s.set) (left_at p s.set) q.wanted.goal = subst (λ t. Derivable g (types_at p t) (left_at p t) q.wanted.goal) to q.derivable in
       value (types_at p s.set) (left_at p s.set) b args (subst (λ t. Derivable g (types_at p s.set) (left_at p s.set) t) as_wanted.goal d) (args-from s ns args later (λ m h. each m (or_right (m == n) (has m ns) h)))
@@ -154,22 +198,16 @@ module _ (g : Parts) (c : Compression) (p : Space) (comp : IsCompression g c) (t
       let q : IsSought g p s n = each n (or_left (n == n) (has n ns) (eq-eqb n n refl)) in
       let w = table n (need_of (Fun ps r)) first in
       let same : w.0 ≡ q.wanted = some_eq w.0 q.wanted (sym w.1 ∙ q.is) in
-      let as_wanted : IsWantedAs p.depth p.bound (need_of (Fun ps r)) q.wanted = subst (λ x. IsWantedAs p.depth p.bound (need_of (Fun ps r)) x) same w.2 in
-      let f : FromFirst p s.set q.wanted q.to = from-first p s.set q.wanted q.to as_wanted.lambda q.sought in
-      let b = as_wanted.binds refl f.one in
-      let low : 0 < q.to = subst (λ t. 0 < t) f.to_is b.0 in
-      let at : slice_get p.bound (q.to - 1) ≡ Some (set_of ps) = ap (λ t. slice_get p.bound (t - 1)) (sym f.to_is) ∙ b.1 in
-      let d0 : Derivable g (set_of ps) (left_at p q.to) q.wanted.goal = subst (λ t. Derivable g t (left_at p q.to) q.wanted.goal) (bound-types p q.to (set_of ps) low at) q.derivable in
-      let d1 : Derivable g (set_of ps) 0 q.wanted.goal = subst (λ t. Derivable g (set_of ps) t q.wanted.goal) (bound-left p q.to low) d0 in
-      let d2 : Derivable g (set_of ps) 0 r = subst (λ t. Derivable g (set_of ps) 0 t) as_wanted.goal d1 in
-      let types : types_at p s.set ≡ [] = ap (λ t. types_at p t) f.zero in
-      let left : left_at p s.set ≡ suc 0 = ap (λ t. left_at p t) f.zero ∙ f.one in
-      let rest : AllDerivable g (types_at p s.set) (left_at p s.set) args = args-from s ns args later (λ m h. each m (or_right (m == n) (has m ns) h)) in
-      let rest1 : AllDerivable g [] (left_at p s.set) args = subst (λ t. AllDerivable g t (left_at p s.set) args) types rest in
-      let rest2 : AllDerivable g [] (suc 0) args = subst (λ t. AllDerivable g [] t args) left rest1 in
-      let all : AllDerivable g [] (suc 0) (Fun ps r ∷ args) = lambda [] 0 ps r args d2 rest2 in
-      let all1 : AllDerivable g [] (left_at p s.set) (Fun ps r ∷ args) = subst (λ t. AllDerivable g [] t (Fun ps r ∷ args)) (sym left) all in
-      subst (λ t. AllDerivable g t (left_at p s.set) (Fun ps r ∷ args)) (sym types) all1
+      let as_wanted : IsWantedAs n (need_of (Fun ps r)) q.wanted = subst (λ x. IsWantedAs n (need_of (Fun ps r)) x) same w.2 in
+      let st : IsStep p s.set (need_of (Fun ps r)) q.to = lambda-step p c.needs steps s.set n q.to (need_of (Fun ps r)) q.wanted as_wanted first refl q.sought in
+      let types = types_at p s.set in
+      let bound : types_at p q.to ≡ joined_with types ps = st.types ∙ joined_with-set_of types ps (rising s.set) in
+      let d0 : Derivable g (joined_with types ps) (left_at p q.to) q.wanted.goal = subst (λ t. Derivable g t (left_at p q.to) q.wanted.goal) bound q.derivable in
+      let d1 : Derivable g (joined_with types ps) (left_at p q.to) r = subst (λ t. Derivable g (joined_with types ps) (left_at p q.to) t) as_wanted.goal d0 in
+      let rest : AllDerivable g types (left_at p s.set) args = args-from s ns args later (λ m h. each m (or_right (m == n) (has m ns) h)) in
+      let rest1 : AllDerivable g types (suc (left_at p q.to)) args = subst (λ t. AllDerivable g types t args) st.left rest in
+      let all : AllDerivable g types (suc (left_at p q.to)) (Fun ps r ∷ args) = lambda types (left_at p q.to) ps r args d1 rest1 in
+      subst (λ t. AllDerivable g types t (Fun ps r ∷ args)) (sym st.left) all
 
   -- the wants of a source of a kind whose needs are sought
   source-from : (s : State) (source : Source) (kind : Succinct) → IsKindOf c.needs source kind → ((n : ℕ) → has n kind.needs ≡ true → IsSought g p s n) → AllDerivable g (types_at p s.set) (left_at p s.set) source.args
@@ -230,27 +268,6 @@ module _ (g : Parts) (c : Compression) (p : Space) (comp : IsCompression g c) (t
       let a = arg-at f.3.numbers f.1.args f.3.named n in_numbers in
       (a.0, some_eq need (need_of a.0) (sym at ∙ a.1))
 
-  -- the types of a set come rising
-  types-rising : AreBound p.depth c.needs p.bound → (set : ℕ) → set ≤ length p.bound → IsRising (types_at p set)
-  types-rising bound set low = go (set == 0) refl
-    where
-      params-rising : (a : Arg) → IsRising (need_of a).params
-      params-rising (Plain b) = tt
-      params-rising (Fun ps r) = rising-joined_with [] ps tt
-
-      go : (b : Bool) → (set == 0) ≡ b → IsRising (cond b [] (get_or p.bound (set - 1) []))
-      go true e = tt
-      go false e =
-          let apart = eqb-false set 0 e in
-          let at : slice_get p.bound (set - 1) ≡ Some (get_or p.bound (set - 1) []) = slice_get-get_or p.bound (set - 1) [] (above set apart low) in
-          let b : IsBoundBy p.depth c.needs (get_or p.bound (set - 1) []) = bound (set - 1) (get_or p.bound (set - 1) []) at in
-          let a = need-is b.number b.need b.numbered in
-          subst IsRising b.params (subst (λ (n : Need). IsRising n.params) (sym a.1) (params-rising a.0))
-        where
-          above : (m : ℕ) → (m ≡ 0 → ⊥) → m ≤ length p.bound → m - 1 < length p.bound
-          above zero apart' low' = absurd (apart' refl)
-          above (suc m) apart' low' = omega (arith, low')
-
   mutual
     -- what is met is derivable
     pub met-derives : (s : State) → IsMet p c.kinds s → Derivable g (types_at p s.set) (left_at p s.set) s.goal
@@ -272,7 +289,7 @@ module _ (g : Parts) (c : Compression) (p : Space) (comp : IsCompression g c) (t
   -- an argument whose want is met at a set
   abbrev ArgMet : ℕ → Arg → Type 0
   ArgMet set (Plain b) = IsMet p c.kinds (record { set = set; goal = b })
-  ArgMet set (Fun ps r) = (p.depth ≡ 1) × (set ≡ 0) × ((to : ℕ) → types_at p to ≡ set_of ps → left_at p to ≡ 0 → IsMet p c.kinds (record { set = to; goal = r }))
+  ArgMet set (Fun ps r) = (left : ℕ) × (left_at p set ≡ suc left) × ((to : ℕ) → types_at p to ≡ joined_with (types_at p set) ps → left_at p to ≡ left → IsMet p c.kinds (record { set = to; goal = r }))
 
   abbrev ArgsMet : ℕ → List Arg → Type 0
   ArgsMet set [] = ⊤
@@ -282,14 +299,14 @@ module _ (g : Parts) (c : Compression) (p : Space) (comp : IsCompression g c) (t
   one-met : (set n : ℕ) (a : Arg) → slice_get c.needs n ≡ Some (need_of a) → ArgMet set a → (w : Wanted) × (to : ℕ) × (slice_get p.wanted n ≡ Some w) × (set_sought p set w ≡ Some to) × IsMet p c.kinds (record { set = to; goal = w.goal })
   one-met set n (Plain b) at met =
       let w = table n (need_of (Plain b)) at in
-      let sought : set_sought p set w.0 ≡ Some set = ap (λ l. cond l (cond ((set == 0) && (p.depth == 1)) (Some w.0.set) None) (Some set)) w.2.lambda in
+      let sought : set_sought p set w.0 ≡ Some set = plain-sought p set w.0 w.2.lambda in
       (w.0, set, w.1, sought, subst (λ t. IsMet p c.kinds (record { set = set; goal = t })) (sym w.2.goal) met)
   one-met set n (Fun ps r) at met =
       let w = table n (need_of (Fun ps r)) at in
-      let b = w.2.binds refl met.0 in
-      let test : ((set == 0) && (p.depth == 1)) ≡ true = and_from (set == 0) (p.depth == 1) (eq-eqb set 0 met.1) (eq-eqb p.depth 1 met.0) in
-      let sought : set_sought p set w.0 ≡ Some w.0.set = ap (λ l. cond l (cond ((set == 0) && (p.depth == 1)) (Some w.0.set) None) (Some set)) w.2.lambda ∙ ap (λ l. cond l (Some w.0.set) None) test in
-      (w.0, w.0.set, w.1, sought, subst (λ t. IsMet p c.kinds (record { set = w.0.set; goal = t })) (sym w.2.goal) (met.2 w.0.set (bound-types p w.0.set (set_of ps) b.0 b.1) (bound-left p w.0.set b.0)))
+      let t = lambda-there p c.needs steps set n met.0 (need_of (Fun ps r)) w.0 w.2 at refl met.1 in
+      let left = t.2.left in
+      let had = met.1 in
+      (w.0, t.0, w.1, t.1, subst (λ x. IsMet p c.kinds (record { set = t.0; goal = x })) (sym w.2.goal) (met.2 t.0 (t.2.types ∙ joined_with-set_of (types_at p set) ps (rising set)) (omega (arith, left, had))))
 
   arg-of : (set : ℕ) (numbers : List ℕ) (args : List Arg) → map (λ i. slice_get c.needs i) numbers ≡ map (λ a. Some (need_of a)) args → ArgsMet set args → (n : ℕ) → has n numbers ≡ true → (a : Arg) × (slice_get c.needs n ≡ Some (need_of a)) × ArgMet set a
   arg-of set [] args named met n h = absurd (false≢true h)
@@ -322,10 +339,10 @@ module _ (g : Parts) (c : Compression) (p : Space) (comp : IsCompression g c) (t
 
   mutual
     -- what is derivable is met
-    pub derives-met : p.depth ≤ 1 → (types : List ℕ) (left b : ℕ) → Derivable g types left b → (set : ℕ) → types_at p set ≡ types → left_at p set ≡ left → IsMet p c.kinds (record { set = set; goal = b })
-    derives-met shallow types left b (in_set types' left' b' h) set t l = by_set (record { set = set; goal = b }) (ap (has b) t ∙ h)
-    derives-met shallow types left b (by_pair types' left' a b' below d) set t l =
-        let inner : IsMet p c.kinds (record { set = set; goal = a }) = derives-met shallow types left a d set t l in
+    pub derives-met : (types : List ℕ) (left b : ℕ) → Derivable g types left b → (set : ℕ) → types_at p set ≡ types → left_at p set ≡ left → IsMet p c.kinds (record { set = set; goal = b })
+    derives-met types left b (in_set types' left' b' h) set t l = by_set (record { set = set; goal = b }) (ap (has b) t ∙ h)
+    derives-met types left b (by_pair types' left' a b' below d) set t l =
+        let inner : IsMet p c.kinds (record { set = set; goal = a }) = derives-met types left a d set t l in
         elim (below-pair g a b below) [
           | inl same ↦ subst (λ x. IsMet p c.kinds (record { set = set; goal = x })) same inner
           | inr pair ↦ (
@@ -333,35 +350,33 @@ module _ (g : Parts) (c : Compression) (p : Space) (comp : IsCompression g c) (t
               let at : slice_get (sources g) (length (map of_decl g.decls) + j.0) ≡ Some (of_pair (a, b)) = right-get (map of_decl g.decls) (map of_pair g.pairs) j.0 (of_pair (a, b)) (remap of_pair g.pairs j.0 (a, b) j.1) in
               source-met set (length (map of_decl g.decls) + j.0) (of_pair (a, b)) at (inner, tt))
         ]
-    derives-met shallow types left b (by_decl types' left' n d found all) set t l =
+    derives-met types left b (by_decl types' left' n d found all) set t l =
         let at : slice_get (sources g) n ≡ Some (of_decl d) = left-get (map of_decl g.decls) (map of_pair g.pairs) n (of_decl d) (remap of_decl g.decls n d found) in
-        source-met set n (of_decl d) at (args-met shallow types left d.args all set t l)
+        source-met set n (of_decl d) at (args-met types left d.args all set t l)
 
-    pub args-met : p.depth ≤ 1 → (types : List ℕ) (left : ℕ) (args : List Arg) → AllDerivable g types left args → (set : ℕ) → types_at p set ≡ types → left_at p set ≡ left → ArgsMet set args
-    args-met shallow types left args (none types' left') set t l = tt
-    args-met shallow types left args (value types' left' b more d rest) set t l = (derives-met shallow types left b d set t l, args-met shallow types left more rest set t l)
-    args-met shallow types left args (lambda types' left' ps r more d rest) set t l =
-        let f : FirstSet p set left' = first-set p set left' shallow l in
-        let empty : types ≡ [] = sym t ∙ ap (λ x. types_at p x) f.zero in
-        ((f.one, f.zero, λ to types_to left_to. derives-met shallow (joined_with types ps) left' r d to (types_to ∙ ap (λ x. joined_with x ps) (sym empty)) (left_to ∙ sym f.none_left)), args-met shallow types left more rest set t l)
+    pub args-met : (types : List ℕ) (left : ℕ) (args : List Arg) → AllDerivable g types left args → (set : ℕ) → types_at p set ≡ types → left_at p set ≡ left → ArgsMet set args
+    args-met types left args (none types' left') set t l = tt
+    args-met types left args (value types' left' b more d rest) set t l = (derives-met types left b d set t l, args-met types left more rest set t l)
+    args-met types left args (lambda types' left' ps r more d rest) set t l =
+        ((left', l, λ to types_to left_to. derives-met (joined_with types ps) left' r d to (types_to ∙ ap (λ x. joined_with x ps) t) left_to), args-met types left more rest set t l)
 
 some-fits : (g : Parts) (ctx : List (List ℕ)) (left b : ℕ) (t : SomeTerm g ctx left b) → fits_place g (record { ctx = ctx; left = left; wanted = b }) t.term ≡ true
 unfolding fits_place
 some-fits g ctx left b t = and_from (some_below g (type_in g ctx t.term) b) (shallow left t.term) (ap (λ o. some_below g o b) t.typed ∙ t.below) t.flat
 
 -- the patterns agree with the environment
-pub agrees : (g : Parts) (c : Compression) (goal depth : ℕ) (d : Patterned) → depth ≤ 1 → IsValid g → IsCompression g c → ArePatterns c goal depth d → Agrees g c d
-agrees g c goal depth d shallow valid comp made i s list at is = record {
-  rising = types-rising g c d.space comp table bound s.set (made.in_range s (i, at));
+pub agrees : (g : Parts) (c : Compression) (goal depth : ℕ) (d : Patterned) → IsValid g → IsCompression g c → ArePatterns c goal depth d → Agrees g c d
+agrees g c goal depth d valid comp made i s list at is = record {
+  rising = types-rising depth c.needs d.space made.only_sets s.set;
   listed = λ k n source from number gives all. (
       let r = comp.of_sources.kind_of_each n k source from number in
-      lo.all k r.0 r.1 (r.2.gives ∙ gives) (needs-met g c d.space comp table s.set s.goal source r.0 r.2 (args-met g c d.space comp table flat (types_at d.space s.set) (left_at d.space s.set) source.args all s.set refl refl) r.0.needs (λ m h. h)));
-  only_those = λ k h. (let r = lo.only k h in (r.0, r.1, r.2, λ source kind. source-from g c d.space comp table s source r.0 kind (needs-sought g c d.space comp table s r.0.needs r.3)));
+      lo.all k r.0 r.1 (r.2.gives ∙ gives) (needs-met g c d.space comp made.wanted made.steps rising s.set s.goal source r.0 r.2 (args-met g c d.space comp made.wanted made.steps rising (types_at d.space s.set) (left_at d.space s.set) source.args all s.set refl refl) r.0.needs (λ m h. h)));
+  only_those = λ k h. (let r = lo.only k h in (r.0, r.1, r.2, λ source kind. source-from g c d.space comp made.wanted made.steps rising s source r.0 kind (needs-sought g c d.space comp made.wanted made.steps rising s r.0.needs r.3)));
   listed_is_derivable = λ seen. elim seen [
     | inl bound ↦ in_set (types_at d.space s.set) (left_at d.space s.set) s.goal bound
-    | inr some ↦ (let r = lo.only some.0 some.1 in met-derives g c d.space comp table s (by_kind s some.0 r.0 r.1 r.2 r.3))
+    | inr some ↦ (let r = lo.only some.0 some.1 in met-derives g c d.space comp made.wanted made.steps rising s (by_kind s some.0 r.0 r.1 r.2 r.3))
   ];
-  derivable_is_listed = λ h. seen-of s (derives-met g c d.space comp table flat (types_at d.space s.set) (left_at d.space s.set) s.goal h s.set refl refl) lo;
+  derivable_is_listed = λ h. seen-of s (derives-met g c d.space comp made.wanted made.steps rising (types_at d.space s.set) (left_at d.space s.set) s.goal h s.set refl refl) lo;
   derivable_has_a_term = λ ctx types room h. fits-of ctx (derives-term g (below-transitive g valid) (below-itself g) (types_at d.space s.set) (left_at d.space s.set) s.goal h ctx types room);
   a_term_is_derivable = λ ctx types e fit. subst (λ t. Derivable g t (left_at d.space s.set) s.goal) types (term-derives g ctx (left_at d.space s.set) s.goal e fit);
 }
@@ -369,14 +384,8 @@ agrees g c goal depth d shallow valid comp made i s list at is = record {
     lo : IsListOf d.space c.kinds s list
     lo = made.found.each i s list at is
 
-    flat : d.space.depth ≤ 1
-    flat = (let e = made.depth_is in omega (arith, e, shallow))
-
-    table : AreWanted d.space.depth d.space.bound c.needs d.space.wanted
-    table = subst (λ n. AreWanted n d.space.bound c.needs d.space.wanted) (sym made.depth_is) made.wanted
-
-    bound : AreBound d.space.depth c.needs d.space.bound
-    bound = subst (λ n. AreBound n c.needs d.space.bound) (sym made.depth_is) made.only_sets
+    rising : (set : ℕ) → IsRising (types_at d.space set)
+    rising = types-rising depth c.needs d.space made.only_sets
 
     seen-of : (t : State) → IsMet d.space c.kinds t → IsListOf d.space c.kinds t list → (has t.goal (types_at d.space t.set) ≡ true) ⊎ ((k : ℕ) × (has k list ≡ true))
     seen-of t (by_set t' h) l = inl h

@@ -1,7 +1,6 @@
 -- The tables of wanted needs and of the kinds by their results.
-use Rattle.std.proofs.Common.{◌≡◌, ◌⊎◌, inl, inr, ℕ, zero, suc, ◌+◌, ◌-◌, ◌<◌, ◌≤◌, Bool, true, false, ◌==◌, cond, nat_lt, nat_eq, List, [], ◌∷◌, ◌++◌, length, map, take, get_or, slice_get, Option, Some, None, refl, sym, ap, subst, ◌∙◌, arith, length-append}
+use Rattle.std.proofs.Common.{◌≡◌, ◌⊎◌, inl, inr, ℕ, zero, suc, ◌+◌, ◌<◌, ◌≤◌, Bool, true, false, ◌==◌, cond, nat_lt, List, [], ◌∷◌, ◌++◌, length, map, take, get_or, slice_get, Option, Some, None, refl, sym, ap, subst, ◌∙◌, arith, length-append}
 use Rattle.std.specs.List.{position, position_or_len}
-use Rattle.std.specs.Cmp.Lexicographic.{pointwise, same_text}
 use Rattle.std.proofs.lemmas.Bool.{false≢true, eqb-true, eq-eqb, ne_eqb, cases_eq, cases_lt, lt-ltb}
 use Rattle.std.proofs.lemmas.List.{take_more, length-take-le}
 use Rattle.std.proofs.lemmas.List.Quantifiers.{position-Some}
@@ -11,7 +10,6 @@ use Rattle.succinct.specs.Compression.{places_of, places_from, AreDistinct}
 use Rattle.succinct.specs.Numbering.{IsGrown}
 use Rattle.succinct.specs.declared.kind.Succinct.{Succinct}
 use Rattle.succinct.specs.declared.need.Need.{Need}
-use Rattle.patterns.specs.declared.type_set.TypeSet.{TypeSet}
 use Rattle.patterns.specs.declared.wanted.Wanted.{Wanted}
 use Rattle.patterns.specs.States.{IsWantedAs, AreWanted, list_at, kinds_of}
 
@@ -28,13 +26,7 @@ unmap f (x ∷ xs) (suc i) y h = unmap f xs i y h
 pub grown-map : {X Y : Type 0} (f : X → Y) (old new : List X) → IsGrown old new → IsGrown (map f old) (map f new)
 grown-map f old new grown i y h = (let u = unmap f old i y h in remap f new i u.0 (grown i u.0 u.1) ∙ ap (λ z. Some z) u.2)
 
--- a set that stands at a place is shown there
-pub set_at : (keys : List TypeSet) (n : ℕ) (types : List ℕ) → (k : TypeSet) × (slice_get keys n ≡ Some k) × (pointwise nat_eq types k.types ≡ true) → (0 < n + 1) × (slice_get (map (λ t. t.types) keys) (n + 1 - 1) ≡ Some types)
-set_at keys n types h =
-    let z : n + 1 - 1 ≡ n = omega arith in
-    (omega arith, ap (slice_get (map (λ t. t.types) keys)) z ∙ remap (λ t. t.types) keys n h.0 h.1 ∙ ap (λ l. Some l) (sym (same_text types h.0.types (sym h.2))))
-
-get_push : {X : Type 0} (xs : List X) (x y : X) (n : ℕ) → slice_get (xs ++ x ∷ []) n ≡ Some y → (slice_get xs n ≡ Some y) ⊎ ((n ≡ length xs) × (x ≡ y))
+pub get_push : {X : Type 0} (xs : List X) (x y : X) (n : ℕ) → slice_get (xs ++ x ∷ []) n ≡ Some y → (slice_get xs n ≡ Some y) ⊎ ((n ≡ length xs) × (x ≡ y))
 get_push [] x y zero h = (let e : x ≡ y = cc in inr (refl, e))
 get_push [] x y (suc n) h = cc
 get_push (z ∷ xs) x y zero h = inl h
@@ -44,7 +36,7 @@ get_push (z ∷ xs) x y (suc n) h = elim (get_push xs x y n h) [
 ]
 
 -- what stands in a grown list stood there before, or is the one value more
-only-one : {X : Type 0} (old new : List X) (i : ℕ) (x : X) → IsGrown old new → slice_get new i ≡ Some x → ((j : ℕ) → length old ≤ j → j < length new → j ≡ i) → (j : ℕ) (y : X) → slice_get new j ≡ Some y → (slice_get old j ≡ Some y) ⊎ (y ≡ x)
+pub only-one : {X : Type 0} (old new : List X) (i : ℕ) (x : X) → IsGrown old new → slice_get new i ≡ Some x → ((j : ℕ) → length old ≤ j → j < length new → j ≡ i) → (j : ℕ) (y : X) → slice_get new j ≡ Some y → (slice_get old j ≡ Some y) ⊎ (y ≡ x)
 only-one old new i x grown at one j y is = elim (cases_lt j (length old)) [
   | inl low ↦ (
       let was : slice_get old j ≡ Some (get_or old j x) = slice_get-get_or old j x low in
@@ -57,46 +49,31 @@ only-one old new i x grown at one j y is = elim (cases_lt j (length old)) [
       inr e')
 ]
 
--- one set more at most
-pub only-set : (old new : List TypeSet) (n : ℕ) (types : List ℕ) → IsGrown old new → (k : TypeSet) × (slice_get new n ≡ Some k) × (pointwise nat_eq types k.types ≡ true) → ((j : ℕ) → length old ≤ j → j < length new → j ≡ n)
-    → (j : ℕ) (set : List ℕ) → slice_get (map (λ t. t.types) new) j ≡ Some set → (slice_get (map (λ t. t.types) old) j ≡ Some set) ⊎ (set ≡ types)
-only-set old new n types grown h one j set is =
-    let u = unmap (λ (t : TypeSet). t.types) new j set is in
-    elim (only-one old new n h.0 grown h.1 one j u.0 u.1) [
-      | inl was ↦ inl (remap (λ (t : TypeSet). t.types) old j u.0 was ∙ ap (λ z. Some z) u.2)
-      | inr same ↦ inr (sym u.2 ∙ ap (λ (t : TypeSet). t.types) same ∙ sym (same_text types h.0.types (sym h.2)))
-    ]
-
-get_left : {X : Type 0} (xs ys : List X) (i : ℕ) (x : X) → slice_get xs i ≡ Some x → slice_get (xs ++ ys) i ≡ Some x
+pub get_left : {X : Type 0} (xs ys : List X) (i : ℕ) (x : X) → slice_get xs i ≡ Some x → slice_get (xs ++ ys) i ≡ Some x
 get_left [] ys i x h = cc
 get_left (y ∷ xs) ys zero x h = h
 get_left (y ∷ xs) ys (suc i) x h = get_left xs ys i x h
 
-get_last : {X : Type 0} (xs : List X) (x : X) → slice_get (xs ++ x ∷ []) (length xs) ≡ Some x
+pub get_last : {X : Type 0} (xs : List X) (x : X) → slice_get (xs ++ x ∷ []) (length xs) ≡ Some x
 get_last [] x = refl
 get_last (y ∷ xs) x = get_last xs x
 
-wanted-grown : (depth : ℕ) (old new : List (List ℕ)) (need : Need) (w : Wanted) → IsGrown old new → IsWantedAs depth old need w → IsWantedAs depth new need w
-wanted-grown depth old new need w grown h = record { lambda = h.lambda; goal = h.goal; binds = λ l d. (let b = h.binds l d in (b.0, grown (w.set - 1) need.params b.1)) }
-
 -- one need more
-pub wanted-more : (depth : ℕ) (old new : List (List ℕ)) (needs : List Need) (wanted wanted' : List Wanted) (i : ℕ) (need : Need) (w : Wanted) → i < length needs → need ≡ get_or needs i need → IsGrown old new → IsWantedAs depth new need w → wanted' ≡ wanted ++ w ∷ [] → length wanted ≡ i
-    → AreWanted depth old (take i needs) wanted → AreWanted depth new (take (i + 1) needs) wanted'
-wanted-more depth old new needs wanted wanted' i need w low at grown here more long before n need' is =
+pub wanted-more : (needs : List Need) (wanted wanted' : List Wanted) (i : ℕ) (need : Need) (w : Wanted) → i < length needs → need ≡ get_or needs i need → IsWantedAs i need w → wanted' ≡ wanted ++ w ∷ [] → length wanted ≡ i
+    → AreWanted (take i needs) wanted → AreWanted (take (i + 1) needs) wanted'
+wanted-more needs wanted wanted' i need w low at here more long before n need' is =
     go (get_push (take i needs) (get_or needs i need) need' n (ap (λ l. slice_get l n) (sym (take_more needs i need low)) ∙ is))
   where
     taken : length (take i needs) ≡ i
     taken = length-take-le i needs (omega (arith, low))
 
-    go : (slice_get (take i needs) n ≡ Some need') ⊎ ((n ≡ length (take i needs)) × (get_or needs i need ≡ need')) → (v : Wanted) × (slice_get wanted' n ≡ Some v) × IsWantedAs depth new need' v
-    go (inl was) = (let b = before n need' was in (b.0, ap (λ l. slice_get l n) more ∙ get_left wanted (w ∷ []) n b.0 b.1, wanted-grown depth old new need' b.0 grown b.2))
+    go : (slice_get (take i needs) n ≡ Some need') ⊎ ((n ≡ length (take i needs)) × (get_or needs i need ≡ need')) → (v : Wanted) × (slice_get wanted' n ≡ Some v) × IsWantedAs n need' v
+    go (inl was) = (let b = before n need' was in (b.0, ap (λ l. slice_get l n) more ∙ get_left wanted (w ∷ []) n b.0 b.1, b.2))
     go (inr last) =
         let place : n ≡ length wanted = last.0 ∙ taken ∙ sym long in
         let same : need ≡ need' = at ∙ last.1 in
-        (w, ap (λ l. slice_get l n) more ∙ ap (slice_get (wanted ++ w ∷ [])) place ∙ get_last wanted w, subst (λ x. IsWantedAs depth new x w) same here)
-
-pub wanted-none : (depth : ℕ) (bound : List (List ℕ)) (needs : List Need) (wanted : List Wanted) → needs ≡ [] → AreWanted depth bound needs wanted
-wanted-none depth bound needs wanted e n need h = (let w = slice_get_within needs n need h in let z = ap length e in absurd (omega (arith, w, z)))
+        let number : i ≡ n = sym (last.0 ∙ taken) in
+        (w, ap (λ l. slice_get l n) more ∙ ap (slice_get (wanted ++ w ∷ [])) place ∙ get_last wanted w, subst (λ x. IsWantedAs n x w) same (subst (λ (m : ℕ). IsWantedAs m need w) number here))
 
 -- the place of a number in a table without repetitions
 pub position-is : (goals : List ℕ) (goal t : ℕ) → AreDistinct goals → slice_get goals t ≡ Some goal → position (λ x. goal == x) goals ≡ Some t

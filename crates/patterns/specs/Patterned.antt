@@ -1,15 +1,16 @@
 -- What the search for patterns finds, and what it means for terms.
-use Rattle.std.specs.Prelude.{◌≡◌, ◌⊎◌, ℕ, suc, ◌+◌, ◌<◌, ◌≤◌, true, cond, List, length, slice_get, Option, Some, None}
+use Rattle.std.specs.Prelude.{◌≡◌, ◌⊎◌, ℕ, suc, ◌+◌, ◌<◌, ◌≤◌, true, cond, List, [], length, slice_get, Option, Some, None}
 use Rattle.succinct.specs.Compression.{Compression, Source, sources, IsKindOf, AreDistinct}
 use Rattle.succinct.specs.Sets.{has, IsRising, joined_with, types_bound}
 use Rattle.succinct.specs.declared.kind.Succinct.{Succinct}
 use Rattle.succinct.specs.declared.need.Need.{Need}
 use Rattle.terms.specs.Expr.{Expr}
 use Rattle.terms.specs.Place.{fits_place}
+use Rattle.terms.specs.Typing.{most_rows}
 use Rattle.terms.specs.declared.parts.Parts.{Parts}
 use Rattle.patterns.specs.Derivable.{Derivable, AllDerivable}
 use Rattle.patterns.specs.Met.{AreMet}
-use Rattle.patterns.specs.States.{Space, types_at, left_at, place_sought, kinds_of, IsListed, IsOpenState, AreWanted, AreBound, AreInRange}
+use Rattle.patterns.specs.States.{Space, types_at, left_at, place_sought, kinds_of, IsListed, IsOpenState, AreWanted, AreSteps, AreBound, AreInRange}
 use Rattle.patterns.specs.declared.state.State.{State}
 
 -- the sets and needs, the states, and the kinds listed at each state
@@ -62,11 +63,13 @@ pub record AreFound (p : Space) (kinds : List Succinct) (goal : ℕ) (states : L
 pub record ArePatterns (c : Compression) (goal depth : ℕ) (d : Patterned) : Type 0 where
   pub depth_is : d.space.depth ≡ depth
   pub distinct_sets : AreDistinct d.space.bound
+  pub first_set : slice_get d.space.bound 0 ≡ Some (record { types = []; left = depth })
   -- there are no other sets than those that lambdas bind, and the set of each state is there
   pub only_sets : AreBound depth c.needs d.space.bound
   pub in_range : AreInRange d.space d.states
   pub lengths : length d.space.wanted ≡ length c.needs
-  pub wanted : AreWanted depth d.space.bound c.needs d.space.wanted
+  pub wanted : AreWanted c.needs d.space.wanted
+  pub steps : AreSteps c.needs d.space.bound d.space.steps (length d.space.bound)
   pub found : AreFound d.space c.kinds goal d.states d.lists
 
 -- what a state and its list say of an environment: which types are derivable, and where terms fit
@@ -79,7 +82,7 @@ pub record AgreesAt (g : Parts) (c : Compression) (p : Space) (s : State) (list 
   pub listed_is_derivable : (has s.goal (types_at p s.set) ≡ true) ⊎ ((k : ℕ) × (has k list ≡ true)) → Derivable g (types_at p s.set) (left_at p s.set) s.goal
   pub derivable_is_listed : Derivable g (types_at p s.set) (left_at p s.set) s.goal → (has s.goal (types_at p s.set) ≡ true) ⊎ ((k : ℕ) × (has k list ≡ true))
   -- which is exactly where a term fits, in each context with these types
-  pub derivable_has_a_term : (ctx : List (List ℕ)) → types_bound ctx ≡ types_at p s.set → length ctx + left_at p s.set ≤ 3 → Derivable g (types_at p s.set) (left_at p s.set) s.goal → (e : Expr) × (fits_place g (record { ctx = ctx; left = left_at p s.set; wanted = s.goal }) e ≡ true)
+  pub derivable_has_a_term : (ctx : List (List ℕ)) → types_bound ctx ≡ types_at p s.set → length ctx + left_at p s.set ≤ most_rows → Derivable g (types_at p s.set) (left_at p s.set) s.goal → (e : Expr) × (fits_place g (record { ctx = ctx; left = left_at p s.set; wanted = s.goal }) e ≡ true)
   pub a_term_is_derivable : (ctx : List (List ℕ)) → types_bound ctx ≡ types_at p s.set → (e : Expr) → fits_place g (record { ctx = ctx; left = left_at p s.set; wanted = s.goal }) e ≡ true → Derivable g (types_at p s.set) (left_at p s.set) s.goal
 
 -- so at each state

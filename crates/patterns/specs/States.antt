@@ -1,30 +1,40 @@
 -- States: a set of bound types with a count of lambdas left, and the type that is sought.
-use Rattle.std.specs.Prelude.{◌≡◌, ℕ, ◌-◌, ◌<◌, ◌≤◌, Bool, true, false, ◌&&◌, ◌||◌, ◌==◌, cond, List, [], length, map, slice_get, slice_index_or, position, Option, Some, None, filter}
+use Rattle.std.specs.Prelude.{◌≡◌, ◌⊎◌, ℕ, ◌-◌, ◌<◌, Bool, true, false, ◌&&◌, ◌||◌, ◌==◌, cond, List, [], length, map, slice_get, slice_index_or, position, Option, Some, None, filter}
 use Rattle.std.specs.List.{list_all, list_any}
 use Rattle.succinct.specs.Compression.{places_of}
-use Rattle.succinct.specs.Sets.{has}
+use Rattle.succinct.specs.Sets.{has, joined_with}
 use Rattle.succinct.specs.declared.kind.Succinct.{Succinct}
 use Rattle.succinct.specs.declared.need.Need.{Need}
 use Rattle.patterns.specs.declared.state.State.{State}
+use Rattle.patterns.specs.declared.bound_set.BoundSet.{BoundSet}
 use Rattle.patterns.specs.declared.wanted.Wanted.{Wanted}
 
--- the depth, the sets that lambdas bind (set k + 1 is the k-th of them, with no lambda left), and where each
--- need is sought; a set's number stands for the set together with its count of lambdas left
+-- The depth; the sets of bound types, each with its count of lambdas left; for each set and lambda the set in which
+-- the lambda's body is sought; and where each need is sought. A set's number stands for the set with its count.
 pub record Space : Type 0 where
   pub depth : ℕ
-  pub bound : List (List ℕ)
+  pub bound : List BoundSet
+  pub steps : List (List ℕ)
   pub wanted : List Wanted
 
--- the types of a set, and its lambdas left; set 0 is empty and has them all
+-- no type, and no lambda left
+abbrev pub no_set : BoundSet
+no_set = record { types = []; left = 0 }
+
+-- the types of a set, and its lambdas left
 abbrev pub types_at : Space → ℕ → List ℕ
-types_at p set = cond (set == 0) [] (slice_index_or p.bound (set - 1) [])
+types_at p set = (slice_index_or p.bound set no_set).types
 
 abbrev pub left_at : Space → ℕ → ℕ
-left_at p set = cond (set == 0) p.depth 0
+left_at p set = (slice_index_or p.bound set no_set).left
+
+-- the set in which the body of a lambda is sought, by the number of its need
+abbrev pub step_at : List (List ℕ) → ℕ → ℕ → Option ℕ
+step_at steps set n = slice_get (slice_index_or steps set []) n
 
 -- the set in which a want is sought from a set, or none where a lambda is wanted and none is left
 abbrev pub set_sought : Space → ℕ → Wanted → Option ℕ
-set_sought p set w = cond w.lambda (cond ((set == 0) && (p.depth == 1)) (Some w.set) None) (Some set)
+set_sought p set w = cond w.lambda (cond (left_at p set == 0) None (step_at p.steps set w.number)) (Some set)
 
 -- the states, as a table keeps them
 pub record StateTable : Type 0 where
@@ -70,11 +80,11 @@ IsListed states s = (t : ℕ) × (slice_get states t ≡ Some s)
 
 -- the set of each state is there
 abbrev pub AreInRange : Space → List State → Type 0
-AreInRange p states = (s : State) → IsListed states s → s.set ≤ length p.bound
+AreInRange p states = (s : State) → IsListed states s → s.set < length p.bound
 
 -- a set in which a want is sought is there, where the set that it is sought from is
 abbrev pub AreSetsInRange : Space → Type 0
-AreSetsInRange p = (n set to : ℕ) (w : Wanted) → slice_get p.wanted n ≡ Some w → set_sought p set w ≡ Some to → set ≤ length p.bound → to ≤ length p.bound
+AreSetsInRange p = (n set to : ℕ) (w : Wanted) → slice_get p.wanted n ≡ Some w → set_sought p set w ≡ Some to → set < length p.bound → to < length p.bound
 
 -- the state in which a need is sought is listed
 abbrev pub IsOpenNeed : Space → List State → State → ℕ → Type 0
@@ -114,28 +124,49 @@ ending ends goal = list_at ends.lists (position (λ x. goal == x) ends.goals)
 abbrev pub AreEnds : List Succinct → EndTable → Type 0
 AreEnds kinds ends = (goal : ℕ) → ending ends goal ≡ kinds_of kinds goal
 
--- where a need is sought: its type, and the set that a lambda binds where the depth allows one
-pub record IsWantedAs (depth : ℕ) (bound : List (List ℕ)) (need : Need) (w : Wanted) : Type 0 where
+-- where a need is sought: its type, and for a lambda the number of the need
+pub record IsWantedAs (n : ℕ) (need : Need) (w : Wanted) : Type 0 where
   pub lambda : w.lambda ≡ need.lambda
   pub goal : w.goal ≡ need.result
-  pub binds : need.lambda ≡ true → depth ≡ 1 → (0 < w.set) × (slice_get bound (w.set - 1) ≡ Some need.params)
+  pub number : w.number ≡ n
 
 -- each need is sought as the table says
-abbrev pub AreWanted : ℕ → List (List ℕ) → List Need → List Wanted → Type 0
-AreWanted depth bound needs wanted = (n : ℕ) (need : Need) → slice_get needs n ≡ Some need → (w : Wanted) × (slice_get wanted n ≡ Some w) × IsWantedAs depth bound need w
+abbrev pub AreWanted : List Need → List Wanted → Type 0
+AreWanted needs wanted = (n : ℕ) (need : Need) → slice_get needs n ≡ Some need → (w : Wanted) × (slice_get wanted n ≡ Some w) × IsWantedAs n need w
 
--- the types are what the lambda of a need binds, where the depth allows lambdas
-pub record IsBoundBy (depth : ℕ) (needs : List Need) (types : List ℕ) : Type 0 where
-  pub one : depth ≡ 1
+-- the set with what the lambda of a need binds in it, and one lambda fewer left
+abbrev pub bound_in : BoundSet → Need → BoundSet
+bound_in set need = record { types = joined_with set.types need.params; left = set.left - 1 }
+
+-- the body of each of the first so many lambdas is sought in the set with what it binds
+abbrev pub ArePlaced : List Need → BoundSet → List BoundSet → List ℕ → ℕ → Type 0
+ArePlaced needs outer bound row count = (n : ℕ) (need : Need) → n < count → slice_get needs n ≡ Some need → need.lambda ≡ true → (to : ℕ) × (slice_get row n ≡ Some to) × (slice_get bound to ≡ Some (bound_in outer need))
+
+-- the set is the outer one with what some lambda binds in it
+pub record IsBinding (needs : List Need) (outer set : BoundSet) : Type 0 where
   pub number : ℕ
   pub need : Need
   pub numbered : slice_get needs number ≡ Some need
   pub lambda : need.lambda ≡ true
-  pub params : need.params ≡ types
+  pub is : set ≡ bound_in outer need
 
--- each set is what a lambda binds, so that there is none where the depth is 0
-abbrev pub AreBound : ℕ → List Need → List (List ℕ) → Type 0
-AreBound depth needs bound = (k : ℕ) (types : List ℕ) → slice_get bound k ≡ Some types → IsBoundBy depth needs types
+-- from each of the first so many sets in which a lambda is left, the body of each lambda is sought in the set with
+-- what it binds
+abbrev pub AreSteps : List Need → List BoundSet → List (List ℕ) → ℕ → Type 0
+AreSteps needs bound steps count = (k n : ℕ) (set : BoundSet) (need : Need) → k < count → slice_get bound k ≡ Some set → 0 < set.left → slice_get needs n ≡ Some need → need.lambda ≡ true → (to : ℕ) × (step_at steps k n ≡ Some to) × (slice_get bound to ≡ Some (bound_in set need))
+
+-- the set is an earlier one with what a lambda binds in it
+pub record IsBoundBy (needs : List Need) (bound : List BoundSet) (k : ℕ) (set : BoundSet) : Type 0 where
+  pub from : ℕ
+  pub outer : BoundSet
+  pub earlier : from < k
+  pub there : slice_get bound from ≡ Some outer
+  pub room : 0 < outer.left
+  pub binding : IsBinding needs outer set
+
+-- set 0 is empty and has all lambdas left, and each other one is what lambdas bind
+abbrev pub AreBound : ℕ → List Need → List BoundSet → Type 0
+AreBound depth needs bound = (k : ℕ) (set : BoundSet) → slice_get bound k ≡ Some set → ((k ≡ 0) × (set ≡ record { types = []; left = depth })) ⊎ IsBoundBy needs bound k set
 
 -- the kinds that end in the goal of a state and are met there, by the marks
 abbrev pub list_of : Space → List Succinct → List State → List Bool → State → List ℕ

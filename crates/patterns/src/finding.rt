@@ -76,7 +76,7 @@ pub fn find(
 ) -> Result<Found, AllocError>
     requires ends { AreEnds kinds.now ends.now }
     ensures found { IfOk result (λ f. AreFound sets.now kinds.now goal f.states.keys (map (λ l. l.items) f.lists.items)) }
-    ensures in_range { IfOk result (λ f. AreSetsInRange sets.now → AreInRange sets.now f.states.keys) }
+    ensures in_range { IfOk result (λ f. 0 < length sets.now.bound → AreSetsInRange sets.now → AreInRange sets.now f.states.keys) }
     ensures small { IfOk result (λ f. length f.states.keys < 4294967296) }
 {
     let mut states = first_state(alloc, sets, goal)?;

@@ -5,6 +5,7 @@
 // the kit's `indexmap`.
 #![tactic(auto)]
 
+mod bound_set;
 mod exploring;
 mod finding;
 mod kinds_by_result;
@@ -17,7 +18,7 @@ mod saturate;
 mod sets;
 mod state;
 mod states;
-mod type_set;
+mod steps;
 mod wanted;
 mod wanting;
 mod watchers;

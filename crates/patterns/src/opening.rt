@@ -1,6 +1,6 @@
 // The states that a state leads to.
 
-ghost use Rattle.std.specs.Prelude.{◌≡◌, ◌⊎◌, ◌≤◌, OnOk, length, slice_get, Some};
+ghost use Rattle.std.specs.Prelude.{◌≡◌, ◌⊎◌, ◌<◌, OnOk, length, slice_get, Some};
 ghost use Rattle.succinct.specs.Numbering.{IsGrown};
 ghost use Rattle.succinct.specs.declared.kind.Succinct.{Succinct};
 ghost use Rattle.patterns.specs.States.{AreInRange, AreSetsInRange, IsListed, IsOpenNeed, IsOpenKind, IsOpenState};
@@ -25,7 +25,7 @@ pub fn list_state(states: &mut States, state: State) -> Result<(), AllocError>
 pub fn open_need(sets: &Sets, states: &mut States, from: State, need: u32) -> Result<(), AllocError>
     ensures open { OnOk result (IsOpenNeed sets.now states.new.keys from need) }
     ensures grown { IsGrown states.old.keys states.new.keys }
-    ensures in_range { OnOk result (AreSetsInRange sets.now → from.set ≤ length sets.now.bound → AreInRange sets.now states.old.keys → AreInRange sets.now states.new.keys) }
+    ensures in_range { OnOk result (AreSetsInRange sets.now → from.set < length sets.now.bound → AreInRange sets.now states.old.keys → AreInRange sets.now states.new.keys) }
 {
     let wanted = match sets.wanted(need) {
         Some(wanted) => wanted,
@@ -52,7 +52,7 @@ pub fn open_kind(
 ) -> Result<(), AllocError>
     ensures open { OnOk result (IsOpenKind sets.now states.new.keys from needs.now) }
     ensures grown { IsGrown states.old.keys states.new.keys }
-    ensures in_range { OnOk result (AreSetsInRange sets.now → from.set ≤ length sets.now.bound → AreInRange sets.now states.old.keys → AreInRange sets.now states.new.keys) }
+    ensures in_range { OnOk result (AreSetsInRange sets.now → from.set < length sets.now.bound → AreInRange sets.now states.old.keys → AreInRange sets.now states.new.keys) }
 {
     for need in needs {
         open_need(sets, states, from, *need)?;
@@ -70,10 +70,13 @@ fn open_numbered(
 ) -> Result<(), AllocError>
     ensures open { OnOk result ((found : Succinct) → slice_get kinds.now kind ≡ Some found → IsOpenKind sets.now states.new.keys from found.needs) }
     ensures grown { IsGrown states.old.keys states.new.keys }
-    ensures in_range { OnOk result (AreSetsInRange sets.now → from.set ≤ length sets.now.bound → AreInRange sets.now states.old.keys → AreInRange sets.now states.new.keys) }
+    ensures in_range { OnOk result (AreSetsInRange sets.now → from.set < length sets.now.bound → AreInRange sets.now states.old.keys → AreInRange sets.now states.new.keys) }
 {
     match kinds.get(kind as usize) {
-        Some(found) => open_kind(sets, states, from, found.needs.as_slice()),
+        Some(found) => {
+            open_kind(sets, states, from, found.needs.as_slice())?;
+            Ok(())
+        }
         None => Ok(()),
     }
 }
@@ -88,7 +91,7 @@ pub fn open_state(
 ) -> Result<(), AllocError>
     ensures open { OnOk result (IsOpenState sets.now kinds.now states.new.keys from ending.now) }
     ensures grown { IsGrown states.old.keys states.new.keys }
-    ensures in_range { OnOk result (AreSetsInRange sets.now → from.set ≤ length sets.now.bound → AreInRange sets.now states.old.keys → AreInRange sets.now states.new.keys) }
+    ensures in_range { OnOk result (AreSetsInRange sets.now → from.set < length sets.now.bound → AreInRange sets.now states.old.keys → AreInRange sets.now states.new.keys) }
 {
     for kind in ending {
         open_numbered(sets, states, from, kinds, *kind)?;

@@ -5,6 +5,7 @@ ghost use Rattle.patterns.specs.Patterned.{Patterned, ArePatterns, Agrees, AreSo
 ghost use Rattle.patterns.specs.States.{types_at, left_at, set_sought, place_of};
 ghost use Rattle.succinct.specs.Compression.{IsCompression};
 ghost use Rattle.terms.specs.Faults.{IsValid};
+ghost use Rattle.terms.specs.Typing.{most_rows};
 ghost use Rattle.terms.specs.declared.parts.Parts.{Parts};
 
 use crate::finding::{Found, find};
@@ -12,9 +13,9 @@ use crate::kinds_by_result::Ends;
 use crate::sets::Sets;
 use crate::state::State;
 use crate::states::States;
+use crate::steps::{Steps, all_steps};
 use crate::wanted::Wanted;
 use crate::wanting::all_wanted;
-use indexmap::IndexSet;
 use std::alloc::{AllocError, Global};
 use std::marker::Model;
 use succinct::Compressed;
@@ -47,20 +48,21 @@ impl Patterns {
         goal: u32,
         depth: u32,
     ) -> Result<Patterns, AllocError>
-        requires in_range { depth ≤ 1 }
+        requires in_range { depth ≤ most_rows }
         ensures patterns { IfOk result (λ d. ArePatterns compressed.now goal depth d) }
         ensures agrees { IfOk result (λ d. (g : Parts) → IsValid g → IsCompression g compressed.now → Agrees g compressed.now d) }
         ensures sought { IfOk result (λ d. (g : Parts) → IsCompression g compressed.now → AreSought compressed.now d) }
-        ensures small { IfOk result (λ d. (suc (length d.space.bound) < 4294967296) × (length d.states < 4294967296)) }
+        ensures small { IfOk result (λ d. (length d.space.bound < 4294967296) × (length d.states < 4294967296)) }
     {
-        let mut bound = IndexSet::new(alloc);
-        let wanted = all_wanted(alloc, &mut bound, compressed.needs(), depth)?;
-        if bound.len() > 4294967294 {
+        let wanted = all_wanted(alloc, compressed.needs())?;
+        let Steps { bound, rows } = all_steps(alloc, compressed.needs(), depth)?;
+        if bound.len() > 4294967295 {
             return Err(AllocError);
         }
         let sets = Sets {
             depth,
             bound,
+            rows,
             wanted,
         };
         let ends = Ends::of(alloc, compressed.kinds())?;

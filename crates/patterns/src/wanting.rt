@@ -1,73 +1,29 @@
 // Where each need is sought, as a table.
 
-ghost use Rattle.std.specs.Prelude.{◌≡◌, ◌⊎◌, ◌<◌, ◌-◌, ℕ, List, IfOk, OnOk, Some, length, map, slice_get};
-ghost use Rattle.patterns.specs.States.{AreBound, AreWanted, IsWantedAs};
-ghost use Rattle.succinct.specs.Numbering.{IsGrown};
-ghost use Rattle.succinct.specs.declared.need.Need.{Need};
+ghost use Rattle.std.specs.Prelude.{◌≡◌, IfOk, length};
+ghost use Rattle.patterns.specs.States.{AreWanted};
 
-use crate::type_set::TypeSet;
 use crate::wanted::Wanted;
-use indexmap::IndexSet;
 use lists::Items;
 use std::alloc::{AllocError, Global};
-use succinct::{Need, number_of};
+use succinct::Need;
 
-/// The number of a set of bound types, after the empty set's 0.
-fn set_number(bound: &mut IndexSet<TypeSet>, types: Items<u32>) -> Result<u32, AllocError>
-    ensures numbered { IfOk result (λ k. (0 < k) × (slice_get (map (λ t. t.types) bound.new.keys) (k - 1) ≡ Some types)) }
-    ensures grown { IsGrown (map (λ t. t.types) bound.old.keys) (map (λ t. t.types) bound.new.keys) }
-    ensures only { OnOk result ((k : ℕ) (set : List ℕ) → slice_get (map (λ t. t.types) bound.new.keys) k ≡ Some set → (slice_get (map (λ t. t.types) bound.old.keys) k ≡ Some set) ⊎ (set ≡ types)) }
+/// Where each need is sought. Want of memory is also answered where the needs are 2^32 or more.
+pub fn all_wanted(alloc: Global, needs: &[Need]) -> Result<Items<Wanted>, AllocError>
+    ensures wanted { IfOk result (λ wanted. AreWanted needs.now wanted) }
+    ensures lengths { IfOk result (λ wanted. length wanted ≡ length needs.now) }
 {
-    let number = number_of(bound, TypeSet { types })?;
-    if number == 4294967295 {
+    if needs.len() > 4294967295 {
         return Err(AllocError);
     }
-    Ok(number + 1)
-}
-
-/// Where a need is sought: a lambda's set is numbered where the depth allows lambdas, and is 0 elsewhere.
-fn wanted_of(
-    alloc: Global,
-    bound: &mut IndexSet<TypeSet>,
-    need: &Need,
-    depth: u32,
-) -> Result<Wanted, AllocError>
-    ensures wanted { IfOk result (λ w. IsWantedAs depth (map (λ t. t.types) bound.new.keys) need.now w) }
-    ensures grown { IsGrown (map (λ t. t.types) bound.old.keys) (map (λ t. t.types) bound.new.keys) }
-    ensures only { OnOk result ((needs : List Need) (n : ℕ) → slice_get needs n ≡ Some need.now → AreBound depth needs (map (λ t. t.types) bound.old.keys) → AreBound depth needs (map (λ t. t.types) bound.new.keys)) }
-{
-    if need.lambda {
-        if depth == 1 {
-            let types = Items::from_slice(alloc, need.params.as_slice())?;
-            let set = set_number(bound, types)?;
-            return Ok(Wanted {
-                lambda: true,
-                set,
-                goal: need.result,
-            });
-        }
-    }
-    Ok(Wanted {
-        lambda: need.lambda,
-        set: 0,
-        goal: need.result,
-    })
-}
-
-/// Where each need is sought.
-pub fn all_wanted(
-    alloc: Global,
-    bound: &mut IndexSet<TypeSet>,
-    needs: &[Need],
-    depth: u32,
-) -> Result<Items<Wanted>, AllocError>
-    ensures wanted { IfOk result (λ wanted. AreWanted depth (map (λ t. t.types) bound.new.keys) needs.now wanted) }
-    ensures lengths { IfOk result (λ wanted. length wanted ≡ length needs.now) }
-    ensures only { OnOk result (AreBound depth needs.now (map (λ t. t.types) bound.old.keys) → AreBound depth needs.now (map (λ t. t.types) bound.new.keys)) }
-{
     let mut wanted = Items::new(alloc);
-    for need in needs {
-        wanted.push(wanted_of(alloc, bound, need, depth)?)?;
+    for i in 0..needs.len() {
+        let need = &needs[i];
+        wanted.push(Wanted {
+            lambda: need.lambda,
+            number: i as u32,
+            goal: need.result,
+        })?;
     }
     Ok(wanted)
 }

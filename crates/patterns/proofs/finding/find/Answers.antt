@@ -13,4 +13,4 @@ returns-clause-found c = record {
 }
 
 pub returns-clause-in_range : goal.returns-clause-in_range
-returns-clause-in_range c sets = c.in_ok-explore.ensures.in_range sets (range-first c.args.sets.now _ _ c.in_ok-states.ensures.only)
+returns-clause-in_range c some sets = c.in_ok-explore.ensures.in_range sets (range-first c.args.sets.now _ _ some c.in_ok-states.ensures.only)

@@ -1,6 +1,4 @@
-use Rattle.succinct.proofs.Needs.{distinct_from}
 use Rattle.patterns.proofs.Lists.{lists-are, sound-none}
-use Rattle.patterns.proofs.Mets.{self_state}
 use Rattle.patterns.proofs.finding.lists_of.Goals as goal
 
 pub returns-clause-distinct : goal.returns-clause-distinct

@@ -1,4 +1,4 @@
-use Rattle.std.proofs.Common.{refl, arith, rules}
+use Rattle.std.proofs.Common.{arith}
 use Rattle.patterns.proofs.Quiet.{quiet-none, quiet-all}
 use Rattle.patterns.proofs.saturate.first_round.Goals as goal
 

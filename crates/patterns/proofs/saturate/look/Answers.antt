@@ -1,4 +1,4 @@
-use Rattle.std.proofs.Common.{map, refl, arith, rules}
+use Rattle.std.proofs.Common.{map, rules}
 use Rattle.std.proofs.lemmas.List.{get_or_read}
 use Rattle.patterns.proofs.Quiet.{next-quiet, quiet-end}
 use Rattle.patterns.proofs.saturate.look.Goals as goal

@@ -1,7 +1,6 @@
-use Rattle.std.proofs.Common.{◌<◌, ◌∙◌, List, ℕ, length, map, sym, ap, subst, refl, arith, rules}
+use Rattle.std.proofs.Common.{◌<◌, ◌∙◌, length, map, sym, ap, subst}
 use Rattle.succinct.proofs.Places.{each-same}
 use Rattle.patterns.specs.Waiting.{AreTargets, AreUses}
-use Rattle.patterns.specs.declared.watchers.Use.{Use}
 use Rattle.patterns.proofs.Used.{targets-in_range}
 use Rattle.patterns.proofs.saturate.settle.Goals as goal
 

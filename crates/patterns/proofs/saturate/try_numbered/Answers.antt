@@ -1,4 +1,4 @@
-use Rattle.std.proofs.Common.{sym, refl, arith, rules}
+use Rattle.std.proofs.Common.{sym}
 use Rattle.patterns.proofs.Quiet.{quiet-unnumbered}
 use Rattle.patterns.proofs.saturate.try_numbered.Goals as goal
 

@@ -1,4 +1,4 @@
-use Rattle.std.proofs.Common.{refl, ap, length, ◌∙◌, length-append, arith, rules}
+use Rattle.std.proofs.Common.{refl, arith}
 use Rattle.patterns.proofs.Quiet.{quiet-past, marked-quiet, unmet-quiet, tried-quiet, tried-sound}
 use Rattle.patterns.proofs.saturate.try_use.Goals as goal
 

@@ -1,10 +1,9 @@
-use Rattle.std.proofs.Common.{◌≡◌, take, map, length}
-use Rattle.patterns.specs.States.{AreBound, AreWanted}
+use Rattle.std.proofs.Common.{◌≡◌, take, length}
+use Rattle.patterns.specs.States.{AreWanted}
 use Rattle.patterns.proofs.wanting.all_wanted.Given as goal
 
-abbrev pub invariant-loop-need : goal.invariant-loop-need
-invariant-loop-need l = record {
-  long : length l.wanted ≡ l.need-index;
-  wanted : AreWanted l.initial.depth (map (λ t. t.types) l.bound.keys) (take l.need-index l.initial.needs) l.wanted;
-  only : AreBound l.initial.depth l.initial.needs (map (λ t. t.types) l.initial.bound.keys) → AreBound l.initial.depth l.initial.needs (map (λ t. t.types) l.bound.keys);
+abbrev pub invariant-loop-i : goal.invariant-loop-i
+invariant-loop-i l = record {
+  long : length l.wanted ≡ l.i;
+  wanted : AreWanted (take l.i l.needs) l.wanted;
 }

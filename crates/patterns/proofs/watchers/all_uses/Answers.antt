@@ -1,4 +1,4 @@
-use Rattle.std.proofs.Common.{◌∙◌, refl, arith, rules}
+use Rattle.std.proofs.Common.{◌∙◌, refl, rules}
 use Rattle.patterns.proofs.Used.{used-states, used-all, state-at}
 use Rattle.patterns.proofs.watchers.all_uses.Goals as goal
 
