@@ -7,15 +7,15 @@ use Rattle.std.proofs.lemmas.List.{get_or_past}
 use Rattle.std.proofs.lemmas.Bool.{cases_lt}
 use Rattle.terms.specs.declared.parts.Parts.{Parts}
 use Rattle.succinct.specs.Compression.{Compression, IsCompression, IsKindOf, Source, sources, AreNeedsOf, places_of}
-use Rattle.succinct.specs.Sets.{has, set_of}
+use Rattle.succinct.specs.Sets.{has, set_of, IsRising}
 use Rattle.succinct.specs.declared.kind.Succinct.{Succinct}
 use Rattle.succinct.proofs.Rising.{has-joined_with}
 use Rattle.patterns.specs.Patterned.{Patterned, state_sought, sought_from, ArePatterns}
 use Rattle.patterns.specs.Met.{AreMet}
-use Rattle.patterns.specs.States.{set_sought, place_in, place_sought, place_of, AreWanted, kinds_of}
+use Rattle.patterns.specs.States.{types_at, set_sought, place_in, place_sought, place_of, AreWanted, kinds_of}
 use Rattle.patterns.specs.declared.state.State.{State}
 use Rattle.patterns.specs.declared.wanted.Wanted.{Wanted}
-use Rattle.patterns.proofs.Meaning.{IsSought, needs-sought}
+use Rattle.patterns.proofs.Meaning.{IsSought, needs-sought, types-rising}
 use Rattle.patterns.proofs.Mets.{place_of-is, in_ends}
 use Rattle.edges.specs.Edges.{IsOffered}
 use Rattle.edges.specs.Made.{AreFound, sources_in, sources_at}
@@ -100,8 +100,11 @@ module _ (g : Parts) (c : Compression) (comp : IsCompression g c) where
         let long = made.found.as_many in
         slice_get-get_or d.lists i [] (omega (arith, low, long))
 
-    table : AreWanted d.space.depth d.space.bound c.needs d.space.wanted
-    table = subst (λ n. AreWanted n d.space.bound c.needs d.space.wanted) (sym made.depth_is) made.wanted
+    table : AreWanted c.needs d.space.wanted
+    table = made.wanted
+
+    rising : (set : ℕ) → IsRising (types_at d.space set)
+    rising = types-rising depth c.needs d.space made.only_sets
 
     -- a listed kind ends in the goal of its state
     pub listed-gives : (i k : ℕ) (s : State) (kind : Succinct) → slice_get d.states i ≡ Some s → slice_get c.kinds k ≡ Some kind → has k (get_or d.lists i []) ≡ true → kind.result ≡ s.goal
@@ -120,7 +123,7 @@ module _ (g : Parts) (c : Compression) (comp : IsCompression g c) where
         let same : r.0 ≡ kind = some_eq r.0 kind (sym r.1 ∙ found) in
         let met : AreMet d.space c.kinds s kind.needs = subst (λ (x : Succinct). AreMet d.space c.kinds s x.needs) same r.3 in
         let gives : kind.result ≡ s.goal = ap (λ (x : Succinct). x.result) (sym same) ∙ r.2 in
-        let q : IsSought g d.space s m = needs-sought g c d.space comp table s kind.needs met m has_m in
+        let q : IsSought g d.space s m = needs-sought g c d.space comp table made.steps rising s kind.needs met m has_m in
         let zero_add : 0 + k ≡ k = omega arith in
         let ends : has k (kinds_of c.kinds s.goal) ≡ true = ap (λ x. has x (kinds_of c.kinds s.goal)) (sym zero_add) ∙ in_ends c.kinds s.goal k 0 kind found gives in
         let there = made.found.closed s (i, is) k kind ends found m has_m q.wanted q.to q.is q.sought in

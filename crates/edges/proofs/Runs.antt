@@ -65,7 +65,7 @@ pub starts_below-none : (g : Parts) (c : Compression) (d : Patterned) → starts
 unfolding starts_below
 starts_below-none g c d = refl
 
-pub edges_below-more : (g : Parts) (c : Compression) (d : Patterned) (i : ℕ) → edges_below g c d (i + 1) ≡ edges_below g c d i ++ (bound_at d i ++ edges_at g c d i (sources_at c d i))
+pub edges_below-more : (g : Parts) (c : Compression) (d : Patterned) (i : ℕ) → edges_below g c d (i + 1) ≡ edges_below g c d i ++ (bound_at g d i ++ edges_at g c d i (sources_at c d i))
 unfolding edges_below
 edges_below-more g c d i = (let e : i + 1 ≡ suc i = omega arith in ap (edges_below g c d) e)
 

@@ -11,7 +11,7 @@ use Rattle.patterns.specs.States.{types_at}
 use Rattle.patterns.specs.declared.state.State.{State}
 use Rattle.terms.specs.declared.parts.Parts.{Parts}
 use Rattle.edges.specs.Edges.{Edge, IsEdge, IsOffered, HasEdge, ComesBefore, AreEdges, source_costs, rank}
-use Rattle.edges.specs.Made.{edge_within, edge_at, edges_at, sources_in, sources_at, bound_in, bound_at, edges_below, tails_at}
+use Rattle.edges.specs.Made.{edge_within, edge_at, edges_at, sources_in, sources_at, bound_edge, bound_in, bound_at, edges_below, tails_at}
 use Rattle.edges.proofs.Offered.{named-by, offered-by, by-offered, offered-found}
 use Rattle.edges.proofs.Options.{some_eq, none_some, there}
 use Rattle.edges.proofs.Orders.{Each, Rises, each-none, each-one, each-both, rises-none, rises-one, rises-both, has-one, has-first, has-second}
@@ -79,37 +79,37 @@ module _ (g : Parts) (c : Compression) (d : Patterned) where
       go again (inr apart) = has-second i (Some n) (edge_at g c d i m) (edges_at g c d i ns) (again (elim (or_cases (n == m) (has n ns) h) [ inl same ↦ absurd (apart (eqb-true n m same)) | inr later ↦ later ]))
 
 -- the edge of the variables
-pub bound-none : (d : Patterned) (i : ℕ) (s : State) → slice_get d.states i ≡ Some s → has s.goal (types_at d.space s.set) ≡ false → bound_at d i ≡ []
-bound-none d i s is free = ap (bound_in d i) is ∙ ap (λ b. cond b (record { state = i; source = None; weight = 1; tails = [] } ∷ []) []) free
+pub bound-none : (g : Parts) (d : Patterned) (i : ℕ) (s : State) → slice_get d.states i ≡ Some s → has s.goal (types_at d.space s.set) ≡ false → bound_at g d i ≡ []
+bound-none g d i s is free = ap (bound_in g d i) is ∙ ap (λ b. cond b (bound_edge g i ∷ []) []) free
 
-pub bound-one : (d : Patterned) (i : ℕ) (s : State) → slice_get d.states i ≡ Some s → has s.goal (types_at d.space s.set) ≡ true → bound_at d i ≡ record { state = i; source = None; weight = 1; tails = [] } ∷ []
-bound-one d i s is bound = ap (bound_in d i) is ∙ ap (λ b. cond b (record { state = i; source = None; weight = 1; tails = [] } ∷ []) []) bound
+pub bound-one : (g : Parts) (d : Patterned) (i : ℕ) (s : State) → slice_get d.states i ≡ Some s → has s.goal (types_at d.space s.set) ≡ true → bound_at g d i ≡ bound_edge g i ∷ []
+bound-one g d i s is bound = ap (bound_in g d i) is ∙ ap (λ b. cond b (bound_edge g i ∷ []) []) bound
 
 module _ (g : Parts) (c : Compression) (d : Patterned) where
   abbrev IsVariable : ℕ → Edge → Type 0
   IsVariable i e = (e.state ≡ i) × (e.source ≡ None) × IsEdge g c d e
 
-  bound-each : (i : ℕ) (o : Option State) → slice_get d.states i ≡ o → Each (IsVariable i) (bound_in d i o)
+  bound-each : (i : ℕ) (o : Option State) → slice_get d.states i ≡ o → Each (IsVariable i) (bound_in g d i o)
   bound-each i None is = each-none (IsVariable i)
   bound-each i (Some s) is = go (has s.goal (types_at d.space s.set)) refl
     where
-      go : (b : Bool) → has s.goal (types_at d.space s.set) ≡ b → Each (IsVariable i) (cond b (record { state = i; source = None; weight = 1; tails = [] } ∷ []) [])
-      go true e = each-one (IsVariable i) (record { state = i; source = None; weight = 1; tails = [] }) (refl, refl, inl (record { of_variables = refl; state = s; is = is; bound = e; weight = refl; tails = refl }))
+      go : (b : Bool) → has s.goal (types_at d.space s.set) ≡ b → Each (IsVariable i) (cond b (bound_edge g i ∷ []) [])
+      go true e = each-one (IsVariable i) (bound_edge g i) (refl, refl, inl (record { of_variables = refl; state = s; is = is; bound = e; weight = refl; tails = refl }))
       go false e = each-none (IsVariable i)
 
-  bound-rises : (i : ℕ) (o : Option State) → Rises (bound_in d i o)
+  bound-rises : (i : ℕ) (o : Option State) → Rises (bound_in g d i o)
   bound-rises i None = rises-none
   bound-rises i (Some s) = go (has s.goal (types_at d.space s.set))
     where
-      go : (b : Bool) → Rises (cond b (record { state = i; source = None; weight = 1; tails = [] } ∷ []) [])
-      go true = rises-one (record { state = i; source = None; weight = 1; tails = [] })
+      go : (b : Bool) → Rises (cond b (bound_edge g i ∷ []) [])
+      go true = rises-one (bound_edge g i)
       go false = rises-none
 
-  bound-has : (i : ℕ) (s : State) → slice_get d.states i ≡ Some s → has s.goal (types_at d.space s.set) ≡ true → HasEdge i None (bound_at d i)
-  bound-has i s is h = subst (λ o. HasEdge i None (bound_in d i o)) (sym is) (go (has s.goal (types_at d.space s.set)) h)
+  bound-has : (i : ℕ) (s : State) → slice_get d.states i ≡ Some s → has s.goal (types_at d.space s.set) ≡ true → HasEdge i None (bound_at g d i)
+  bound-has i s is h = subst (λ o. HasEdge i None (bound_in g d i o)) (sym is) (go (has s.goal (types_at d.space s.set)) h)
     where
-      go : (b : Bool) → b ≡ true → HasEdge i None (cond b (record { state = i; source = None; weight = 1; tails = [] } ∷ []) [])
-      go true e = has-one i None (record { state = i; source = None; weight = 1; tails = [] }) refl refl
+      go : (b : Bool) → b ≡ true → HasEdge i None (cond b (bound_edge g i ∷ []) [])
+      go true e = has-one i None (bound_edge g i) refl refl
       go false e = absurd (false≢true e)
 
 module _ (g : Parts) (c : Compression) (d : Patterned) (comp : IsCompression g c) {goal depth : ℕ} (made : ArePatterns c goal depth d) where
@@ -140,18 +140,18 @@ module _ (g : Parts) (c : Compression) (d : Patterned) (comp : IsCompression g c
   sources-each i s is n h = source-each i n s is (offered-by g c comp d i n h) (slice_get (source_costs g) n) refl
 
   abbrev pub at_state : ℕ → List Edge
-  at_state i = bound_at d i ++ edges_at g c d i (sources_at c d i)
+  at_state i = bound_at g d i ++ edges_at g c d i (sources_at c d i)
 
   abbrev pub IsOfState : ℕ → Edge → Type 0
   IsOfState i e = (e.state ≡ i) × IsEdge g c d e
 
   pub state-each : (i : ℕ) (s : State) → slice_get d.states i ≡ Some s → Each (IsOfState i) (at_state i)
-  state-each i s is = each-both (IsOfState i) (bound_at d i) (edges_at g c d i (sources_at c d i))
+  state-each i s is = each-both (IsOfState i) (bound_at g d i) (edges_at g c d i (sources_at c d i))
       (λ m e h. (let r = bound-each g c d i (slice_get d.states i) refl m e h in (r.0, r.2)))
       (λ m e h. (let r = among-each g c d i (sources_at c d i) (sources-each i s is) m e h in (r.at.state, r.at.edge)))
 
   state-rises : (i : ℕ) (s : State) → slice_get d.states i ≡ Some s → Rises (at_state i)
-  state-rises i s is = rises-both (bound_at d i) (edges_at g c d i (sources_at c d i)) (bound-rises g c d i (slice_get d.states i)) (among-rises g c d i (sources_at c d i) (rising-joined_with [] (sources_in c.selected (get_or d.lists i [])) tt) (sources-each i s is))
+  state-rises i s is = rises-both (bound_at g d i) (edges_at g c d i (sources_at c d i)) (bound-rises g c d i (slice_get d.states i)) (among-rises g c d i (sources_at c d i) (rising-joined_with [] (sources_in c.selected (get_or d.lists i [])) tt) (sources-each i s is))
       (λ m e h m' e' h'. before e e' (bound-each g c d i (slice_get d.states i) refl m e h) (among-each g c d i (sources_at c d i) (sources-each i s is) m' e' h'))
     where
       before : (e e' : Edge) → IsVariable g c d i e → IsAmong g c d i (sources_at c d i) e' → ComesBefore e e'
@@ -196,8 +196,8 @@ module _ (g : Parts) (c : Compression) (d : Patterned) (comp : IsCompression g c
   all-edges edges is = subst (λ es. AreEdges g c d es) (sym is) (record {
     sound = λ m e h. (below-each (length d.states) (omega arith) m e h).1;
     in_range = λ m e h. (below-each (length d.states) (omega arith) m e h).0;
-    bound = λ i s at h. below-has i (length d.states) None (slice_get_within d.states i s at) (has-first i None (bound_at d i) (edges_at g c d i (sources_at c d i)) (bound-has g c d i s at h));
-    complete = λ i n w o weight low. below-has i (length d.states) (Some n) (state-low i o) (has-second i (Some n) (bound_at d i) (edges_at g c d i (sources_at c d i)) (among-has g c d i n w (sources_at c d i) (by-offered g c comp d i n o) weight low));
+    bound = λ i s at h. below-has i (length d.states) None (slice_get_within d.states i s at) (has-first i None (bound_at g d i) (edges_at g c d i (sources_at c d i)) (bound-has g c d i s at h));
+    complete = λ i n w o weight low. below-has i (length d.states) (Some n) (state-low i o) (has-second i (Some n) (bound_at g d i) (edges_at g c d i (sources_at c d i)) (among-has g c d i n w (sources_at c d i) (by-offered g c comp d i n o) weight low));
     rising = below-rises (length d.states) (omega arith);
   })
     where

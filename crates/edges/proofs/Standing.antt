@@ -3,6 +3,7 @@ use Rattle.std.proofs.Common.{◌≡◌, inl, inr, ℕ, ◌+◌, List, [], slice
 use Rattle.succinct.specs.Compression.{Compression, Source, sources}
 use Rattle.patterns.specs.Patterned.{Patterned}
 use Rattle.terms.specs.declared.parts.Arg.{Arg}
+use Rattle.terms.specs.Weights.{variable_weight}
 use Rattle.terms.specs.declared.parts.Parts.{Parts}
 use Rattle.edges.specs.Edges.{Edge, IsBoundEdge, IsSourceEdge, IsEdge, AreTails, HasEdge, AreEdges, source_costs}
 use Rattle.edges.proofs.Options.{some_eq, none_some}
@@ -17,12 +18,12 @@ pub record Standing (c : Compression) (d : Patterned) (i w : ℕ) (args : List A
   pub tails : AreTails c d i args edge.tails
 
 -- an edge of the variables at state i
-pub record StandingBound (i : ℕ) (edges : List Edge) : Type 0 where
+pub record StandingBound (g : Parts) (i : ℕ) (edges : List Edge) : Type 0 where
   pub number : ℕ
   pub edge : Edge
   pub is : slice_get edges number ≡ Some edge
   pub at_state : edge.state ≡ i
-  pub weight : edge.weight ≡ 1
+  pub weight : edge.weight ≡ variable_weight g
   pub tails : edge.tails ≡ []
 
 module _ (g : Parts) (c : Compression) (d : Patterned) (edges : List Edge) (all : AreEdges g c d edges) where
@@ -42,7 +43,7 @@ module _ (g : Parts) (c : Compression) (d : Patterned) (edges : List Edge) (all 
         })
   ]
 
-  pub standing-bound : (i : ℕ) → HasEdge i None edges → StandingBound i edges
+  pub standing-bound : (i : ℕ) → HasEdge i None edges → StandingBound g i edges
   standing-bound i h = elim (all.sound h.number h.edge h.is) [
     | inl v ↦ record { number = h.number; edge = h.edge; is = h.is; at_state = h.at_state; weight = v.weight; tails = v.tails }
     | inr s ↦ absurd (none_some s.number (sym h.of_source ∙ s.numbered))

@@ -7,6 +7,7 @@ use Rattle.patterns.specs.Patterned.{Patterned, state_sought}
 use Rattle.patterns.specs.States.{types_at}
 use Rattle.patterns.specs.declared.state.State.{State}
 use Rattle.terms.specs.Reading.{binders}
+use Rattle.terms.specs.Weights.{variable_weight, binders_weight, coercion_weight}
 use Rattle.terms.specs.declared.parts.Arg.{Arg}
 use Rattle.terms.specs.declared.parts.Decl.{Decl}
 use Rattle.terms.specs.declared.parts.Parts.{Parts}
@@ -23,16 +24,16 @@ pub record Edge : Type 0 where
   pub tails : List ℕ
 
 -- what a declaration weighs with the binders of its lambdas
-abbrev pub decl_cost : Decl → ℕ
-decl_cost d = d.weight + binders d.args
+abbrev pub decl_cost : Parts → Decl → ℕ
+decl_cost g d = d.weight + binders_weight g (binders d.args)
 
 -- what a pair weighs: the coercion
-abbrev pub pair_cost : ℕ × ℕ → ℕ
-pair_cost p = 10
+abbrev pub pair_cost : Parts → ℕ × ℕ → ℕ
+pair_cost g p = coercion_weight g
 
 -- what each source weighs without its arguments: the declarations, and after them the pairs
 abbrev pub source_costs : Parts → List ℕ
-source_costs g = map decl_cost g.decls ++ map pair_cost g.pairs
+source_costs g = map (decl_cost g) g.decls ++ map (pair_cost g) g.pairs
 
 -- a state in which the want is sought from state i
 pub record IsTail (c : Compression) (d : Patterned) (i : ℕ) (a : Arg) (t : ℕ) : Type 0 where
@@ -52,12 +53,12 @@ pub record IsOffered (c : Compression) (d : Patterned) (i n : ℕ) : Type 0 wher
   pub listed : has kind (slice_index_or d.lists i []) ≡ true
 
 -- an edge of the variables: the goal of its state is bound there
-pub record IsBoundEdge (d : Patterned) (e : Edge) : Type 0 where
+pub record IsBoundEdge (g : Parts) (d : Patterned) (e : Edge) : Type 0 where
   pub of_variables : e.source ≡ None
   pub state : State
   pub is : slice_get d.states e.state ≡ Some state
   pub bound : has state.goal (types_at d.space state.set) ≡ true
-  pub weight : e.weight ≡ 1
+  pub weight : e.weight ≡ variable_weight g
   pub tails : e.tails ≡ []
 
 -- an edge of a source whose kind is listed at its state, and whose weight is within the limit
@@ -72,7 +73,7 @@ pub record IsSourceEdge (g : Parts) (c : Compression) (d : Patterned) (e : Edge)
   pub tails : AreTails c d e.state source.args e.tails
 
 abbrev pub IsEdge : Parts → Compression → Patterned → Edge → Type 0
-IsEdge g c d e = IsBoundEdge d e ⊎ IsSourceEdge g c d e
+IsEdge g c d e = IsBoundEdge g d e ⊎ IsSourceEdge g c d e
 
 -- the edge of this source, or of the variables, at state i stands among the edges
 pub record HasEdge (i : ℕ) (source : Option ℕ) (edges : List Edge) : Type 0 where

@@ -5,6 +5,7 @@ use Rattle.succinct.specs.Sets.{has, set_of}
 use Rattle.patterns.specs.Patterned.{Patterned, state_sought}
 use Rattle.patterns.specs.States.{types_at}
 use Rattle.patterns.specs.declared.state.State.{State}
+use Rattle.terms.specs.Weights.{variable_weight}
 use Rattle.terms.specs.declared.parts.Parts.{Parts}
 use Rattle.edges.specs.Edges.{Edge, source_costs}
 use Rattle.edges.specs.declared.head.Head.{Head}
@@ -59,18 +60,22 @@ sources_in selected (k ∷ ks) = slice_index_or selected k [] ++ sources_in sele
 abbrev pub sources_at : Compression → Patterned → ℕ → List ℕ
 sources_at c d i = set_of (sources_in c.selected (slice_index_or d.lists i []))
 
--- the edge of the variables of state i, where its goal is bound
-abbrev pub bound_in : Patterned → ℕ → Option State → List Edge
-bound_in d i None = []
-bound_in d i (Some s) = cond (has s.goal (types_at d.space s.set)) (record { state = i; source = None; weight = 1; tails = [] } ∷ []) []
+-- the edge of the variables of state i
+abbrev pub bound_edge : Parts → ℕ → Edge
+bound_edge g i = record { state = i; source = None; weight = variable_weight g; tails = [] }
 
-abbrev pub bound_at : Patterned → ℕ → List Edge
-bound_at d i = bound_in d i (slice_get d.states i)
+-- it stands there where the goal of the state is bound
+abbrev pub bound_in : Parts → Patterned → ℕ → Option State → List Edge
+bound_in g d i None = []
+bound_in g d i (Some s) = cond (has s.goal (types_at d.space s.set)) (bound_edge g i ∷ []) []
+
+abbrev pub bound_at : Parts → Patterned → ℕ → List Edge
+bound_at g d i = bound_in g d i (slice_get d.states i)
 
 -- the edges of the states below a number
 unfoldable pub edges_below : Parts → Compression → Patterned → ℕ → List Edge
 edges_below g c d zero = []
-edges_below g c d (suc i) = edges_below g c d i ++ (bound_at d i ++ edges_at g c d i (sources_at c d i))
+edges_below g c d (suc i) = edges_below g c d i ++ (bound_at g d i ++ edges_at g c d i (sources_at c d i))
 
 -- where the edges of the states up to a number start
 unfoldable pub starts_below : Parts → Compression → Patterned → ℕ → List ℕ

@@ -18,9 +18,6 @@ use std::alloc::AllocError;
 use succinct::Compressed;
 use terms::Env;
 
-/// What a variable weighs.
-const VARIABLE: u32 = 1;
-
 /// What the making of one edge overwrites.
 #[derive(Drop)]
 pub struct Scratch {
@@ -89,21 +86,25 @@ fn has(types: &[u32], goal: u32) -> bool
 }
 
 /// Puts the edge of the variables of a state at the end, where its goal is bound.
-fn add_bound(patterns: &Patterns, state: u32, table: &mut Table) -> Result<(), AllocError>
+fn add_bound(
+    env: &Env,
+    patterns: &Patterns,
+    state: u32,
+    table: &mut Table,
+) -> Result<(), AllocError>
     requires in_range { state < length patterns.now.states }
-    ensures added { OnOk result (table.new ≡ table.old ++ bound_at patterns.now state) }
+    ensures added { OnOk result (table.new ≡ table.old ++ bound_at env.now patterns.now state) }
 {
     let found = patterns.states()[state as usize];
     if !has(patterns.types_of(found.set), found.goal) {
         return Ok(());
     }
     let source = None;
-    let weight = VARIABLE;
     table.push(
         Head {
             state,
             source,
-            weight,
+            weight: env.variable_weight(),
         },
         &[],
     )
@@ -121,10 +122,10 @@ pub fn add_state(
     requires compressed { IsCompression env.now compressed.now }
     requires patterns { (goal : ℕ) × ArePatterns compressed.now goal env.now.depth patterns.now }
     requires in_range { state < length patterns.now.states }
-    ensures added { OnOk result (table.new ≡ table.old ++ (bound_at patterns.now state ++ edges_at env.now compressed.now patterns.now state (sources_at compressed.now patterns.now state))) }
+    ensures added { OnOk result (table.new ≡ table.old ++ (bound_at env.now patterns.now state ++ edges_at env.now compressed.now patterns.now state (sources_at compressed.now patterns.now state))) }
 {
     let _ = env.parts();
-    add_bound(patterns, state, table)?;
+    add_bound(env, patterns, state, table)?;
     find_sources(compressed, patterns, state, &mut scratch.sources)?;
     let Scratch { sources, tails } = scratch;
     add_sources(

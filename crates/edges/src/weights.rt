@@ -1,29 +1,50 @@
 // What the sources weigh: declarations and pairs.
 
-ghost use Rattle.std.specs.Prelude.{◌≡◌, ◌+◌, ◌≤◌, ◌<◌, ℕ, slice_get, Some, MatchOption};
+ghost use Rattle.std.specs.Prelude.{◌≡◌, ◌+◌, ◌≤◌, ◌<◌, ℕ, [], ◌∷◌, slice_get, Some, MatchOption};
 ghost use Rattle.terms.specs.Reading.{binders};
+ghost use Rattle.terms.specs.Weights.{binders_weight};
 ghost use Rattle.edges.specs.Edges.{source_costs};
 
 use terms::{Arg, Env};
 
-/// What a coercion weighs.
-const COERCION: u32 = 10;
+/// More than each limit.
+const CAP: u64 = 4_294_967_296;
 
-/// A weight with one more for each binder of the arguments, none where that is above the limit.
-fn with_binders(limit: u32, weight: u32, args: &[Arg]) -> Option<u32>
-    ensures value { MatchOption result (limit < weight + binders args.now) (λ w. (w ≡ weight + binders args.now) × (w ≤ limit)) }
+/// A weight with what so many binders weigh, none where that is above the limit.
+fn with_count(env: &Env, limit: u32, weight: u32, count: usize) -> Option<u32>
+    requires within { weight ≤ limit }
+    ensures value { MatchOption result (limit < weight + binders_weight env.now count) (λ w. (w ≡ weight + binders_weight env.now count) × (w ≤ limit)) }
+{
+    let more = (count as u64).min(CAP) * env.binder_weight() as u64;
+    if more > (limit - weight) as u64 {
+        return None;
+    }
+    Some(weight + more as u32)
+}
+
+/// A weight with what the binders of an argument weigh, none where that is above the limit.
+fn with_arg(env: &Env, limit: u32, weight: u32, arg: &Arg) -> Option<u32>
+    requires within { weight ≤ limit }
+    ensures value { MatchOption result (limit < weight + binders_weight env.now (binders (arg.now ∷ []))) (λ w. (w ≡ weight + binders_weight env.now (binders (arg.now ∷ []))) × (w ≤ limit)) }
+{
+    match arg {
+        Arg::Fun(params, _) => with_count(env, limit, weight, params.as_slice().len()),
+        Arg::Plain(_) => Some(weight),
+    }
+}
+
+/// A weight with what the binders of the arguments weigh, none where that is above the limit.
+fn with_binders(env: &Env, limit: u32, weight: u32, args: &[Arg]) -> Option<u32>
+    ensures value { MatchOption result (limit < weight + binders_weight env.now (binders args.now)) (λ w. (w ≡ weight + binders_weight env.now (binders args.now)) × (w ≤ limit)) }
 {
     if weight > limit {
         return None;
     }
     let mut sum = weight;
     for arg in args {
-        if let Arg::Fun(params, _) = arg {
-            let more = params.as_slice().len();
-            if more > (limit - sum) as usize {
-                return None;
-            }
-            sum += more as u32;
+        match with_arg(env, limit, sum, arg) {
+            Some(more) => sum = more,
+            None => return None,
         }
     }
     Some(sum)
@@ -38,10 +59,10 @@ pub fn cost_of(env: &Env, number: u32) -> Option<u32>
     let place = number as usize;
     if place < decls.len() {
         let decl = &decls[place];
-        return with_binders(parts.limit, decl.weight, decl.args.as_slice());
+        return with_binders(env, parts.limit, decl.weight, decl.args.as_slice());
     }
     if place - decls.len() < parts.pairs.as_slice().len() {
-        return with_binders(parts.limit, COERCION, &[]);
+        return with_binders(env, parts.limit, env.coercion_weight(), &[]);
     }
     None
 }

@@ -1,5 +1,6 @@
 use Rattle.std.proofs.Common.{◌≡◌, ◌+◌, ◌-◌, ◌<◌, ◌≤◌, ℕ, [], length, slice_get, Some, refl, sym, ap, subst, ◌∙◌, arith}
 use Rattle.terms.specs.Reading.{binders}
+use Rattle.terms.specs.Weights.{binders_weight, coercion_weight}
 use Rattle.terms.specs.declared.parts.Parts.{Parts}
 use Rattle.edges.specs.Edges.{source_costs}
 use Rattle.edges.proofs.Binders.{binders-none}
@@ -17,12 +18,13 @@ returns-then-place-decls-2 c =
     let limit : c.parts-parts.result.now.limit ≡ g.limit = ap (λ (p : Parts). p.limit) c.parts-parts.ensures.value in
     let past = c.if-place-decls.false in
     let low = c.if-place-decls-2.true in
-    let at : slice_get (source_costs g) c.args.number ≡ Some 10 = cost-pair g c.args.number (omega (arith, past, decls, d)) (omega (arith, low, decls, d, pairs, p)) in
+    let ten : c.coercion_weight.result ≡ coercion_weight g = c.coercion_weight.ensures in
+    let at : slice_get (source_costs g) c.args.number ≡ Some c.coercion_weight.result = cost-pair g c.args.number (omega (arith, past, decls, d)) (omega (arith, low, decls, d, pairs, p)) ∙ ap (λ n. Some n) (sym ten) in
     let none = binders-none in
     record {
-      value = match-weaker c.with_binders-then-place-decls-2.result (c.parts-parts.result.now.limit < 10 + binders []) ((w : ℕ) → slice_get (source_costs g) c.args.number ≡ Some w → g.limit < w) (λ w. (w ≡ 10 + binders []) × (w ≤ c.parts-parts.result.now.limit)) (λ w. (slice_get (source_costs g) c.args.number ≡ Some w) × (w ≤ g.limit))
-          (λ h w h'. (let e : 10 ≡ w = some_eq 10 w (sym at ∙ h') in omega (arith, h, e, none, limit)))
-          (λ w h. (let q = h.0 in let r = h.1 in let e : 10 ≡ w = omega (arith, q, none) in (at ∙ ap (λ n. Some n) e, omega (arith, r, limit))))
+      value = match-weaker c.with_binders-then-place-decls-2.result (c.parts-parts.result.now.limit < c.coercion_weight.result + binders_weight g (binders [])) ((w : ℕ) → slice_get (source_costs g) c.args.number ≡ Some w → g.limit < w) (λ w. (w ≡ c.coercion_weight.result + binders_weight g (binders [])) × (w ≤ c.parts-parts.result.now.limit)) (λ w. (slice_get (source_costs g) c.args.number ≡ Some w) × (w ≤ g.limit))
+          (λ h w h'. (let e : c.coercion_weight.result ≡ w = some_eq c.coercion_weight.result w (sym at ∙ h') in omega (arith, h, e, none, limit)))
+          (λ w h. (let q = h.0 in let r = h.1 in let e : c.coercion_weight.result ≡ w = omega (arith, q, none) in (at ∙ ap (λ n. Some n) e, omega (arith, r, limit))))
           c.with_binders-then-place-decls-2.ensures.value;
     }
 

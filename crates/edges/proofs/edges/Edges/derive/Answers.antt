@@ -14,7 +14,7 @@ loop-i-init c = record {
 pub loop-i-preserved : goal.loop-i-preserved
 loop-i-preserved c =
     let table : c.add_state.new.table ≡ edges_below c.args.env.now c.args.compressed.now c.args.patterns.now (c.loop-i.i + 1) =
-    c.in_ok-add_state.ensures.added ∙ ap (λ l. l ++ (bound_at c.args.patterns.now c.loop-i.i ++ edges_at c.args.env.now c.args.compressed.now c.args.patterns.now c.loop-i.i (sources_at c.args.compressed.now c.args.patterns.now c.loop-i.i))) c.loop-i.invariant.table
+    c.in_ok-add_state.ensures.added ∙ ap (λ l. l ++ (bound_at c.args.env.now c.args.patterns.now c.loop-i.i ++ edges_at c.args.env.now c.args.compressed.now c.args.patterns.now c.loop-i.i (sources_at c.args.compressed.now c.args.patterns.now c.loop-i.i))) c.loop-i.invariant.table
     ∙ sym (edges_below-more c.args.env.now c.args.compressed.now c.args.patterns.now c.loop-i.i) in
     record {
       table = table;
