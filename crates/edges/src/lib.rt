@@ -13,3 +13,6 @@ mod tails;
 mod weights;
 
 pub use edges::Edges;
+
+#[cfg(test)]
+mod tests;
