@@ -7,6 +7,7 @@ use Rattle.std.proofs.lemmas.Option.{slice_get_within}
 use Rattle.terms.specs.Expr.{Expr}
 use Rattle.terms.specs.Faults.{IsValid}
 use Rattle.terms.specs.Place.{Place, fits_place, weigh}
+use Rattle.terms.specs.Typing.{most_rows}
 use Rattle.terms.specs.declared.parts.Parts.{Parts}
 use Rattle.succinct.specs.Compression.{Compression, IsCompression}
 use Rattle.patterns.specs.Patterned.{Patterned, ArePatterns}
@@ -40,8 +41,8 @@ least-from g limit n p below met = go (nat_le n limit) refl
         above e f (inr less) = (let low = below e f less in absurd (false≢true (sym is ∙ le-leb n limit (omega (arith, low, less)))))
 
 -- the numbers as weights
-pub are-least : (g : Parts) (c : Compression) (d : Patterned) (edges : List Edge) (numbers : List ℕ) (limit count : ℕ) {goal : ℕ} → IsValid g → IsCompression g c → ArePatterns c goal g.depth d → g.depth ≤ 1 → limit ≡ g.limit → count ≡ length d.states → AreEdges g c d edges → length numbers ≡ count → IsSolution limit edges numbers → AreLeastWeights g d (map (within limit) numbers)
-are-least g c d edges numbers limit count valid comp made flat same many all long solved = record {
+pub are-least : (g : Parts) (c : Compression) (d : Patterned) (edges : List Edge) (numbers : List ℕ) (limit count : ℕ) {goal : ℕ} → IsValid g → IsCompression g c → ArePatterns c goal g.depth d → g.depth ≤ most_rows → limit ≡ g.limit → count ≡ length d.states → AreEdges g c d edges → length numbers ≡ count → IsSolution limit edges numbers → AreLeastWeights g d (map (within limit) numbers)
+are-least g c d edges numbers limit count valid comp made few_rows same many all long solved = record {
   as_many = length-map numbers (within limit) ∙ long ∙ many;
   each = λ i s is ctx types rows. (
       let at : IsAt d g.depth i ctx (left_at d.space s.set) s.goal = record { state = s; is = is; types = types; left_is = refl; goal = refl; rows = rows } in
@@ -49,7 +50,7 @@ are-least g c d edges numbers limit count valid comp made flat same many all lon
       let in_range : i < length numbers = omega (arith, low_i, long, many) in
       let solved' : IsSolution g.limit edges numbers = subst (λ l. IsSolution l edges numbers) same solved in
       let shown : get_or (map (within limit) numbers) i None ≡ within limit (get_or numbers i (g.limit + 1)) = shown-at limit numbers i (g.limit + 1) in_range in
-      let least : IsLeastWeight g g.limit (place_at d s ctx) (within g.limit (number_at g.limit numbers i)) = least-from g g.limit (number_at g.limit numbers i) (place_at d s ctx) (low g c d edges valid comp made flat all numbers solved' i ctx (left_at d.space s.set) s.goal at) (λ inside. reached-term ctx (left_at d.space s.set) s.goal (number_at g.limit numbers i) (reached g c d edges valid comp made flat all numbers solved' i ctx (left_at d.space s.set) s.goal at inside)) in
+      let least : IsLeastWeight g g.limit (place_at d s ctx) (within g.limit (number_at g.limit numbers i)) = least-from g g.limit (number_at g.limit numbers i) (place_at d s ctx) (low g c d edges valid comp made all numbers solved' i ctx (left_at d.space s.set) s.goal at) (λ inside. reached-term ctx (left_at d.space s.set) s.goal (number_at g.limit numbers i) (reached g c d edges valid comp made few_rows all numbers solved' i ctx (left_at d.space s.set) s.goal at inside)) in
       subst (λ o. IsLeastWeight g g.limit (place_at d s ctx) o) (ap (λ l. within l (number_at g.limit numbers i)) (sym same) ∙ sym shown) least);
 }
   where

@@ -7,7 +7,7 @@ use Rattle.terms.specs.Faults.{IsValid}
 use Rattle.terms.specs.Place.{fits_place, weigh, shallow, args_shallow}
 use Rattle.terms.specs.Reading.{binders}
 use Rattle.terms.specs.Typing.{type_in, fits, some_below, is_below, is_pair, result_if, args_wanted}
-use Rattle.terms.specs.Weights.{weight_in, args_weight, step, decl_weight}
+use Rattle.terms.specs.Weights.{coercion_weight, binders_weight, step_in, decl_weight, weight_in, args_weight}
 use Rattle.terms.specs.declared.parts.Arg.{Arg}
 use Rattle.terms.specs.declared.parts.Arg.TheVariants.{Plain, Fun}
 use Rattle.terms.specs.declared.parts.Decl.{Decl}
@@ -57,11 +57,11 @@ below-pair g a b h = elim (or_cases (a == b) (is_pair g.pairs a b) h) [
   | inr pair ↦ inr pair
 ]
 
-pub step-same : (a b : ℕ) → a ≡ b → step (Some a) b ≡ 0
-step-same a b e = ap (λ t. cond t 0 10) (eq-eqb a b e)
+pub step-same : (g : Parts) (a b : ℕ) → a ≡ b → step_in g (Some a) b ≡ 0
+step-same g a b e = ap (λ t. cond t 0 (coercion_weight g)) (eq-eqb a b e)
 
-pub step-apart : (a b : ℕ) → a ≢ b → step (Some a) b ≡ 10
-step-apart a b n = ap (λ t. cond t 0 10) (ne_eqb a b n)
+pub step-apart : (g : Parts) (a b : ℕ) → a ≢ b → step_in g (Some a) b ≡ coercion_weight g
+step-apart g a b n = ap (λ t. cond t 0 (coercion_weight g)) (ne_eqb a b n)
 
 -- the type of a term that fits, and what it weighs there
 pub record Fitting (g : Parts) (ctx : List (List ℕ)) (left b : ℕ) (e : Expr) : Type 0 where
@@ -87,7 +87,7 @@ pub fits-from : (g : Parts) (ctx : List (List ℕ)) (left b : ℕ) (e : Expr) �
 unfolding fits_place
 fits-from g ctx left b e f = and_from (some_below g (type_in g ctx e) b) (shallow left e) (ap (λ o. some_below g o b) f.typed ∙ f.below) f.flat
 
-pub weigh-is : (g : Parts) (ctx : List (List ℕ)) (left b : ℕ) (e : Expr) → weigh g (record { ctx = ctx; left = left; wanted = b }) e ≡ weight_in g ctx e + step (type_in g ctx e) b
+pub weigh-is : (g : Parts) (ctx : List (List ℕ)) (left b : ℕ) (e : Expr) → weigh g (record { ctx = ctx; left = left; wanted = b }) e ≡ weight_in g ctx e + step_in g (type_in g ctx e) b
 unfolding weigh
 weigh-is g ctx left b e = refl
 
@@ -107,7 +107,7 @@ head-exact g ctx xs (Some decl) b h = go (fits g ctx xs decl.args) refl h
     go false e h' = absurd (none_some b h')
 
 -- the binders are weighed with the arguments
-args-least : (g : Parts) (ctx : List (List ℕ)) (xs : Args) (args : List Arg) → fits g ctx xs args ≡ true → binders args ≤ args_weight g ctx xs args
+args-least : (g : Parts) (ctx : List (List ℕ)) (xs : Args) (args : List Arg) → fits g ctx xs args ≡ true → binders_weight g (binders args) ≤ args_weight g ctx xs args
 unfolding fits args_weight binders
 args-least g ctx no_args [] h = omega arith
 args-least g ctx no_args (Plain b ∷ args) h = absurd (false≢true h)
@@ -126,7 +126,7 @@ args-least g ctx (lam e xs) (Fun ps r ∷ args) h =
 suc_eq : (m n : ℕ) → suc m ≡ suc n → m ≡ n
 suc_eq m n h = omega (arith, h)
 
-module _ (g : Parts) (c : Compression) (d : Patterned) (edges : List Edge) (valid : IsValid g) (comp : IsCompression g c) {goal : ℕ} (made : ArePatterns c goal g.depth d) (flat_depth : g.depth ≤ 1) (all : AreEdges g c d edges) (numbers : List ℕ) (solved : IsSolution g.limit edges numbers) where
+module _ (g : Parts) (c : Compression) (d : Patterned) (edges : List Edge) (valid : IsValid g) (comp : IsCompression g c) {goal : ℕ} (made : ArePatterns c goal g.depth d) (all : AreEdges g c d edges) (numbers : List ℕ) (solved : IsSolution g.limit edges numbers) where
   -- what an edge in the list gives
   edge-low : (i weight : ℕ) (args : List Arg) (e : Standing c d i weight args edges) (sum : ℕ) → total (number_at g.limit numbers) e.edge.tails ≤ sum → weight + sum ≤ g.limit → number_at g.limit numbers i ≤ weight + sum
   edge-low i weight args e sum tails within =
@@ -150,7 +150,7 @@ module _ (g : Parts) (c : Compression) (d : Patterned) (edges : List Edge) (vali
       subst (λ l. AllDerivable g (types_at d.space at.state.set) l args) at.left_is h1
 
   -- so it is with a coercion to the goal
-  low-from : (e : Expr) → IsLowExact e → (i : ℕ) (ctx : List (List ℕ)) (left b : ℕ) → IsAt d g.depth i ctx left b → Fitting g ctx left b e → weight_in g ctx e + step (type_in g ctx e) b ≤ g.limit → number_at g.limit numbers i ≤ weight_in g ctx e + step (type_in g ctx e) b
+  low-from : (e : Expr) → IsLowExact e → (i : ℕ) (ctx : List (List ℕ)) (left b : ℕ) → IsAt d g.depth i ctx left b → Fitting g ctx left b e → weight_in g ctx e + step_in g (type_in g ctx e) b ≤ g.limit → number_at g.limit numbers i ≤ weight_in g ctx e + step_in g (type_in g ctx e) b
   low-from e exact i ctx left b at f within = elim (below-pair g f.type b f.below) [
     | inl same ↦ (
         let typed : type_in g ctx e ≡ Some b = f.typed ∙ ap (λ t. Some t) same in
@@ -158,17 +158,17 @@ module _ (g : Parts) (c : Compression) (d : Patterned) (edges : List Edge) (vali
         omega (arith, low))
     | inr pair ↦ (
         let apart = (valid-pair g valid f.type b pair).2 in
-        let ten : step (type_in g ctx e) b ≡ 10 = ap (λ o. step o b) f.typed ∙ step-apart f.type b apart in
+        let ten : step_in g (type_in g ctx e) b ≡ coercion_weight g = ap (λ o. step_in g o b) f.typed ∙ step-apart g f.type b apart in
         let pair_to : is_pair g.pairs f.type at.state.goal ≡ true = ap (λ t. is_pair g.pairs f.type t) (sym at.goal) ∙ pair in
         let itself = fits-from g ctx left f.type e (record { type = f.type; typed = f.typed; below = below-itself g f.type; flat = f.flat }) in
         let derives = derives-at i ctx left b at f.type (term-derives g ctx left f.type e itself) in
-        let edge : Standing c d i 10 (Plain f.type ∷ []) edges = has-pair g c d edges valid comp made flat_depth all i f.type at.state at.is pair_to derives (omega (arith, within, ten)) in
+        let edge : Standing c d i (coercion_weight g) (Plain f.type ∷ []) edges = has-pair g c d edges valid comp made all i f.type at.state at.is pair_to derives (omega (arith, within, ten)) in
         let s : SplitTails c d i (Plain f.type) [] edge.edge.tails = split-tails c d i (Plain f.type) [] edge.edge.tails edge.tails in
-        let inner = plain-at c d g.depth made.wanted made.depth_is i s.first ctx left b f.type at s.tail in
+        let inner = plain-at c d g.depth made.wanted made.steps i s.first ctx left b f.type at s.tail in
         let low = exact s.first ctx left f.type inner f.typed f.flat (omega (arith, within)) in
         let one : edge.edge.tails ≡ s.first ∷ [] = s.is ∙ ap (λ l. s.first ∷ l) (no-tails c d i s.rest s.others) in
         let sum : total (number_at g.limit numbers) edge.edge.tails ≡ number_at g.limit numbers s.first + 0 = ap (total (number_at g.limit numbers)) one in
-        let r = edge-low i 10 (Plain f.type ∷ []) edge (weight_in g ctx e) (omega (arith, sum, low)) (omega (arith, within, ten)) in
+        let r = edge-low i (coercion_weight g) (Plain f.type ∷ []) edge (weight_in g ctx e) (omega (arith, sum, low)) (omega (arith, within, ten)) in
         omega (arith, r, ten))
   ]
 
@@ -178,7 +178,7 @@ module _ (g : Parts) (c : Compression) (d : Patterned) (edges : List Edge) (vali
     low-exact : (e : Expr) → IsLowExact e
     low-exact (var n) i ctx left b at typed flat within =
         let bound : has at.state.goal (types_at d.space at.state.set) ≡ true = ap (λ t. has t (types_at d.space at.state.set)) (sym at.goal) ∙ ap (has b) (sym at.types) ∙ has_context ctx n b typed in
-        let e : StandingBound i edges = standing-bound g c d edges all i (all.bound i at.state at.is bound) in
+        let e : StandingBound g i edges = standing-bound g c d edges all i (all.bound i at.state at.is bound) in
         let w = e.weight in
         let none : total (number_at g.limit numbers) e.edge.tails ≡ 0 = ap (total (number_at g.limit numbers)) e.tails in
         let closed = solved.closed e.number e.edge e.is (omega (arith, w, none, within)) in
@@ -189,12 +189,12 @@ module _ (g : Parts) (c : Compression) (d : Patterned) (edges : List Edge) (vali
         let weighs : decl_weight (slice_get g.decls n) + args_weight g ctx xs (args_wanted (slice_get g.decls n)) ≡ h.decl.weight + args_weight g ctx xs h.decl.args = ap (λ o. decl_weight o + args_weight g ctx xs (args_wanted o)) h.is in
         let wants = all-derive-at i ctx left b at h.decl.args (args-derive g ctx left xs h.decl.args h.fit flat) in
         let least_args = args-least g ctx xs h.decl.args h.fit in
-        let edge : Standing c d i (decl_cost h.decl) h.decl.args edges = has-decl g c d edges valid comp made flat_depth all i n at.state h.decl at.is h.is (h.result ∙ at.goal) wants (omega (arith, within, weighs, least_args)) in
+        let edge : Standing c d i (decl_cost g h.decl) h.decl.args edges = has-decl g c d edges valid comp made all i n at.state h.decl at.is h.is (h.result ∙ at.goal) wants (omega (arith, within, weighs, least_args)) in
         let low = args-low i ctx left b at xs h.decl.args edge.edge.tails edge.tails h.fit flat (omega (arith, within, weighs)) in
-        let r = edge-low i (decl_cost h.decl) h.decl.args edge (total (number_at g.limit numbers) edge.edge.tails) (omega arith) (omega (arith, low, within, weighs)) in
+        let r = edge-low i (decl_cost g h.decl) h.decl.args edge (total (number_at g.limit numbers) edge.edge.tails) (omega arith) (omega (arith, low, within, weighs)) in
         omega (arith, r, low, weighs)
 
-    args-low : (i : ℕ) (ctx : List (List ℕ)) (left b : ℕ) → IsAt d g.depth i ctx left b → (xs : Args) (args : List Arg) (tails : List ℕ) → AreTails c d i args tails → fits g ctx xs args ≡ true → args_shallow left xs ≡ true → args_weight g ctx xs args ≤ g.limit → binders args + total (number_at g.limit numbers) tails ≤ args_weight g ctx xs args
+    args-low : (i : ℕ) (ctx : List (List ℕ)) (left b : ℕ) → IsAt d g.depth i ctx left b → (xs : Args) (args : List Arg) (tails : List ℕ) → AreTails c d i args tails → fits g ctx xs args ≡ true → args_shallow left xs ≡ true → args_weight g ctx xs args ≤ g.limit → binders_weight g (binders args) + total (number_at g.limit numbers) tails ≤ args_weight g ctx xs args
     args-low i ctx left b at no_args [] tails are fit flat within =
         let none : total (number_at g.limit numbers) tails ≡ 0 = ap (total (number_at g.limit numbers)) (no-tails c d i tails are) in
         omega (arith, none)
@@ -206,7 +206,7 @@ module _ (g : Parts) (c : Compression) (d : Patterned) (edges : List Edge) (vali
         let s : SplitTails c d i (Plain w) args tails = split-tails c d i (Plain w) args tails are in
         let fs = and_parts (some_below g (type_in g ctx e) w) (fits g ctx xs args) fit in
         let ss = and_parts (shallow left e) (args_shallow left xs) flat in
-        let inner = plain-at c d g.depth made.wanted made.depth_is i s.first ctx left b w at s.tail in
+        let inner = plain-at c d g.depth made.wanted made.steps i s.first ctx left b w at s.tail in
         let f : Fitting g ctx left w e = fitting g ctx left w e fs.0 ss.0 in
         let first = low-from e (low-exact e) s.first ctx left w inner f (omega (arith, within)) in
         let rest = args-low i ctx left b at xs args s.rest s.others fs.1 ss.1 (omega (arith, within)) in
@@ -221,7 +221,7 @@ module _ (g : Parts) (c : Compression) (d : Patterned) (edges : List Edge) (vali
         let fs = and_parts (nat_lt (length ctx) 3 && some_below g (type_in g under e) r) (fits g ctx xs args) fit in
         let f0 = and_parts (nat_lt (length ctx) 3) (some_below g (type_in g under e) r) fs.0 in
         let ss = and_parts (shallow l e) (args_shallow (suc l) xs) flat in
-        let u : IsUnder d g.depth s.first ctx (suc l) ps r = fun-at c d g.depth made.wanted made.depth_is i s.first ctx (suc l) b ps r at s.tail in
+        let u : IsUnder d g.depth s.first ctx (suc l) ps r = fun-at c d g.depth made.wanted made.steps i s.first ctx (suc l) b ps r at s.tail in
         let inner : IsAt d g.depth s.first under l r = subst (λ x. IsAt d g.depth s.first under x r) (sym (suc_eq l u.inner u.left_is)) u.at in
         let f : Fitting g under l r e = fitting g under l r e f0.1 ss.0 in
         let first = low-from e (low-exact e) s.first under l r inner f (omega (arith, within)) in

@@ -6,8 +6,8 @@ use Rattle.terms.specs.Expr.{Expr, var, head, Args, no_args, plain, lam}
 use Rattle.terms.specs.Faults.{IsValid}
 use Rattle.terms.specs.Place.{shallow, args_shallow}
 use Rattle.terms.specs.Reading.{binders}
-use Rattle.terms.specs.Typing.{type_in, fits, some_below, is_below, is_pair, joined}
-use Rattle.terms.specs.Weights.{weight_in, args_weight, step}
+use Rattle.terms.specs.Typing.{most_rows, type_in, fits, some_below, is_below, is_pair, joined}
+use Rattle.terms.specs.Weights.{variable_weight, binders_weight, coercion_weight, step_in, weight_in, args_weight}
 use Rattle.terms.specs.declared.parts.Arg.{Arg}
 use Rattle.terms.specs.declared.parts.Arg.TheVariants.{Plain, Fun}
 use Rattle.terms.specs.declared.parts.Decl.{Decl}
@@ -31,18 +31,18 @@ use Rattle.least_weights.proofs.Sought.{IsAt, IsUnder, plain-at, fun-at}
 pub record Reached (g : Parts) (ctx : List (List ℕ)) (left b w : ℕ) : Type 0 where
   pub term : Expr
   pub fit : Fitting g ctx left b term
-  pub light : weight_in g ctx term + step (type_in g ctx term) b ≤ w
+  pub light : weight_in g ctx term + step_in g (type_in g ctx term) b ≤ w
 
 record ReachedArgs (g : Parts) (ctx : List (List ℕ)) (left : ℕ) (wanted : List Arg) (w : ℕ) : Type 0 where
   args : Args
   fit : fits g ctx args wanted ≡ true
   flat : args_shallow left args ≡ true
-  light : args_weight g ctx args wanted ≤ binders wanted + w
+  light : args_weight g ctx args wanted ≤ binders_weight g (binders wanted) + w
 
-step-ten : (a b : ℕ) → step (Some a) b ≤ 10
-step-ten a b = go (a == b)
+step-most : (g : Parts) (a b : ℕ) → step_in g (Some a) b ≤ coercion_weight g
+step-most g a b = go (a == b)
   where
-    go : (t : Bool) → (if t then 0 else 10) ≤ 10
+    go : (t : Bool) → (if t then 0 else coercion_weight g) ≤ coercion_weight g
     go true = omega arith
     go false = omega arith
 
@@ -51,21 +51,21 @@ unfolding is_below
 pair-below g a b h = or_right (a == b) (is_pair g.pairs a b) h
 
 -- a term of a variable, and of a declaration
-of-variable : (g : Parts) (ctx : List (List ℕ)) (left b n : ℕ) → slice_get (joined ctx) n ≡ Some b → Reached g ctx left b 1
+of-variable : (g : Parts) (ctx : List (List ℕ)) (left b n : ℕ) → slice_get (joined ctx) n ≡ Some b → Reached g ctx left b (variable_weight g)
 unfolding type_in weight_in shallow
 of-variable g ctx left b n h =
-    let nothing : step (slice_get (joined ctx) n) b ≡ 0 = ap (λ o. step o b) h ∙ step-same b b refl in
+    let nothing : step_in g (slice_get (joined ctx) n) b ≡ 0 = ap (λ o. step_in g o b) h ∙ step-same g b b refl in
     record {
       term = var n;
       fit = record { type = b; typed = h; below = below-itself g b; flat = refl };
       light = omega (arith, nothing);
     }
 
-of-head : (g : Parts) (ctx : List (List ℕ)) (left b n w : ℕ) (decl : Decl) → slice_get g.decls n ≡ Some decl → decl.result ≡ b → ReachedArgs g ctx left decl.args w → Reached g ctx left b (decl_cost decl + w)
+of-head : (g : Parts) (ctx : List (List ℕ)) (left b n w : ℕ) (decl : Decl) → slice_get g.decls n ≡ Some decl → decl.result ≡ b → ReachedArgs g ctx left decl.args w → Reached g ctx left b (decl_cost g decl + w)
 unfolding type_in weight_in shallow
 of-head g ctx left b n w decl is result r =
     let typed : type_in g ctx (head n r.args) ≡ Some b = rw (is, r.fit) (ap (λ x. Some x) result) in
-    let nothing : step (type_in g ctx (head n r.args)) b ≡ 0 = ap (λ o. step o b) typed ∙ step-same b b refl in
+    let nothing : step_in g (type_in g ctx (head n r.args)) b ≡ 0 = ap (λ o. step_in g o b) typed ∙ step-same g b b refl in
     let weighs : weight_in g ctx (head n r.args) ≡ decl.weight + args_weight g ctx r.args decl.args = rw is refl in
     let light = r.light in
     record {
@@ -74,7 +74,7 @@ of-head g ctx left b n w decl is result r =
       light = omega (arith, nothing, weighs, light);
     }
 
-module _ (g : Parts) (c : Compression) (d : Patterned) (edges : List Edge) (valid : IsValid g) (comp : IsCompression g c) {goal : ℕ} (made : ArePatterns c goal g.depth d) (flat_depth : g.depth ≤ 1) (all : AreEdges g c d edges) (numbers : List ℕ) (solved : IsSolution g.limit edges numbers) where
+module _ (g : Parts) (c : Compression) (d : Patterned) (edges : List Edge) (valid : IsValid g) (comp : IsCompression g c) {goal : ℕ} (made : ArePatterns c goal g.depth d) (few_rows : g.depth ≤ most_rows) (all : AreEdges g c d edges) (numbers : List ℕ) (solved : IsSolution g.limit edges numbers) where
   -- numbers below n are reached
   abbrev AreReached : ℕ → Type 0
   AreReached n = (i : ℕ) (ctx : List (List ℕ)) (left b : ℕ) → IsAt d g.depth i ctx left b → number_at g.limit numbers i ≤ g.limit → number_at g.limit numbers i < n → Reached g ctx left b (number_at g.limit numbers i)
@@ -85,7 +85,7 @@ module _ (g : Parts) (c : Compression) (d : Patterned) (edges : List Edge) (vali
   args-reached n again i ctx left b at (Plain w ∷ wanted) tails are within few =
       let s : SplitTails c d i (Plain w) wanted tails = split-tails c d i (Plain w) wanted tails are in
       let sum : total (number_at g.limit numbers) tails ≡ number_at g.limit numbers s.first + total (number_at g.limit numbers) s.rest = ap (total (number_at g.limit numbers)) s.is in
-      let inner = plain-at c d g.depth made.wanted made.depth_is i s.first ctx left b w at s.tail in
+      let inner = plain-at c d g.depth made.wanted made.steps i s.first ctx left b w at s.tail in
       let r : Reached g ctx left w (number_at g.limit numbers s.first) = again s.first ctx left w inner (omega (arith, sum, within)) (omega (arith, sum, few)) in
       let rs : ReachedArgs g ctx left wanted (total (number_at g.limit numbers) s.rest) = args-reached n again i ctx left b at wanted s.rest s.others (omega (arith, sum, within)) (omega (arith, sum, few)) in
       let l0 = r.light in
@@ -99,7 +99,7 @@ module _ (g : Parts) (c : Compression) (d : Patterned) (edges : List Edge) (vali
   args-reached n again i ctx left b at (Fun ps t ∷ wanted) tails are within few =
       let s : SplitTails c d i (Fun ps t) wanted tails = split-tails c d i (Fun ps t) wanted tails are in
       let sum : total (number_at g.limit numbers) tails ≡ number_at g.limit numbers s.first + total (number_at g.limit numbers) s.rest = ap (total (number_at g.limit numbers)) s.is in
-      let u : IsUnder d g.depth s.first ctx left ps t = fun-at c d g.depth made.wanted made.depth_is i s.first ctx left b ps t at s.tail in
+      let u : IsUnder d g.depth s.first ctx left ps t = fun-at c d g.depth made.wanted made.steps i s.first ctx left b ps t at s.tail in
       let under = ctx ++ ps ∷ [] in
       let r : Reached g under u.inner t (number_at g.limit numbers s.first) = again s.first under u.inner t u.at (omega (arith, sum, within)) (omega (arith, sum, few)) in
       let rs : ReachedArgs g ctx left wanted (total (number_at g.limit numbers) s.rest) = args-reached n again i ctx left b at wanted s.rest s.others (omega (arith, sum, within)) (omega (arith, sum, few)) in
@@ -110,7 +110,7 @@ module _ (g : Parts) (c : Compression) (d : Patterned) (edges : List Edge) (vali
       let deep : args_shallow (suc u.inner) (lam r.term rs.args) ≡ true = and_from (shallow u.inner r.term) (args_shallow (suc u.inner) rs.args) r.fit.flat (subst (λ x. args_shallow x rs.args ≡ true) inner_left rs.flat) in
       record {
         args = lam r.term rs.args;
-        fit = and_from (nat_lt (length ctx) 3 && some_below g (type_in g under r.term) t) (fits g ctx rs.args wanted) (and_from (nat_lt (length ctx) 3) (some_below g (type_in g under r.term) t) (lt-ltb (length ctx) 3 (omega (arith, rows, flat_depth))) (ap (λ o. some_below g o t) r.fit.typed ∙ r.fit.below)) rs.fit;
+        fit = and_from (nat_lt (length ctx) 3 && some_below g (type_in g under r.term) t) (fits g ctx rs.args wanted) (and_from (nat_lt (length ctx) 3) (some_below g (type_in g under r.term) t) (lt-ltb (length ctx) 3 (omega (arith, rows, inner_left, few_rows))) (ap (λ o. some_below g o t) r.fit.typed ∙ r.fit.below)) rs.fit;
         flat = subst (λ x. args_shallow x (lam r.term rs.args) ≡ true) (sym inner_left) deep;
         light = omega (arith, l0, l1, sum);
       }
@@ -130,14 +130,14 @@ module _ (g : Parts) (c : Compression) (d : Patterned) (edges : List Edge) (vali
   edge-reached n again i ctx left b at e here within few s =
       let tails : AreTails c d i s.source.args e.tails = subst (λ x. AreTails c d x s.source.args e.tails) here s.tails in
       let gives : s.source.result ≡ b = gives-at e s i ctx left b here at in
-      elim (split of_decl decl_cost of_pair pair_cost g.decls g.pairs s.number s.source e.weight s.is s.weight) [
+      elim (split of_decl (decl_cost g) of_pair (pair_cost g) g.decls g.pairs s.number s.source e.weight s.is s.weight) [
         | inl r ↦ (
             let heavy = valid-heavy g valid s.number r.item r.is in
             let w = r.other in
             let args : AreTails c d i r.item.args e.tails = subst (λ (x : Source). AreTails c d i x.args e.tails) (sym r.one) tails in
             let result : r.item.result ≡ b = ap (λ (x : Source). x.result) r.one ∙ gives in
             let rs : ReachedArgs g ctx left r.item.args (total (number_at g.limit numbers) e.tails) = args-reached n again i ctx left b at r.item.args e.tails args (omega (arith, within)) (omega (arith, few, heavy, w)) in
-            more ctx left b (decl_cost r.item + total (number_at g.limit numbers) e.tails) (cost g.limit numbers e) (omega (arith, w)) (of-head g ctx left b s.number (total (number_at g.limit numbers) e.tails) r.item r.is result rs))
+            more ctx left b (decl_cost g r.item + total (number_at g.limit numbers) e.tails) (cost g.limit numbers e) (omega (arith, w)) (of-head g ctx left b s.number (total (number_at g.limit numbers) e.tails) r.item r.is result rs))
         | inr r ↦ (
             let w = r.other in
             let args : AreTails c d i (Plain r.item.0 ∷ []) e.tails = subst (λ (x : Source). AreTails c d i x.args e.tails) (sym r.one) tails in
@@ -145,15 +145,15 @@ module _ (g : Parts) (c : Compression) (d : Patterned) (edges : List Edge) (vali
             let t : SplitTails c d i (Plain r.item.0) [] e.tails = split-tails c d i (Plain r.item.0) [] e.tails args in
             let one : e.tails ≡ t.first ∷ [] = t.is ∙ ap (λ l. t.first ∷ l) (no-tails c d i t.rest t.others) in
             let sum : total (number_at g.limit numbers) e.tails ≡ number_at g.limit numbers t.first + 0 = ap (total (number_at g.limit numbers)) one in
-            let inner = plain-at c d g.depth made.wanted made.depth_is i t.first ctx left b r.item.0 at t.tail in
+            let inner = plain-at c d g.depth made.wanted made.steps i t.first ctx left b r.item.0 at t.tail in
             let from : Reached g ctx left r.item.0 (number_at g.limit numbers t.first) = again t.first ctx left r.item.0 inner (omega (arith, sum, within)) (omega (arith, sum, few, w)) in
             let upper : is_below g r.item.0 b ≡ true = ap (λ x. is_below g r.item.0 x) (sym result) ∙ pair-below g r.item.0 r.item.1 (pair-get g.pairs r.place r.item r.is) in
             let light = from.light in
-            let ten : step (type_in g ctx from.term) b ≤ 10 = subst (λ o. step o b ≤ 10) (sym from.fit.typed) (step-ten from.fit.type b) in
+            let most : step_in g (type_in g ctx from.term) b ≤ coercion_weight g = subst (λ o. step_in g o b ≤ coercion_weight g) (sym from.fit.typed) (step-most g from.fit.type b) in
             record {
               term = from.term;
               fit = record { type = from.fit.type; typed = from.fit.typed; below = below-transitive g valid from.fit.type r.item.0 b from.fit.below upper; flat = from.fit.flat };
-              light = omega (arith, light, ten, sum, w);
+              light = omega (arith, light, most, sum, w);
             })
       ]
 
@@ -167,7 +167,7 @@ module _ (g : Parts) (c : Compression) (d : Patterned) (edges : List Edge) (vali
             let bound : has b (types_bound ctx) ≡ true = ap (has b) at.types ∙ ap (λ x. has x (types_at d.space at.state.set)) at.goal ∙ subst (λ (x : State). has x.goal (types_at d.space x.set) ≡ true) same v.bound in
             let k = at_context ctx b bound in
             let w = v.weight in
-            more ctx left b 1 (number_at g.limit numbers i) (omega (arith, w, reaches)) (of-variable g ctx left b k.0 k.1))
+            more ctx left b (variable_weight g) (number_at g.limit numbers i) (omega (arith, w, reaches)) (of-variable g ctx left b k.0 k.1))
         | inr e ↦ more ctx left b (cost g.limit numbers s.edge) (number_at g.limit numbers i) reaches (edge-reached n again i ctx left b at s.edge s.at_state (omega (arith, reaches, within)) (omega (arith, reaches, few)) e)
       ]
 

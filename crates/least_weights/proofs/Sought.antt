@@ -8,9 +8,12 @@ use Rattle.succinct.specs.Sets.{joined_with, set_of, types_bound}
 use Rattle.patterns.specs.declared.state.State.{State}
 use Rattle.patterns.specs.declared.wanted.Wanted.{Wanted}
 use Rattle.patterns.specs.Patterned.{Patterned, state_sought, sought_from}
-use Rattle.patterns.specs.States.{Space, types_at, left_at, set_sought, place_in, place_sought, AreWanted, IsWantedAs}
+use Rattle.patterns.specs.States.{Space, types_at, left_at, set_sought, place_in, place_sought, AreWanted, IsWantedAs, AreSteps}
 use Rattle.patterns.proofs.Contexts.{set_of-more}
 use Rattle.patterns.proofs.Mets.{place_of-get}
+use Rattle.patterns.proofs.Meaning.{lambda-step, plain-same}
+use Rattle.succinct.proofs.Rising.{joined_with-set_of, rising-joined_with}
+use Rattle.terms.specs.Typing.{joined}
 use Rattle.edges.specs.Edges.{IsTail}
 use Rattle.edges.proofs.Options.{some_eq, none_some}
 
@@ -45,46 +48,20 @@ sought-at p states from n t h = go (slice_get p.wanted n) refl h
 from_state : (d : Patterned) (i n t : ℕ) (s : State) → slice_get d.states i ≡ Some s → state_sought d i n ≡ Some t → IsSought d.space d.states s n t
 from_state d i n t s is h = sought-at d.space d.states s n t (ap (λ o. sought_from d o n) (sym is) ∙ h)
 
-pub plain-set : (p : Space) (set : ℕ) (w : Wanted) → w.lambda ≡ false → set_sought p set w ≡ Some set
-plain-set p set w l = ap (λ b. cond b (cond ((set == 0) && (p.depth == 1)) (Some w.set) None) (Some set)) l
-
--- a lambda is sought from set 0 alone, where the depth is 1
-record FromFirst (p : Space) (set : ℕ) (w : Wanted) (to : ℕ) : Type 0 where
-  zero : set ≡ 0
-  one : p.depth ≡ 1
-  to_is : w.set ≡ to
-
-from-first : (p : Space) (set : ℕ) (w : Wanted) (to : ℕ) → w.lambda ≡ true → set_sought p set w ≡ Some to → FromFirst p set w to
-from-first p set w to l h = go ((set == 0) && (p.depth == 1)) refl (ap (λ b. cond b (cond ((set == 0) && (p.depth == 1)) (Some w.set) None) (Some set)) (sym l) ∙ h)
-  where
-    go : (b : Bool) → ((set == 0) && (p.depth == 1)) ≡ b → cond b (Some w.set) None ≡ Some to → FromFirst p set w to
-    go true e h' =
-        let both = and_parts (set == 0) (p.depth == 1) e in
-        record { zero = eqb-true set 0 both.0; one = eqb-true p.depth 1 both.1; to_is = some_eq w.set to h' }
-    go false e h' = absurd (none_some to h')
-
-bound-types : (p : Space) (set : ℕ) (types : List ℕ) → 0 < set → slice_get p.bound (set - 1) ≡ Some types → types_at p set ≡ types
-bound-types p set types low is =
-    let b : (set == 0) ≡ false = ne_eqb set 0 (λ e. absurd (omega (arith, low, e))) in
-    ap (λ c. cond c [] (get_or p.bound (set - 1) [])) b ∙ get_or_from_slice_get p.bound (set - 1) types [] is
-
-bound-left : (p : Space) (set : ℕ) → 0 < set → left_at p set ≡ 0
-bound-left p set low = ap (λ c. cond c p.depth 0) (ne_eqb set 0 (λ e. absurd (omega (arith, low, e))))
-
 -- a lambda's body one lambda deeper
 pub record IsUnder (d : Patterned) (depth t : ℕ) (ctx : List (List ℕ)) (left : ℕ) (ps : List ℕ) (r : ℕ) : Type 0 where
   pub inner : ℕ
   pub left_is : left ≡ suc inner
   pub at : IsAt d depth t (ctx ++ ps ∷ []) inner r
 
-module _ (c : Compression) (d : Patterned) (depth : ℕ) (wants : AreWanted depth d.space.bound c.needs d.space.wanted) (depth_is : d.space.depth ≡ depth) where
+module _ (c : Compression) (d : Patterned) (depth : ℕ) (wants : AreWanted c.needs d.space.wanted) (steps : AreSteps c.needs d.space.bound d.space.steps (length d.space.bound)) where
   pub plain-at : (i t : ℕ) (ctx : List (List ℕ)) (left w b : ℕ) → IsAt d depth i ctx left w → IsTail c d i (Plain b) t → IsAt d depth t ctx left b
   plain-at i t ctx left w b at tail =
       let q : IsSought d.space d.states at.state tail.need t = from_state d i tail.need t at.state at.is tail.to in
       let r = wants tail.need (need_of (Plain b)) tail.is in
       let same : r.0 ≡ q.wanted = some_eq r.0 q.wanted (sym r.1 ∙ q.is) in
-      let as_wanted : IsWantedAs depth d.space.bound (need_of (Plain b)) q.wanted = subst (λ x. IsWantedAs depth d.space.bound (need_of (Plain b)) x) same r.2 in
-      let to : at.state.set ≡ q.set = some_eq at.state.set q.set (sym (plain-set d.space at.state.set q.wanted as_wanted.lambda) ∙ q.sought) in
+      let as_wanted : IsWantedAs tail.need (need_of (Plain b)) q.wanted = subst (λ x. IsWantedAs tail.need (need_of (Plain b)) x) same r.2 in
+      let to : at.state.set ≡ q.set = plain-same d.space at.state.set q.wanted q.set as_wanted.lambda q.sought in
       record {
         state = record { set = q.set; goal = q.wanted.goal };
         is = q.state;
@@ -99,23 +76,19 @@ module _ (c : Compression) (d : Patterned) (depth : ℕ) (wants : AreWanted dept
       let q : IsSought d.space d.states at.state tail.need t = from_state d i tail.need t at.state at.is tail.to in
       let u = wants tail.need (need_of (Fun ps r)) tail.is in
       let same : u.0 ≡ q.wanted = some_eq u.0 q.wanted (sym u.1 ∙ q.is) in
-      let as_wanted : IsWantedAs depth d.space.bound (need_of (Fun ps r)) q.wanted = subst (λ x. IsWantedAs depth d.space.bound (need_of (Fun ps r)) x) same u.2 in
-      let f : FromFirst d.space at.state.set q.wanted q.set = from-first d.space at.state.set q.wanted q.set as_wanted.lambda q.sought in
-      let b = as_wanted.binds refl (sym depth_is ∙ f.one) in
-      let low : 0 < q.set = subst (λ x. 0 < x) f.to_is b.0 in
-      let found : slice_get d.space.bound (q.set - 1) ≡ Some (set_of ps) = ap (λ x. slice_get d.space.bound (x - 1)) (sym f.to_is) ∙ b.1 in
-      let outer : types_at d.space at.state.set ≡ [] = ap (λ x. types_at d.space x) f.zero in
-      let one : left ≡ suc 0 = at.left_is ∙ ap (λ x. left_at d.space x) f.zero ∙ f.one in
+      let as_wanted : IsWantedAs tail.need (need_of (Fun ps r)) q.wanted = subst (λ x. IsWantedAs tail.need (need_of (Fun ps r)) x) same u.2 in
+      let st = lambda-step d.space c.needs steps at.state.set tail.need q.set (need_of (Fun ps r)) q.wanted as_wanted tail.is refl q.sought in
+      let left_is : left ≡ suc (left_at d.space q.set) = at.left_is ∙ st.left in
       let rows = at.rows in
       record {
-        inner = 0;
-        left_is = one;
+        inner = left_at d.space q.set;
+        left_is = left_is;
         at = record {
           state = record { set = q.set; goal = q.wanted.goal };
           is = q.state;
-          types = set_of-more ctx ps ∙ ap (λ x. joined_with x ps) (at.types ∙ outer) ∙ sym (bound-types d.space q.set (set_of ps) low found);
-          left_is = sym (bound-left d.space q.set low);
+          types = set_of-more ctx ps ∙ sym (joined_with-set_of (types_bound ctx) ps (rising-joined_with [] (joined ctx) tt)) ∙ ap (λ x. joined_with x (set_of ps)) at.types ∙ sym st.types;
+          left_is = refl;
           goal = sym as_wanted.goal;
-          rows = omega (arith, length-append ctx (ps ∷ []), rows, one);
+          rows = omega (arith, length-append ctx (ps ∷ []), rows, left_is);
         };
       }

@@ -17,4 +17,5 @@ solve-requires-clause-states c m e at = (let low = c.requires.edges.in_range m e
 pub returns : goal.returns
 returns c =
     let valid : IsValid c.args.env.now = subst (λ (g : Parts). IsValid g) c.parts.ensures.value c.parts.ensures.valid in
-    record { least = are-least c.args.env.now c.args.compressed.now c.args.patterns.now c.args.edges.now c.in_ok-numbers.numbers.items c.args.limit (length c.states-count.result.now) valid c.requires.compressed c.requires.patterns.1 (valid-depth c.args.env.now valid) c.requires.limit (ap length c.states-count.ensures.value) c.requires.edges c.in_ok-numbers.ensures.as_many c.in_ok-numbers.ensures.solution }
+    let depth = valid-depth c.args.env.now valid in
+    record { least = are-least c.args.env.now c.args.compressed.now c.args.patterns.now c.args.edges.now c.in_ok-numbers.numbers.items c.args.limit (length c.states-count.result.now) valid c.requires.compressed c.requires.patterns.1 (omega (arith, depth)) c.requires.limit (ap length c.states-count.ensures.value) c.requires.edges c.in_ok-numbers.ensures.as_many c.in_ok-numbers.ensures.solution }
