@@ -1,13 +1,13 @@
 -- The sources that are offered at a state: those whose kinds are listed there, each of whose needs is sought in a
 -- listed state.
-use Rattle.std.proofs.Common.{◌≡◌, ◌⊎◌, inl, inr, ℕ, ◌+◌, ◌<◌, ◌≤◌, true, List, [], ◌++◌, length, get_or, slice_get, Some, refl, sym, ap, subst, ◌∙◌, arith}
+use Rattle.std.proofs.Common.{◌≡◌, ◌⊎◌, inl, inr, ℕ, ◌+◌, ◌<◌, ◌≤◌, true, [], length, get_or, slice_get, Some, sym, ap, subst, ◌∙◌, arith}
 use Rattle.std.proofs.lemmas.Bool.{false≢true}
 use Rattle.std.proofs.lemmas.Option.{slice_get_within, slice_get-get_or, get_or_from_slice_get}
 use Rattle.std.proofs.lemmas.List.{get_or_past}
 use Rattle.std.proofs.lemmas.Bool.{cases_lt}
 use Rattle.terms.specs.declared.parts.Parts.{Parts}
-use Rattle.succinct.specs.Compression.{Compression, IsCompression, IsKindOf, Source, sources, AreNeedsOf, places_of}
-use Rattle.succinct.specs.Sets.{has, set_of, IsRising}
+use Rattle.succinct.specs.Compression.{Compression, IsCompression, Source, sources, AreNeedsOf, places_of}
+use Rattle.succinct.specs.Sets.{has, IsRising}
 use Rattle.succinct.specs.declared.kind.Succinct.{Succinct}
 use Rattle.succinct.proofs.Rising.{has-joined_with}
 use Rattle.patterns.specs.Patterned.{Patterned, state_sought, sought_from, ArePatterns}

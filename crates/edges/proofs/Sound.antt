@@ -1,5 +1,5 @@
 -- The edges as they are made are all edges, each once, and they rise.
-use Rattle.std.proofs.Common.{◌≡◌, ◌⊎◌, inl, inr, ℕ, zero, suc, ◌+◌, ◌<◌, ◌≤◌, Bool, true, false, ◌==◌, nat_le, cond, List, [], ◌∷◌, ◌++◌, length, map, get_or, slice_get, Option, Some, None, refl, sym, ap, subst, ◌∙◌, arith, length-append}
+use Rattle.std.proofs.Common.{◌≡◌, ◌⊎◌, inl, inr, ℕ, zero, suc, ◌+◌, ◌<◌, ◌≤◌, Bool, true, false, ◌==◌, nat_le, cond, List, [], ◌∷◌, ◌++◌, length, get_or, slice_get, Option, Some, None, refl, sym, ap, subst, ◌∙◌, arith}
 use Rattle.std.proofs.lemmas.Bool.{false≢true, or_cases, or_left, or_right, eqb-true, eq-eqb, cases_lt, cases_eq, leb-true, le-leb}
 use Rattle.std.proofs.lemmas.List.{get_or_past}
 use Rattle.std.proofs.lemmas.Option.{slice_get_within}
@@ -13,7 +13,7 @@ use Rattle.terms.specs.declared.parts.Parts.{Parts}
 use Rattle.edges.specs.Edges.{Edge, IsEdge, IsOffered, HasEdge, ComesBefore, AreEdges, source_costs, rank}
 use Rattle.edges.specs.Made.{edge_within, edge_at, edges_at, sources_in, sources_at, bound_edge, bound_in, bound_at, edges_below, tails_at}
 use Rattle.edges.proofs.Offered.{named-by, offered-by, by-offered, offered-found}
-use Rattle.edges.proofs.Options.{some_eq, none_some, there}
+use Rattle.edges.proofs.Options.{there}
 use Rattle.edges.proofs.Orders.{Each, Rises, each-none, each-one, each-both, rises-none, rises-one, rises-both, has-one, has-first, has-second}
 use Rattle.edges.proofs.Wanted.{tails-are}
 

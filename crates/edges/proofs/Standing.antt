@@ -1,11 +1,11 @@
 -- What stands at an edge of a source, and at one of the variables of a state.
-use Rattle.std.proofs.Common.{◌≡◌, inl, inr, ℕ, ◌+◌, List, [], slice_get, Option, Some, None, refl, sym, ap, subst, ◌∙◌}
+use Rattle.std.proofs.Common.{◌≡◌, inl, inr, ℕ, List, [], slice_get, Some, None, sym, ap, subst, ◌∙◌}
 use Rattle.succinct.specs.Compression.{Compression, Source, sources}
 use Rattle.patterns.specs.Patterned.{Patterned}
 use Rattle.terms.specs.declared.parts.Arg.{Arg}
 use Rattle.terms.specs.Weights.{variable_weight}
 use Rattle.terms.specs.declared.parts.Parts.{Parts}
-use Rattle.edges.specs.Edges.{Edge, IsBoundEdge, IsSourceEdge, IsEdge, AreTails, HasEdge, AreEdges, source_costs}
+use Rattle.edges.specs.Edges.{Edge, AreTails, HasEdge, AreEdges, source_costs}
 use Rattle.edges.proofs.Options.{some_eq, none_some}
 
 -- an edge of these wants at state i, of this weight

@@ -4,7 +4,7 @@ use Rattle.patterns.specs.States.{types_at}
 use Rattle.patterns.specs.declared.state.State.{State}
 use Rattle.succinct.specs.Sets.{has}
 use Rattle.terms.specs.Weights.{variable_weight}
-use Rattle.edges.specs.Made.{bound_edge, bound_at}
+use Rattle.edges.specs.Made.{bound_edge}
 use Rattle.edges.proofs.Sound.{bound-one, bound-none}
 use Rattle.edges.proofs.making.add_bound.Goals as goal
 

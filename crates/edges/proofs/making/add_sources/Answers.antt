@@ -1,4 +1,4 @@
-use Rattle.std.proofs.Common.{◌++◌, [], get_or, refl, sym, ap, ◌∙◌, append-nil}
+use Rattle.std.proofs.Common.{◌++◌, get_or, refl, sym, ap, ◌∙◌, append-nil}
 use Rattle.edges.proofs.Lists.{has-at, edges_at-none, edges_at-more}
 use Rattle.edges.proofs.making.add_sources.Goals as goal
 

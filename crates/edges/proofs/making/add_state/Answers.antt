@@ -1,4 +1,4 @@
-use Rattle.std.proofs.Common.{◌≡◌, true, get_or, slice_get, Some, subst, sym, ap, ◌∙◌}
+use Rattle.std.proofs.Common.{sym, ap, ◌∙◌}
 use Rattle.succinct.specs.Sets.{has}
 use Rattle.edges.proofs.Offered.{listed-in_range, offered-by, offered-found}
 use Rattle.edges.proofs.Options.{there}

@@ -1,4 +1,4 @@
-use Rattle.std.proofs.Common.{◌++◌, [], get_or, refl, sym, ap, ◌∙◌, append-nil}
+use Rattle.std.proofs.Common.{◌++◌, get_or, refl, sym, ap, ◌∙◌, append-nil}
 use Rattle.edges.proofs.Lists.{has-at, sources_in-none, sources_in-more}
 use Rattle.edges.proofs.sources.add_sources.Goals as goal
 

@@ -1,4 +1,4 @@
-use Rattle.std.proofs.Common.{◌≤◌, arith}
+use Rattle.std.proofs.Common.{arith}
 use Rattle.terms.proofs.Valid.{valid-depth}
 use Rattle.edges.proofs.tests.edges_of.Goals as goal
 

@@ -1,4 +1,4 @@
-use Rattle.std.proofs.Common.{◌≡◌, ◌+◌, ◌-◌, ◌<◌, ◌≤◌, ℕ, [], length, slice_get, Some, refl, sym, ap, subst, ◌∙◌, arith}
+use Rattle.std.proofs.Common.{◌≡◌, ◌+◌, ◌<◌, ◌≤◌, ℕ, [], length, slice_get, Some, sym, ap, ◌∙◌, arith}
 use Rattle.terms.specs.Reading.{binders}
 use Rattle.terms.specs.Weights.{binders_weight, coercion_weight}
 use Rattle.terms.specs.declared.parts.Parts.{Parts}

@@ -1,4 +1,4 @@
-use Rattle.std.proofs.Common.{◌<◌, ◌+◌, length, ◌∷◌, [], ap, ◌∙◌, rules, arith}
+use Rattle.std.proofs.Common.{◌<◌, ◌+◌, length, rules, arith}
 use Rattle.edges.proofs.Binders.{binders-more, binders-prefix, binders-none}
 use Rattle.edges.proofs.weights.with_binders.Goals as goal
 

@@ -1,4 +1,4 @@
-use Rattle.std.proofs.Common.{◌≤◌, arith}
+use Rattle.std.proofs.Common.{arith}
 use Rattle.terms.proofs.Valid.{valid-depth}
 use Rattle.least_weights.proofs.tests.least_in.Goals as goal
 

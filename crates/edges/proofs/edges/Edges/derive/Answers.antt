@@ -1,5 +1,5 @@
-use Rattle.std.proofs.Common.{◌≡◌, ◌+◌, ◌<◌, [], ◌∷◌, ◌++◌, length, ℕ, List, sym, ap, subst, ◌∙◌, arith}
-use Rattle.edges.specs.Made.{edges_below, starts_below, bound_at, edges_at, sources_at}
+use Rattle.std.proofs.Common.{◌≡◌, ◌+◌, [], ◌∷◌, ◌++◌, length, sym, ap, ◌∙◌, arith}
+use Rattle.edges.specs.Made.{edges_below, bound_at, edges_at, sources_at}
 use Rattle.edges.proofs.Runs.{edges_below-none, starts_below-none, edges_below-more, starts_below-more, runs-are}
 use Rattle.edges.proofs.Sound.{all-edges}
 use Rattle.edges.proofs.edges.Edges.derive.Goals as goal

@@ -1,8 +1,7 @@
-use Rattle.std.proofs.Common.{◌≡◌, ◌+◌, ◌<◌, ℕ, length, get_or, slice_get, refl, sym, ap, subst, ◌∙◌, arith}
+use Rattle.std.proofs.Common.{◌+◌, length, get_or, slice_get, refl, sym, ap, subst, ◌∙◌}
 use Rattle.std.proofs.lemmas.Option.{slice_get_read, slice_get_within, get_or_from_slice_get}
-use Rattle.edges.specs.Edges.{Edge, IsRunOf}
-use Rattle.edges.specs.Made.{AreRuns}
-use Rattle.edges.proofs.Runs.{run-at, no-run}
+use Rattle.edges.specs.Edges.{IsRunOf}
+use Rattle.edges.proofs.Runs.{run-at}
 use Rattle.edges.proofs.edges.Edges.of_state.Goals as goal
 
 pub returns-in-Some-Some : goal.returns-in-Some-Some

@@ -1,6 +1,6 @@
-use Rattle.std.proofs.Common.{◌≡◌, ◌<◌, length, slice_get, ap, sym, ◌∙◌, arith, rules, vec_len}
+use Rattle.std.proofs.Common.{◌≡◌, length, slice_get, ap, ◌∙◌, arith, rules, vec_len}
 use Rattle.std.proofs.lemmas.Option.{get_or_from_slice_get}
-use Rattle.edges.specs.Made.{edge_of, edges_of}
+use Rattle.edges.specs.Made.{edge_of}
 use Rattle.edges.proofs.Tables.{stands-at, length-edges_of}
 use Rattle.edges.proofs.table.Table.head.Goals as goal
 
