@@ -29,7 +29,8 @@ use Rattle.reconstruction.specs.Levelled.{AreComplete}
 use Rattle.reconstruction.specs.Spots.{rows_at, at_state, IsSpot}
 use Rattle.reconstruction.specs.Tabled as tabled
 use Rattle.reconstruction.specs.Tabled.{least_of}
-use Rattle.reconstruction.specs.Totals.{declared_in, lower_in, AreTotals, AreLightest}
+use Rattle.reconstruction.specs.Totals.{declared_in, lower_in, AreTotals}
+use Rattle.reconstruction.specs.Usable.{AreFloors, AreUsable}
 use Rattle.reconstruction.specs.Variables.{variables, bound_at, numbers_at}
 use Rattle.reconstruction.specs.Ways.{numbers_of_head, head_numbers, heads_at, way_numbers_by, way_numbers, ways_at, often}
 use Rattle.reconstruction.specs.declared.spot.Spot.{Spot}
@@ -99,7 +100,7 @@ head-one k = (let o : once_if ((2 * k + 1) == (2 * k + 1)) ≡ 1 = ap once_if (e
 head-even : (n m : ℕ) → often (2 * m) ((2 * n + 1) ∷ []) ≡ 0
 head-even n m = (let z : once_if ((2 * n + 1) == (2 * m)) ≡ 0 = ap once_if (ne_eqb (2 * n + 1) (2 * m) (λ e. absurd (omega (arith, e)))) in omega (arith, z))
 
-module _ (t : Tables) (c : Compression) (valid : IsValid t.env) (lengths : HasLengths t.env) (comp : IsCompression t.env c) (made : ArePatterns c t.env.goal t.env.depth t.patterns) (right : AreLeastWeights t.env t.patterns t.least) (are : AreEdges t.env c t.patterns t.edges) (totals : AreTotals t.env.limit t.least t.edges t.totals) (light : AreLightest t.env t.edges t.totals t.lightest) where
+module _ (t : Tables) (c : Compression) (valid : IsValid t.env) (lengths : HasLengths t.env) (comp : IsCompression t.env c) (made : ArePatterns c t.env.goal t.env.depth t.patterns) (right : AreLeastWeights t.env t.patterns t.least) (are : AreEdges t.env c t.patterns t.edges) (totals : AreTotals t.env.limit t.least t.edges t.totals) (floors : AreFloors t.env t.edges t.totals t.floors) (usable : AreUsable t.env.limit t.floors t.edges t.usable) where
   abbrev Case : ℕ → State → Edge → Type 0
   Case i s e = EdgeCase t.env c t.patterns i s e
 
@@ -448,7 +449,8 @@ module _ (t : Tables) (c : Compression) (valid : IsValid t.env) (lengths : HasLe
         start_is = ap (λ o. at_state d o []) made.found.first ∙ ap (λ n. record { ctx = []; left = n; wanted = t.env.goal }) made.depth_is;
         ways = λ p sp m e at here. way-of t c valid lengths made right cases totals p sp m e at here;
         totals = totals;
-        light = light;
+        floors = floors;
+        usable = usable;
         once = numbers-once;
         complete = numbers-there;
       }

@@ -67,7 +67,7 @@ picked-append ok (n ∷ a) b = go (ok n) (picked-append ok a b)
     go true h = ap (λ l. n ∷ l) h
     go false h = h
 
-picked-one : (ok : ℕ → Bool) (n : ℕ) → picked ok (n ∷ []) ≡ cond (ok n) (n ∷ []) []
+pub picked-one : (ok : ℕ → Bool) (n : ℕ) → picked ok (n ∷ []) ≡ cond (ok n) (n ∷ []) []
 unfolding picked
 picked-one ok n = refl
 

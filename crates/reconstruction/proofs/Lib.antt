@@ -3,6 +3,8 @@ pub mod Opens
 pub mod Children
 pub mod Growths
 pub mod Ways
+pub mod Shuffled
+pub mod Used
 pub mod Bound
 pub mod Making
 pub mod Seeking

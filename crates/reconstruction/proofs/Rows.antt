@@ -1,17 +1,12 @@
 -- What an edge's head, its row and the state of its lower type are.
-use Rattle.std.proofs.Common.{◌≡◌, ◌≢◌, ℕ, ◌+◌, ◌*◌, ◌<◌, List, [], ◌∷◌, length, get_or, Option, Some, None, refl, sym, ap, subst, ◌∙◌, arith}
+use Rattle.std.proofs.Common.{◌≡◌, ◌≢◌, ℕ, ◌+◌, List, [], ◌∷◌, length, get_or, Option, Some, refl, sym, ap, subst, ◌∙◌, arith}
 use Rattle.terms.specs.declared.parts.Arg.{Arg}
 use Rattle.terms.specs.declared.parts.Arg.TheVariants.{Plain, Fun}
-use Rattle.reconstruction.specs.Tabled.{front_of, spots_under, AreHeld, IsParent, Grew}
+use Rattle.reconstruction.specs.Tabled.{spots_under}
 use Rattle.reconstruction.specs.Totals.{row_by, row_under}
-use Rattle.reconstruction.specs.Ways.{numbers_of_head, Turns, IsHeadBy}
-use Rattle.reconstruction.specs.declared.item.Item.{Item}
-use Rattle.reconstruction.specs.declared.item.Arena.{Arena}
-use Rattle.reconstruction.specs.declared.item.Parent.{Parent}
+use Rattle.reconstruction.specs.Ways.{Turns, IsHeadBy}
 use Rattle.reconstruction.specs.declared.spot.Spot.{Spot}
 use Rattle.reconstruction.specs.declared.tables.Tables.{Tables}
-use Rattle.reconstruction.proofs.Children.{no_push, too_heavy}
-use Rattle.reconstruction.proofs.Growths.{all-grown-refl, grew-none, grew-one}
 
 pub row-other : (args : List Arg) (row k : ℕ) → length args ≢ 1 → row ≡ row_by args row k
 row-other [] row k h = refl
@@ -33,8 +28,3 @@ row-plain (a ∷ []) x b row k n at is = sym (ap (λ y. row_by (y ∷ []) row k)
 -- the turn of a declaration's edge
 pub head-turn : (t : Tables) (p : Spot) (step k w : ℕ) (o : Option ℕ) (tails : List ℕ) → IsHeadBy t p step o w tails → o ≡ Some k → Turns t p step k w (spots_under (row_under t.env p.row k) tails)
 head-turn t p step k w o tails h is = subst (λ x. IsHeadBy t p step x w tails) is h
-
--- a head above the room adds nothing
-pub passed-head : (t : Tables) (a : Arena) (p : Parent) (step w : ℕ) (o : Option ℕ) (tails : List ℕ) (items : List (ℕ × Item)) → IsParent t a p → AreHeld t a items → t.env.limit < p.base + (w + step) → IsHeadBy t p.spot step o w tails → Grew t a a (front_of a p.front) (numbers_of_head o) items items
-passed-head t a p step w None tails items parent held heavy turn = grew-none t a (front_of a p.front) items held
-passed-head t a p step w (Some k) tails items parent held heavy turn = grew-one t a a (front_of a p.front) (2 * k + 1) items items (all-grown-refl a) held (no_push t a (front_of a p.front) (2 * k + 1) items (too_heavy t a p (2 * k + 1) (w + step) _ parent turn.head heavy))

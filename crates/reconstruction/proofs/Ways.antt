@@ -1,20 +1,20 @@
 -- What the edges of a state add, one after the other.
-use Rattle.std.proofs.Common.{◌≡◌, ◌≢◌, inl, inr, ℕ, zero, suc, ◌+◌, ◌*◌, ◌<◌, ◌≤◌, Bool, true, false, ◌&&◌, ◌==◌, cond, List, [], ◌∷◌, ◌++◌, length, get_or, take, drop, slice_get, Option, Some, None, refl, sym, ap, subst, ◌∙◌, arith, append_assoc, append-nil}
+use Rattle.std.proofs.Common.{◌≡◌, inl, inr, ℕ, zero, suc, ◌+◌, ◌*◌, ◌<◌, ◌≤◌, Bool, true, false, ◌&&◌, ◌==◌, cond, List, [], ◌∷◌, ◌++◌, length, get_or, slice_get, Option, Some, None, refl, sym, ap, subst, ◌∙◌, arith, append_assoc, append-nil}
 use Rattle.std.proofs.lemmas.Bool.{eq-eqb, ne_eqb, cases_eq}
-use Rattle.std.proofs.lemmas.List.{take_more, take-append-drop}
 use Rattle.std.proofs.lemmas.Option.{slice_get-get_or}
 use Rattle.terms.specs.Count.{once_if, count}
 use Rattle.terms.proofs.Standing.{count-append}
-use Rattle.edges.specs.Edges.{Edge, IsRunOf}
-use Rattle.reconstruction.specs.Tabled.{front_of, AreHeld, IsParent, Grew}
-use Rattle.reconstruction.specs.Totals.{declared_in, AreLightest}
-use Rattle.reconstruction.specs.Ways.{edge_at, numbers_where, numbers_of_head, head_numbers, heads_at, often, AreHeadsAt, IsHeadBy}
+use Rattle.edges.specs.Edges.{Edge}
+use Rattle.reconstruction.specs.Tabled.{front_of, may, picked, IsParent, Grew}
+use Rattle.reconstruction.specs.Totals.{declared_in, lower_in}
+use Rattle.reconstruction.specs.Usable.{IsFloor}
+use Rattle.reconstruction.specs.Ways.{edge_at, numbers_where, numbers_of_head, head_numbers, way_numbers, way_numbers_by, often, IsHeadBy, IsWayBy, IsWayOf}
 use Rattle.reconstruction.specs.declared.item.Item.{Item}
 use Rattle.reconstruction.specs.declared.item.Arena.{Arena}
 use Rattle.reconstruction.specs.declared.item.Parent.{Parent}
 use Rattle.reconstruction.specs.declared.tables.Tables.{Tables}
-use Rattle.reconstruction.proofs.Children.{no_push, too_heavy}
-use Rattle.reconstruction.proofs.Growths.{all-grown-refl, front-same, grew-none, grew-one, grew-then}
+use Rattle.reconstruction.proofs.Children.{too_heavy}
+use Rattle.reconstruction.proofs.Growths.{front-same, grew-then, picked-append, picked-none, picked-one}
 
 -- the same numbers
 pub grew-as : (t : Tables) (a b : Arena) (f ns ms : List ℕ) (old new : List (ℕ × Item)) → ns ≡ ms → Grew t a b f ms old new → Grew t a b f ns old new
@@ -34,55 +34,14 @@ where-cons : (f : Edge → List ℕ) (i : ℕ) (e : Edge) (es : List Edge) → n
 unfolding numbers_where
 where-cons f i e es = refl
 
-where-append : (f : Edge → List ℕ) (i : ℕ) (xs ys : List Edge) → numbers_where f i (xs ++ ys) ≡ numbers_where f i xs ++ numbers_where f i ys
+pub where-append : (f : Edge → List ℕ) (i : ℕ) (xs ys : List Edge) → numbers_where f i (xs ++ ys) ≡ numbers_where f i xs ++ numbers_where f i ys
 unfolding numbers_where
 where-append f i [] ys = refl
 where-append f i (e ∷ xs) ys = ap (λ l. cond (e.state == i) (f e) [] ++ l) (where-append f i xs ys) ∙ sym (append_assoc (cond (e.state == i) (f e) []) (numbers_where f i xs) (numbers_where f i ys))
 
--- edges of other states add nothing
-where-other : (f : Edge → List ℕ) (i : ℕ) (es : List Edge) → ((m : ℕ) (e : Edge) → slice_get es m ≡ Some e → e.state ≢ i) → numbers_where f i es ≡ []
-unfolding numbers_where
-where-other f i [] h = refl
-where-other f i (e ∷ es) h = ap (λ b. cond b (f e) [] ++ numbers_where f i es) (ne_eqb e.state i (h 0 e refl)) ∙ where-other f i es (λ m x is. h (suc m) x is)
-
-where-here : (f : Edge → List ℕ) (i : ℕ) (e : Edge) → e.state ≡ i → numbers_where f i (e ∷ []) ≡ f e
-where-here f i e here = where-cons f i e [] ∙ ap (λ l. cond (e.state == i) (f e) [] ++ l) (where-nil f i) ∙ append-nil (cond (e.state == i) (f e) []) ∙ ap (λ b. cond b (f e) []) (eq-eqb e.state i here)
-
-get-take : {X : Type 0} (n : ℕ) (xs : List X) (m : ℕ) (x : X) → slice_get (take n xs) m ≡ Some x → (m < n) × (slice_get xs m ≡ Some x)
-get-take {X} zero xs m x h = cc
-get-take {X} (suc n) [] m x h = cc
-get-take {X} (suc n) (y ∷ xs) zero x h = (omega arith, h)
-get-take {X} (suc n) (y ∷ xs) (suc m) x h = (let r = get-take n xs m x h in (omega (arith, r.0), r.1))
-
-get-drop : {X : Type 0} (n : ℕ) (xs : List X) (m : ℕ) (x : X) → slice_get (drop n xs) m ≡ Some x → slice_get xs (n + m) ≡ Some x
-get-drop {X} zero xs m x h = (let e : 0 + m ≡ m = omega arith in ap (slice_get xs) e ∙ h)
-get-drop {X} (suc n) [] m x h = cc
-get-drop {X} (suc n) (y ∷ xs) m x h = (let e : suc n + m ≡ suc (n + m) = omega arith in ap (slice_get (y ∷ xs)) e ∙ get-drop n xs m x h)
-
-module _ (f : Edge → List ℕ) (i : ℕ) (es : List Edge) (start end : ℕ) (run : IsRunOf i es start end) where
-  -- before the run of a state there is none of its edges
-  pub where-start : numbers_where f i (take start es) ≡ []
-  where-start = where-other f i (take start es) (λ m e is here. (
-      let r = get-take start es m e is in
-      let low = (run.outside m e r.1 here).0 in
-      absurd (omega (arith, low, r.0))))
-
-  -- nor after it
-  pub where-end : numbers_where f i (take end es) ≡ numbers_where f i es
-  where-end =
-      let rest : numbers_where f i (drop end es) ≡ [] = where-other f i (drop end es) (λ m e is here. (
-      let low = (run.outside (end + m) e (get-drop end es m e is) here).1 in
-      absurd (omega (arith, low)))) in
-      sym (ap (numbers_where f i) (sym (take-append-drop end es)) ∙ where-append f i (take end es) (drop end es) ∙ ap (λ l. numbers_where f i (take end es) ++ l) rest ∙ append-nil (numbers_where f i (take end es)))
-
-  -- one edge of the run more
-  pub where-more : (m : ℕ) → start ≤ m → m < end → numbers_where f i (take (m + 1) es) ≡ numbers_where f i (take m es) ++ f (edge_at es m)
-  where-more m low high =
-      let within = run.within in
-      let inside : m < length es = omega (arith, within, high) in
-      let none : Edge = record { state = 0; source = None; weight = 0; tails = [] } in
-      let at : slice_get es m ≡ Some (edge_at es m) = slice_get-get_or es m none inside in
-      ap (numbers_where f i) (take_more es m none inside) ∙ where-append f i (take m es) (edge_at es m ∷ []) ∙ ap (λ l. numbers_where f i (take m es) ++ l) (where-here f i (edge_at es m) (run.inside m (edge_at es m) at low high))
+-- what one edge adds
+pub where-one : (f : Edge → List ℕ) (i : ℕ) (e : Edge) → numbers_where f i (e ∷ []) ≡ cond (e.state == i) (f e) []
+where-one f i e = where-cons f i e [] ∙ ap (λ l. cond (e.state == i) (f e) [] ++ l) (where-nil f i) ∙ append-nil (cond (e.state == i) (f e) [])
 
 -- the edge of a number
 pub edge-get : (es : List Edge) (m : ℕ) → m < length es → slice_get es m ≡ Some (edge_at es m)
@@ -155,24 +114,28 @@ few-pass {X} p (x ∷ xs) h = go (p x) refl (few-pass p xs (λ m n a b am bn pa 
         omega (arith, one, gone)
     go false e rest = (let z : once_if (p x) ≡ 0 = ap once_if e in omega (arith, z, rest))
 
--- heads that are all above the room add nothing
-passed-one : (t : Tables) (a : Arena) (p : Parent) (least w : ℕ) (o : Option ℕ) (tails : List ℕ) (items : List (ℕ × Item)) → IsParent t a p → AreHeld t a items → t.env.limit < p.base + (least + 10) → IsHeadBy t p.spot 10 o w tails → ((k : ℕ) → o ≡ Some k → least ≤ w) → Grew t a a (front_of a p.front) (numbers_of_head o) items items
-passed-one t a p least w None tails items parent held heavy turn light = grew-none t a (front_of a p.front) items held
-passed-one t a p least w (Some k) tails items parent held heavy turn light =
-    let low = light k refl in
-    grew-one t a a (front_of a p.front) (2 * k + 1) items items (all-grown-refl a) held (no_push t a (front_of a p.front) (2 * k + 1) items (too_heavy t a p (2 * k + 1) (w + 10) _ parent turn.head (omega (arith, heavy, low))))
-
-passed-all : (t : Tables) (a : Arena) (f : List ℕ) (i : ℕ) (items : List (ℕ × Item)) → AreHeld t a items → (es : List Edge) → ((m : ℕ) (e : Edge) → slice_get es m ≡ Some e → e.state ≡ i → Grew t a a f (head_numbers t.env e) items items) → Grew t a a f (numbers_where (head_numbers t.env) i es) items items
-passed-all t a f i items held [] h = grew-as t a a f _ [] items items (where-nil (head_numbers t.env) i) (grew-none t a f items held)
-passed-all t a f i items held (e ∷ es) h =
-    let rest = passed-all t a f i items held es (λ m y is. h (suc m) y is) in
-    let first : Grew t a a f (cond (e.state == i) (head_numbers t.env e) []) items items = elim (cases_eq e.state i) [
-      | inl here ↦ grew-as t a a f _ (head_numbers t.env e) items items (ap (λ b. cond b (head_numbers t.env e) []) (eq-eqb e.state i here)) (h 0 e refl here)
-      | inr other ↦ grew-as t a a f _ [] items items (ap (λ b. cond b (head_numbers t.env e) []) (ne_eqb e.state i other)) (grew-none t a f items held)
+-- edges of which no number passes
+where-idle : (ok : ℕ → Bool) (f : Edge → List ℕ) (i : ℕ) (es : List Edge) → ((m : ℕ) (e : Edge) → slice_get es m ≡ Some e → e.state ≡ i → picked ok (f e) ≡ []) → picked ok (numbers_where f i es) ≡ []
+where-idle ok f i [] h = ap (picked ok) (where-nil f i) ∙ picked-none ok
+where-idle ok f i (e ∷ es) h =
+    let first : picked ok (cond (e.state == i) (f e) []) ≡ [] = elim (cases_eq e.state i) [
+      | inl here ↦ ap (λ b. picked ok (cond b (f e) [])) (eq-eqb e.state i here) ∙ h 0 e refl here
+      | inr other ↦ ap (λ b. picked ok (cond b (f e) [])) (ne_eqb e.state i other) ∙ picked-none ok
     ] in
-    grew-as t a a f _ _ items items (where-cons (head_numbers t.env) i e es) (grew-then t a a a f _ _ items items items first rest)
+    ap (picked ok) (where-cons f i e es) ∙ picked-append ok (cond (e.state == i) (f e) []) (numbers_where f i es) ∙ ap (λ l. l ++ picked ok (numbers_where f i es)) first ∙ where-idle ok f i es (λ m x is. h (suc m) x is)
 
-pub grew-passed : (t : Tables) (a : Arena) (p : Parent) (i : ℕ) (items : List (ℕ × Item)) → IsParent t a p → AreHeld t a items → t.env.limit < p.base + (get_or t.lightest i 0 + 10) → AreHeadsAt t p.spot 10 i → AreLightest t.env t.edges t.totals t.lightest → Grew t a a (front_of a p.front) (heads_at t.env t.edges i) items items
-grew-passed t a p i items parent held heavy turns light = passed-all t a (front_of a p.front) i items held t.edges (λ m e is here. (
-    passed-one t a p (get_or t.lightest i 0) (get_or t.totals m 0) (declared_in t.env e.source) e.tails items parent held heavy (turns m e is here)
-    (λ k o. subst (λ s. get_or t.lightest s 0 ≤ get_or t.totals m 0) here (light m k e is o))))
+-- a head that is above the limit may not come to a term
+pub head-idle : (t : Tables) (a : Arena) (p : Parent) (step w : ℕ) (o : Option ℕ) (tails : List ℕ) → IsParent t a p → IsHeadBy t p.spot step o w tails → ((k : ℕ) → o ≡ Some k → t.env.limit < p.base + (w + step)) → picked (may t (front_of a p.front)) (numbers_of_head o) ≡ []
+head-idle t a p step w None tails parent turn heavy = picked-none (may t (front_of a p.front))
+head-idle t a p step w (Some k) tails parent turn heavy =
+    picked-one (may t (front_of a p.front)) (2 * k + 1) ∙ ap (λ b. cond b ((2 * k + 1) ∷ []) []) (too_heavy t a p (2 * k + 1) (w + step) _ parent turn.head (heavy k refl))
+
+-- nor the heads of an edge whose floor is above it
+pub way-idle : (t : Tables) (a : Arena) (p : Parent) (m : ℕ) (e : Edge) → IsParent t a p → IsWayOf t p.spot m e → IsFloor t.env t.edges t.totals m e (get_or t.floors m 0) → t.env.limit < p.base + get_or t.floors m 0 → picked (may t (front_of a p.front)) (way_numbers t.env t.edges e) ≡ []
+way-idle t a p m e parent way floor heavy = go (lower_in t.env e.source e.tails) refl way
+  where
+    go : (o : Option ℕ) → lower_in t.env e.source e.tails ≡ o → IsWayBy t p.spot m e o → picked (may t (front_of a p.front)) (way_numbers_by t.env t.edges e o) ≡ []
+    go None is turn = head-idle t a p 0 (get_or t.totals m 0) (declared_in t.env e.source) e.tails parent turn (λ k declared. (let low = floor.head k declared in omega (arith, heavy, low)))
+    go (Some lower) is turns = where-idle (may t (front_of a p.front)) (head_numbers t.env) lower t.edges (λ n f at here. (
+        head-idle t a p 10 (get_or t.totals n 0) (declared_in t.env f.source) f.tails parent (turns n f at here)
+        (λ k declared. (let low = floor.under lower n k f is at here declared in omega (arith, heavy, low)))))

@@ -3,6 +3,7 @@ pub mod Spots
 pub mod Tabled
 pub mod Totals
 pub mod Ways
+pub mod Usable
 pub mod Variables
 pub mod Levelled
 pub mod Rebuilding

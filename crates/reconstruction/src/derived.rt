@@ -7,15 +7,17 @@ ghost use Rattle.edges.specs.Edges.{Edge, AreEdges};
 ghost use Rattle.least_weights.specs.LeastWeight.{AreLeastWeights};
 ghost use Rattle.reconstruction.specs.Levelled.{AreComplete};
 ghost use Rattle.reconstruction.specs.Totals.{AreTotals, AreLightest};
+ghost use Rattle.reconstruction.specs.Usable.{AreFloors, AreUsable};
 
 use crate::tables::Tables;
 use crate::totals::{all_lightest, all_totals};
+use crate::usable::{all_floors, all_usable};
 use edges::Edges;
 use least_weights::Least;
 use lists::Items;
 use patterns::Patterns;
 use std::alloc::{AllocError, Global};
-use succinct::Compressed;
+use succinct::{Compressed, Rows};
 use terms::Env;
 
 /// The patterns of an environment at its goal.
@@ -78,11 +80,46 @@ fn lightest_for(
     all_lightest(alloc, env.parts(), edges, totals, states)
 }
 
-/// What edges total, and a bound on that for each state.
+/// The floors of the edges.
+fn floors_for(
+    alloc: Global,
+    env: &Env,
+    patterns: &Patterns,
+    edges: &Edges,
+    totals: &[u32],
+) -> Result<Items<u32>, AllocError>
+    requires as_many { length totals.now ≡ length edges.now }
+    requires in_range { (m : ℕ) (e : Edge) → slice_get edges.now m ≡ Some e → e.state < length patterns.now.states }
+    ensures floors { IfOk result (λ floors. AreFloors env.now edges.now totals.now floors) }
+{
+    let lightest = lightest_for(alloc, env, patterns, edges, totals)?;
+    all_floors(alloc, env.parts(), edges, totals, lightest.as_slice())
+}
+
+/// The usable edges of the states. Want of memory is also answered where there would be 2^32 states.
+fn usable_for(
+    alloc: Global,
+    env: &Env,
+    patterns: &Patterns,
+    edges: &Edges,
+    floors: &[u32],
+) -> Result<Rows, AllocError>
+    requires in_range { (m : ℕ) (e : Edge) → slice_get edges.now m ≡ Some e → e.state < length patterns.now.states }
+    ensures usable { IfOk result (λ rows. AreUsable env.now.limit floors.now edges.now rows) }
+{
+    let states = patterns.states().len();
+    if states > 4_294_967_295 {
+        return Err(AllocError);
+    }
+    all_usable(alloc, env.parts().limit, edges, floors, states)
+}
+
+/// What edges total, and those that can be used.
 #[derive(Drop)]
 struct Weighed {
     totals: Items<u32>,
-    lightest: Items<u32>,
+    floors: Items<u32>,
+    usable: Rows,
 }
 
 /// What the edges total with these least weights.
@@ -96,11 +133,17 @@ fn weighed_by(
     requires as_many { length least.now ≡ length patterns.now.states }
     requires in_range { (m : ℕ) (e : Edge) → slice_get edges.now m ≡ Some e → e.state < length patterns.now.states }
     ensures totals { IfOk result (λ all. AreTotals env.now.limit least.now edges.now all.totals) }
-    ensures light { IfOk result (λ all. AreLightest env.now edges.now all.totals all.lightest) }
+    ensures floors { IfOk result (λ all. AreFloors env.now edges.now all.totals all.floors) }
+    ensures usable { IfOk result (λ all. AreUsable env.now.limit all.floors edges.now all.usable) }
 {
     let totals = all_totals(alloc, env, patterns, edges, least)?;
-    let lightest = lightest_for(alloc, env, patterns, edges, totals.as_slice())?;
-    Ok(Weighed { totals, lightest })
+    let floors = floors_for(alloc, env, patterns, edges, totals.as_slice())?;
+    let usable = usable_for(alloc, env, patterns, edges, floors.as_slice())?;
+    Ok(Weighed {
+        totals,
+        floors,
+        usable,
+    })
 }
 
 /// The tables of an environment for which all the rest is known.
@@ -117,7 +160,8 @@ fn complete_tables(
     requires edges { AreEdges env compressed.now patterns edges }
     requires least { AreLeastWeights env patterns least }
     requires totals { AreTotals env.limit least edges weighed.totals }
-    requires light { AreLightest env edges weighed.totals weighed.lightest }
+    requires floors { AreFloors env edges weighed.totals weighed.floors }
+    requires usable { AreUsable env.limit weighed.floors edges weighed.usable }
     ensures complete { AreComplete result }
     ensures env { result.env ≡ env }
 {
@@ -128,7 +172,8 @@ fn complete_tables(
         edges,
         least,
         totals: weighed.totals,
-        lightest: weighed.lightest,
+        floors: weighed.floors,
+        usable: weighed.usable,
     }
 }
 

@@ -3,22 +3,33 @@
 ghost use Rattle.std.specs.Prelude.{◌≡◌, ◌+◌, ◌*◌, ◌<◌, ◌≤◌, ◌∷◌, [], OnOk, slice_index_or, length};
 ghost use Rattle.terms.specs.Faults.{IsValid};
 ghost use Rattle.reconstruction.specs.Tabled.{front_of, place_of, spots_under, IsParent, IsTurn, AreHeld, AreGrown, Grew};
-ghost use Rattle.reconstruction.specs.Totals.{lower_in, row_by, row_under, AreTotals, AreLightest};
+ghost use Rattle.reconstruction.specs.Totals.{lower_in, row_by, row_under, AreTotals};
+ghost use Rattle.reconstruction.specs.Usable.{AreFloors, AreUsable, IsWithin};
 ghost use Rattle.reconstruction.specs.Ways.{edge_at, head_numbers, heads_at, way_numbers, ways_at, IsHeadOf, AreHeadsAt, IsWayOf, AreWaysAt};
 
 use crate::building::wanted_by;
 use crate::growing::grow_by;
 use crate::item::{Arena, Head, Item, Parent};
 use crate::tables::Tables;
-use crate::totals::declared;
+use crate::totals::{declared, number_at};
+use crate::usable::{lower, within};
 use std::alloc::AllocError;
 use terms::{Arg, Parts};
 
-/// What the head of a term within the limit may total with its coercion, at the most.
-fn room_of(tables: &Tables, parent: Parent) -> u32
-    ensures room { tables.now.env.limit ≤ parent.base + result }
+/// What an edge may total at the most below a coercion that weighs so much.
+fn room_of(tables: &Tables, parent: Parent, step: u32) -> u32
+    ensures room { tables.now.env.limit ≤ parent.base + (step + result) }
 {
-    tables.env.parts().limit.saturating_sub(parent.base)
+    let limit = tables.env.parts().limit;
+    limit.saturating_sub(parent.base).saturating_sub(step)
+}
+
+/// The usable edges of a state whose floors are within a room.
+fn usable_at(tables: &Tables, state: u32, room: u32) -> &[u32]
+    requires usable { AreUsable tables.now.env.limit tables.now.floors tables.now.edges tables.now.usable }
+    ensures within { IsWithin tables.now.floors room (slice_index_or tables.now.usable state []) result.now }
+{
+    within(tables.floors.as_slice(), tables.usable.row(state), room)
 }
 
 /// The row of the places that a declaration of these wants opens.
@@ -43,23 +54,6 @@ fn row_under(parts: &Parts, row: u32, decl: u32) -> u32
     row_by(wanted_by(parts, decl), row, decl)
 }
 
-/// The state of the lower type, where a source is a pair.
-fn lower(parts: &Parts, source: Option<u32>, tails: &[u32]) -> Option<u32>
-    ensures value { result ≡ lower_in parts.now source tails.now }
-{
-    let number = match source {
-        Some(number) => number,
-        None => return None,
-    };
-    if (number as usize) < parts.decls.len() {
-        return None;
-    }
-    if tails.is_empty() {
-        return None;
-    }
-    Some(tails[0])
-}
-
 /// The state of the lower type, where an edge is a coercion.
 fn lower_of(tables: &Tables, edge: u32) -> Option<u32>
     requires in_range { edge < length tables.now.edges }
@@ -76,10 +70,7 @@ fn lower_of(tables: &Tables, edge: u32) -> Option<u32>
 fn total_at(tables: &Tables, edge: u32) -> u32
     ensures value { result ≡ slice_index_or tables.now.totals edge 0 }
 {
-    match tables.totals.as_slice().get(edge as usize) {
-        Some(total) => *total,
-        None => 0,
-    }
+    number_at(tables.totals.as_slice(), edge)
 }
 
 /// Adds what grows by a declaration of this total, whose wants are sought in these states.
@@ -107,21 +98,18 @@ fn grow_decl(
     grow_by(tables, arena, children, parent, head, tails)
 }
 
-/// Adds what grows by the declaration of an edge; a coercion adds nothing. Most heads are above the room, and are
-/// passed at once.
+/// Adds what grows by the declaration of an edge; a coercion adds nothing.
 #[inline(always)]
 fn grow_head(
     tables: &Tables,
     arena: &mut Arena,
     children: &mut Vec<(u32, Item)>,
     parent: Parent,
-    room: u32,
     step: u32,
     edge: u32,
 ) -> Result<(), AllocError>
     requires parent { IsParent tables.now arena.old parent }
     requires children { AreHeld tables.now arena.old children.old.items }
-    requires room { tables.now.env.limit ≤ parent.base + room }
     requires step { step ≤ 10 }
     requires in_range { edge < length tables.now.edges }
     requires totals { AreTotals tables.now.env.limit tables.now.least tables.now.edges tables.now.totals }
@@ -131,9 +119,6 @@ fn grow_head(
     ensures grown { AreGrown arena.old arena.new }
 {
     let total = total_at(tables, edge) + step;
-    if total > room {
-        return Ok(());
-    }
     match declared(tables.env.parts(), tables.edges.source(edge)) {
         Some(decl) => grow_decl(
             tables,
@@ -161,31 +146,21 @@ fn grow_heads(
     requires children { AreHeld tables.now arena.old children.old.items }
     requires totals { AreTotals tables.now.env.limit tables.now.least tables.now.edges tables.now.totals }
     requires valid { IsValid tables.now.env }
+    requires floors { AreFloors tables.now.env tables.now.edges tables.now.totals tables.now.floors }
+    requires usable { AreUsable tables.now.env.limit tables.now.floors tables.now.edges tables.now.usable }
     requires step { step ≤ 10 }
     requires turns { AreHeadsAt tables.now parent.spot step state }
     ensures grew { OnOk result (Grew tables.now arena.old arena.new (front_of arena.old parent.front) (heads_at tables.now.env tables.now.edges state) children.old.items children.new.items) }
     ensures grown { AreGrown arena.old arena.new }
 {
-    let room = room_of(tables, parent);
-    let run = tables.edges.of_state(state);
-    for edge in run.start..run.end {
-        grow_head(tables, arena, children, parent, room, step, edge)?;
+    let edges = usable_at(tables, state, room_of(tables, parent, step));
+    for edge in edges {
+        grow_head(tables, arena, children, parent, step, *edge)?;
     }
     Ok(())
 }
 
-/// A total that no declaration's edge at a state is below.
-fn lightest_at(tables: &Tables, state: u32) -> u32
-    ensures value { result ≡ slice_index_or tables.now.lightest state 0 }
-{
-    match tables.lightest.as_slice().get(state as usize) {
-        Some(total) => *total,
-        None => 0,
-    }
-}
-
-/// Adds what grows by an edge, under a coercion where it is one. Where the heads of the lower type are all above
-/// the room, they are passed as a whole.
+/// Adds what grows by an edge, under a coercion where it is one.
 fn grow_edge(
     tables: &Tables,
     arena: &mut Arena,
@@ -197,25 +172,21 @@ fn grow_edge(
     requires children { AreHeld tables.now arena.old children.old.items }
     requires totals { AreTotals tables.now.env.limit tables.now.least tables.now.edges tables.now.totals }
     requires valid { IsValid tables.now.env }
-    requires light { AreLightest tables.now.env tables.now.edges tables.now.totals tables.now.lightest }
+    requires floors { AreFloors tables.now.env tables.now.edges tables.now.totals tables.now.floors }
+    requires usable { AreUsable tables.now.env.limit tables.now.floors tables.now.edges tables.now.usable }
     requires in_range { edge < length tables.now.edges }
     requires way { IsWayOf tables.now parent.spot edge (edge_at tables.now.edges edge) }
     ensures grew { OnOk result (Grew tables.now arena.old arena.new (front_of arena.old parent.front) (way_numbers tables.now.env tables.now.edges (edge_at tables.now.edges edge)) children.old.items children.new.items) }
     ensures grown { AreGrown arena.old arena.new }
 {
-    let room = room_of(tables, parent);
     match lower_of(tables, edge) {
-        Some(lower) => {
-            if lightest_at(tables, lower).saturating_add(10) > room {
-                return Ok(());
-            }
-            grow_heads(tables, arena, children, parent, 10, lower)
-        }
-        None => grow_head(tables, arena, children, parent, room, 0, edge),
+        Some(lower) => grow_heads(tables, arena, children, parent, 10, lower),
+        None => grow_head(tables, arena, children, parent, 0, edge),
     }
 }
 
-/// Adds what grows by the edges of the parent's first place.
+/// Adds what grows by the edges of the parent's first place. Those that can't be used are never looked at, and of
+/// the others none after the first that is above what is left of the limit.
 pub fn grow_edges(
     tables: &Tables,
     arena: &mut Arena,
@@ -226,14 +197,15 @@ pub fn grow_edges(
     requires children { AreHeld tables.now arena.old children.old.items }
     requires totals { AreTotals tables.now.env.limit tables.now.least tables.now.edges tables.now.totals }
     requires valid { IsValid tables.now.env }
-    requires light { AreLightest tables.now.env tables.now.edges tables.now.totals tables.now.lightest }
+    requires floors { AreFloors tables.now.env tables.now.edges tables.now.totals tables.now.floors }
+    requires usable { AreUsable tables.now.env.limit tables.now.floors tables.now.edges tables.now.usable }
     requires ways { AreWaysAt tables.now parent.spot parent.spot.state }
     ensures grew { OnOk result (Grew tables.now arena.old arena.new (front_of arena.old parent.front) (ways_at tables.now.env tables.now.edges parent.spot.state) children.old.items children.new.items) }
     ensures grown { AreGrown arena.old arena.new }
 {
-    let run = tables.edges.of_state(parent.spot.state);
-    for edge in run.start..run.end {
-        grow_edge(tables, arena, children, parent, edge)?;
+    let edges = usable_at(tables, parent.spot.state, room_of(tables, parent, 0));
+    for edge in edges {
+        grow_edge(tables, arena, children, parent, *edge)?;
     }
     Ok(())
 }

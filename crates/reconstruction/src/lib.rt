@@ -15,6 +15,7 @@ mod spot;
 mod starting;
 mod tables;
 mod totals;
+mod usable;
 mod variables;
 
 pub use rebuild::Rebuild;

@@ -98,8 +98,18 @@ pub fn declared(parts: &Parts, source: Option<u32>) -> Option<u32>
     }
 }
 
+/// The number at a place, 0 past the end.
+pub fn number_at(numbers: &[u32], place: u32) -> u32
+    ensures value { result ≡ slice_index_or numbers.now place 0 }
+{
+    match numbers.get(place as usize) {
+        Some(number) => *number,
+        None => 0,
+    }
+}
+
 /// The lesser of a total and that of an edge of a declaration.
-fn lighter(parts: &Parts, least: u32, source: Option<u32>, total: u32) -> u32
+pub fn lighter(parts: &Parts, least: u32, source: Option<u32>, total: u32) -> u32
     ensures least { result ≤ least }
     ensures head { (k : ℕ) → declared_in parts.now source ≡ Some k → result ≤ total }
 {

@@ -6,7 +6,8 @@ ghost use Rattle.terms.specs.Typing.{joined};
 ghost use Rattle.terms.specs.Weights.{step};
 ghost use Rattle.reconstruction.specs.Spots.{row_of_args, rows_at};
 ghost use Rattle.reconstruction.specs.Tabled.{place_of, front_of, IsParent, AreHeld, AreGrown, Grew};
-ghost use Rattle.reconstruction.specs.Totals.{AreTotals, AreLightest};
+ghost use Rattle.reconstruction.specs.Totals.{AreTotals};
+ghost use Rattle.reconstruction.specs.Usable.{AreFloors, AreUsable};
 ghost use Rattle.reconstruction.specs.Ways.{AreWaysAt};
 ghost use Rattle.reconstruction.specs.Variables.{variables, bound_at, numbers_at};
 
@@ -125,7 +126,8 @@ pub fn grow(
     requires children { AreHeld tables.now arena.old children.old.items }
     requires totals { AreTotals tables.now.env.limit tables.now.least tables.now.edges tables.now.totals }
     requires valid { IsValid tables.now.env }
-    requires light { AreLightest tables.now.env tables.now.edges tables.now.totals tables.now.lightest }
+    requires floors { AreFloors tables.now.env tables.now.edges tables.now.totals tables.now.floors }
+    requires usable { AreUsable tables.now.env.limit tables.now.floors tables.now.edges tables.now.usable }
     requires ways { AreWaysAt tables.now parent.spot parent.spot.state }
     ensures grew { OnOk result (Grew tables.now arena.old arena.new (front_of arena.old parent.front) (numbers_at tables.now parent.spot) children.old.items children.new.items) }
     ensures grown { AreGrown arena.old arena.new }

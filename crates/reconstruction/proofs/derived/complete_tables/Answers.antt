@@ -7,7 +7,7 @@ use Rattle.reconstruction.proofs.derived.complete_tables.Goals as goal
 
 pub returns-clause-complete : goal.returns-clause-complete
 returns-clause-complete c =
-    let t : Tables = record { env = c.args.env; patterns = c.args.patterns; edges = c.args.edges; least = c.args.least; totals = c.args.weighed.totals; lightest = c.args.weighed.lightest } in
+    let t : Tables = record { env = c.args.env; patterns = c.args.patterns; edges = c.args.edges; least = c.args.least; totals = c.args.weighed.totals; floors = c.args.weighed.floors; usable = c.args.weighed.usable } in
     let valid : IsValid c.args.env = subst (λ (x : Parts). IsValid x) c.parts.ensures.value c.parts.ensures.valid in
     let lengths : HasLengths c.args.env = subst (λ (x : Parts). HasLengths x) c.parts.ensures.value c.parts.ensures.lengths in
-    are-complete t c.args.compressed.now valid lengths c.requires.compressed c.requires.patterns c.requires.least c.requires.edges c.requires.totals c.requires.light
+    are-complete t c.args.compressed.now valid lengths c.requires.compressed c.requires.patterns c.requires.least c.requires.edges c.requires.totals c.requires.floors c.requires.usable

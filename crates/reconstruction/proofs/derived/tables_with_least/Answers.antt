@@ -10,7 +10,8 @@ complete_tables-requires c = record {
   edges = c.requires.edges;
   least = c.requires.least;
   totals = c.in_ok-weighed.ensures.totals;
-  light = c.in_ok-weighed.ensures.light;
+  floors = c.in_ok-weighed.ensures.floors;
+  usable = c.in_ok-weighed.ensures.usable;
 }
 
 pub returns : goal.returns

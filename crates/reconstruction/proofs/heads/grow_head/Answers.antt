@@ -5,7 +5,7 @@ use Rattle.reconstruction.specs.Tabled.{place_of, spots_under, IsTurn}
 use Rattle.reconstruction.specs.Totals.{declared_in, row_under}
 use Rattle.reconstruction.specs.Ways.{edge_at, numbers_of_head}
 use Rattle.reconstruction.proofs.Growths.{grew-none}
-use Rattle.reconstruction.proofs.Rows.{head-turn, passed-head}
+use Rattle.reconstruction.proofs.Rows.{head-turn}
 use Rattle.reconstruction.proofs.Ways.{edge-get, grew-as}
 use Rattle.reconstruction.proofs.heads.grow_head.Goals as goal
 
@@ -16,12 +16,6 @@ overflow_add-total c =
     let small = (c.requires.totals.each c.args.edge (edge_at t.edges c.args.edge) at).small in
     let low = valid-limit t.env c.requires.valid in
     omega (arith, small, low.1, c.total_at.ensures.value, c.requires.step)
-
-pub returns-then-total-room-clause-grew : goal.returns-then-total-room-clause-grew
-returns-then-total-room-clause-grew c =
-    let t = c.args.tables.now in
-    let e = edge_at t.edges c.args.edge in
-    passed-head t _ c.args.parent c.args.step (get_or t.totals c.args.edge 0) (declared_in t.env e.source) e.tails _ c.requires.parent c.requires.children (omega (arith, c.if-total-room.true, c.requires.room, c.total_at.ensures.value)) c.requires.turn
 
 pub grow_decl-requires-clause-number : goal.grow_decl-requires-clause-number
 grow_decl-requires-clause-number c =

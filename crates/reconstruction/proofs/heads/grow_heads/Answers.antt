@@ -1,32 +1,30 @@
-use Rattle.std.proofs.Common.{◌≡◌, ◌<◌, ◌∙◌, ap, length, take, sym, arith}
-use Rattle.reconstruction.specs.Ways.{edge_at, head_numbers, numbers_where}
+use Rattle.std.proofs.Common.{◌≡◌, flat_map, List, ℕ, get_or, take, take_all, ap, sym}
+use Rattle.reconstruction.specs.Ways.{edge_at, head_numbers}
 use Rattle.reconstruction.proofs.Growths.{grew-none}
-use Rattle.reconstruction.proofs.Ways.{edge-get, grew-as, grew-more, where-start, where-more, where-end}
+use Rattle.reconstruction.proofs.Used.{within-in, flat-more, grew-heads}
+use Rattle.reconstruction.proofs.Ways.{edge-get, grew-as, grew-more}
 use Rattle.reconstruction.proofs.heads.grow_heads.Goals as goal
 
 pub loop-edge-init : goal.loop-edge-init
-loop-edge-init c = grew-as _ _ _ _ _ _ _ _ (where-start (head_numbers c.args.tables.now.env) c.args.state c.args.tables.now.edges _ _ c.of_state-run.ensures.run) (grew-none _ _ _ _ c.requires.children)
+loop-edge-init c = grew-none _ _ _ _ c.requires.children
 
 pub grow_head-requires-clause-in_range : goal.grow_head-requires-clause-in_range
-grow_head-requires-clause-in_range c = (let within = c.of_state-run.ensures.run.within in omega (arith, within, c.loop-edge-test.true))
+grow_head-requires-clause-in_range c = (within-in _ _ c.args.tables.now.edges c.args.state _ _ _ (c.requires.usable c.args.state) c.usable_at-edges.ensures.within c.loop-edge.edge-index c.loop-edge-test.true).0
 
 pub grow_head-requires-clause-turn : goal.grow_head-requires-clause-turn
 grow_head-requires-clause-turn c =
-    let run = c.of_state-run.ensures.run in
-    let within = run.within in
     let es = c.args.tables.now.edges in
-    let m = c.loop-edge.edge in
-    let inside : m < length es = omega (arith, within, c.loop-edge-test.true) in
-    let at = edge-get es m inside in
-    c.requires.turns m (edge_at es m) at (run.inside m (edge_at es m) at c.loop-edge.auto.edge c.loop-edge-test.true)
+    let m = get_or c.usable_at-edges.result.now c.loop-edge.edge-index 0 in
+    let in_state = within-in _ _ es c.args.state _ _ _ (c.requires.usable c.args.state) c.usable_at-edges.ensures.within c.loop-edge.edge-index c.loop-edge-test.true in
+    c.requires.turns m (edge_at es m) (edge-get es m in_state.0) in_state.1
 
 pub loop-edge-preserved : goal.loop-edge-preserved
-loop-edge-preserved c = grew-more _ _ _ _ c.args.parent _ _ _ _ _ _ c.requires.parent c.loop-edge.invariant c.in_ok-grow_head.ensures.grew (where-more (head_numbers c.args.tables.now.env) c.args.state c.args.tables.now.edges _ _ c.of_state-run.ensures.run c.loop-edge.edge c.loop-edge.auto.edge c.loop-edge-test.true)
+loop-edge-preserved c = grew-more _ _ _ _ c.args.parent _ _ _ _ _ _ c.requires.parent c.loop-edge.invariant c.in_ok-grow_head.ensures.grew (flat-more (λ m. head_numbers c.args.tables.now.env (edge_at c.args.tables.now.edges m)) c.usable_at-edges.result.now c.loop-edge.edge-index c.loop-edge-test.true)
 
 pub returns-clause-grew : goal.returns-clause-grew
 returns-clause-grew c =
-    let run = c.of_state-run.ensures.run in
-    let order = run.order in
-    let es = c.args.tables.now.edges in
-    let same : c.of_state-run.result.end ≡ c.loop-edge.edge = omega (arith, order, c.loop-edge.auto.edge-end, c.loop-edge-test.false) in
-    grew-as _ _ _ _ _ _ _ _ (sym (where-end (head_numbers c.args.tables.now.env) c.args.state es _ _ run) ∙ ap (λ n. numbers_where (head_numbers c.args.tables.now.env) c.args.state (take n es)) same) c.loop-edge.invariant
+    let t = c.args.tables.now in
+    let part : List ℕ = c.usable_at-edges.result.now in
+    let all : take c.loop-edge.edge-index part ≡ part = take_all c.loop-edge.edge-index part c.loop-edge-test.false in
+    grew-heads t _ _ c.args.parent c.requires.parent c.requires.floors c.args.state _ _ part (c.requires.usable c.args.state) c.usable_at-edges.ensures.within _ _ c.args.step c.room_of.ensures.room c.requires.turns
+    (grew-as _ _ _ _ _ _ _ _ (ap (flat_map (λ m. head_numbers c.args.tables.now.env (edge_at t.edges m))) (sym all)) c.loop-edge.invariant)
