@@ -5,7 +5,7 @@ use Rattle.std.proofs.lemmas.Option.{slice_get-get_or, slice_get_past}
 use Rattle.terms.specs.Place.{goal_place}
 use Rattle.terms.specs.Reading.{some_when, variable_at, turn, turn_by, and_then}
 use Rattle.terms.specs.Typing.{joined, is_below}
-use Rattle.terms.specs.Weights.{step}
+use Rattle.terms.specs.Weights.{variable_weight, step_in}
 use Rattle.terms.specs.declared.parts.Arg.{Arg}
 use Rattle.terms.specs.declared.parts.Arg.TheVariants.{Plain, Fun}
 use Rattle.terms.specs.declared.parts.Decl.{Decl}
@@ -77,10 +77,10 @@ unfolding turn
 turn-is t p n a is = ap (turn_by t.env (place_of t p)) (symbol-even n) ∙ ap (λ c. variable_at t.env (place_of t p) (slice_get (joined c) n)) (place-rows t p) ∙ ap (variable_at t.env (place_of t p)) is
 
 -- a variable below the wanted type is a turn
-pub variable-turn : (t : Tables) (p : Spot) (n a w : ℕ) → slice_get (joined (rows_at t.env p.row)) n ≡ Some a → is_below t.env a (place_of t p).wanted ≡ true → w ≡ 1 + step (Some a) (place_of t p).wanted → IsTurn t (place_of t p) (2 * n) w []
+pub variable-turn : (t : Tables) (p : Spot) (n a w : ℕ) → slice_get (joined (rows_at t.env p.row)) n ≡ Some a → is_below t.env a (place_of t p).wanted ≡ true → w ≡ variable_weight t.env + step_in t.env (Some a) (place_of t p).wanted → IsTurn t (place_of t p) (2 * n) w []
 variable-turn t p n a w is below weighs = record {
-  weight = 1 + step (Some a) (place_of t p).wanted;
-  is = turn-is t p n a is ∙ ap (λ b. some_when b (record { weight = 1 + step (Some a) (place_of t p).wanted; open_places = [] })) below;
+  weight = variable_weight t.env + step_in t.env (Some a) (place_of t p).wanted;
+  is = turn-is t p n a is ∙ ap (λ b. some_when b (record { weight = variable_weight t.env + step_in t.env (Some a) (place_of t p).wanted; open_places = [] })) below;
   opened = All-nil (IsSpot t.env t.patterns);
   capped = inl (omega (arith, weighs));
 }
@@ -89,7 +89,7 @@ variable-turn t p n a w is below weighs = record {
 pub no_variable : (t : Tables) (a : Arena) (p : Parent) (n b : ℕ) (items : List (ℕ × Item)) → IsParent t a p → AreHeld t a items → slice_get (joined (rows_at t.env p.spot.row)) n ≡ Some b → is_below t.env b (place_of t p.spot).wanted ≡ false → Grew t a a (front_of a p.front) ((2 * n) ∷ []) items items
 no_variable t a p n b items parent all is below =
     let at = place_of t p.spot in
-    let none : turn t.env at (2 * n) ≡ None = turn-is t p.spot n b is ∙ ap (λ c. some_when c (record { weight = 1 + step (Some b) at.wanted; open_places = [] })) below in
+    let none : turn t.env at (2 * n) ≡ None = turn-is t p.spot n b is ∙ ap (λ c. some_when c (record { weight = variable_weight t.env + step_in t.env (Some b) at.wanted; open_places = [] })) below in
     let dead : may t (front_of a p.front) (2 * n) ≡ false =
     ap (key_within t.env.limit (least_of t)) (next_reading t.env (goal_place t.env) (front_of a p.front) (2 * n) parent.weight at (places_of t (stack_of a p.rest)) parent.is ∙ ap (λ o. and_then o (after parent.weight (places_of t (stack_of a p.rest)))) none) in
     grew-one t a a (front_of a p.front) (2 * n) items items (all-grown-refl a) all (no_push t a (front_of a p.front) (2 * n) items dead)

@@ -6,12 +6,12 @@ use Rattle.terms.specs.Count.{once_if, total}
 use Rattle.terms.specs.Faults.{IsValid, HasLengths}
 use Rattle.terms.specs.Reading.{Reading, Symbol, variable, declared, symbol, has_room, places, binders, some_when, variable_at, declared_at, turn_by, turn}
 use Rattle.terms.specs.Typing.{joined, is_below, is_pair}
-use Rattle.terms.specs.Weights.{step}
+use Rattle.terms.specs.Weights.{binders_weight, coercion_weight, step_in}
 use Rattle.terms.specs.declared.parts.Decl.{Decl}
 use Rattle.terms.specs.declared.parts.Parts.{Parts}
 use Rattle.terms.proofs.Halves.{number, number-symbol}
 use Rattle.terms.proofs.Standing.{count-append}
-use Rattle.terms.proofs.Valid.{valid-depth, valid-pair}
+use Rattle.terms.proofs.Valid.{valid-pair}
 use Rattle.succinct.specs.Compression.{Compression, IsCompression, Source, sources, of_decl, of_pair}
 use Rattle.succinct.specs.Sets.{types_bound}
 use Rattle.patterns.specs.Derivable.{Derivable, AllDerivable, none, value, by_decl}
@@ -38,7 +38,7 @@ use Rattle.reconstruction.specs.declared.tables.Tables.{Tables}
 use Rattle.reconstruction.proofs.Bound.{place-rows}
 use Rattle.reconstruction.proofs.Edged.{EdgeCase, edge-case, after-second}
 use Rattle.reconstruction.proofs.Evens.{variables-odd, variables-past, variables-within, valid-pairs_apart, is_pair_of, is_lower, lower-is}
-use Rattle.reconstruction.proofs.Ready.{are_least, root_kept, no_types, wants_derive}
+use Rattle.reconstruction.proofs.Ready.{are_least, first-set, root_kept, no_types, wants_derive}
 use Rattle.reconstruction.proofs.Turned.{value-state, spot-place, way-of}
 use Rattle.reconstruction.proofs.Ways.{where-most, where-some, where-zero, few-pass}
 use Rattle.reconstruction.proofs.Weights.{none_of, some_of}
@@ -306,11 +306,11 @@ module _ (t : Tables) (c : Compression) (valid : IsValid t.env) (lengths : HasLe
       let states = slice_get_within d.states i s is in
       let lists = made.found.as_many in
       let list : slice_get d.lists i ≡ Some (get_or d.lists i []) = slice_get-get_or d.lists i [] (omega (arith, states, lists)) in
-      record { kind = k; is = number_is; listed = (agrees t.env c t.env.goal t.env.depth d (valid-depth t.env valid) valid comp made i s (get_or d.lists i []) is list).listed k n source at number_is gives wants }
+      record { kind = k; is = number_is; listed = (agrees t.env c t.env.goal t.env.depth d valid comp made i s (get_or d.lists i []) is list).listed k n source at number_is gives wants }
 
   -- a declaration that gives a state's type and that fits within the limit has its edge there
-  decl-edge : (i : ℕ) (s : State) → slice_get t.patterns.states i ≡ Some s → (k : ℕ) (decl : Decl) → slice_get t.env.decls k ≡ Some decl → decl.result ≡ s.goal → AllDerivable t.env (types_at t.patterns.space s.set) (left_at t.patterns.space s.set) decl.args → decl_cost decl ≤ t.env.limit → HasEdge i (Some k) t.edges
-  decl-edge i s is k decl found gives wants within = are.complete i k (decl_cost decl) (offered i s is k (of_decl decl) (at-first of_decl t.env.decls (map of_pair t.env.pairs) k decl found) gives wants) (at-first decl_cost t.env.decls (map pair_cost t.env.pairs) k decl found) within
+  decl-edge : (i : ℕ) (s : State) → slice_get t.patterns.states i ≡ Some s → (k : ℕ) (decl : Decl) → slice_get t.env.decls k ≡ Some decl → decl.result ≡ s.goal → AllDerivable t.env (types_at t.patterns.space s.set) (left_at t.patterns.space s.set) decl.args → decl_cost t.env decl ≤ t.env.limit → HasEdge i (Some k) t.edges
+  decl-edge i s is k decl found gives wants within = are.complete i k (decl_cost t.env decl) (offered i s is k (of_decl decl) (at-first of_decl t.env.decls (map of_pair t.env.pairs) k decl found) gives wants) (at-first (decl_cost t.env) t.env.decls (map (pair_cost t.env) t.env.pairs) k decl found) within
 
   edge-adds : (i : ℕ) (s : State) → slice_get t.patterns.states i ≡ Some s → (k : ℕ) (h : HasEdge i (Some k) t.edges) (decl : Decl) → slice_get t.env.decls k ≡ Some decl → (declared_in t.env h.edge.source ≡ Some k) × (way_numbers t.env t.edges h.edge ≡ (2 * k + 1) ∷ [])
   edge-adds i s is k h decl found = go (cases i h.number s h.edge is h.is h.at_state)
@@ -344,14 +344,14 @@ module _ (t : Tables) (c : Compression) (valid : IsValid t.env) (lengths : HasLe
     is : slice_get t.patterns.states below ≡ Some (record { set = s.set; goal = a })
     holds : (x : ℕ) → often x (heads_at t.env t.edges below) ≤ often x (ways_at t.env t.edges i)
 
-  under : (i : ℕ) (s : State) → slice_get t.patterns.states i ≡ Some s → (a : ℕ) → is_pair t.env.pairs a s.goal ≡ true → Derivable t.env (types_at t.patterns.space s.set) (left_at t.patterns.space s.set) a → 10 ≤ t.env.limit → Under i s a
+  under : (i : ℕ) (s : State) → slice_get t.patterns.states i ≡ Some s → (a : ℕ) → is_pair t.env.pairs a s.goal ≡ true → Derivable t.env (types_at t.patterns.space s.set) (left_at t.patterns.space s.set) a → coercion_weight t.env ≤ t.env.limit → Under i s a
   under i s is a pair derives coerces =
       let j = get-pair t.env.pairs a s.goal pair in
       let n = length t.env.decls + j.0 in
       let low = slice_get_within t.env.pairs j.0 (a, s.goal) j.1 in
       let at : slice_get (sources t.env) n ≡ Some (of_pair (a, s.goal)) = after-second of_decl of_pair t.env.decls t.env.pairs j.0 (a, s.goal) j.1 in
       let o = offered i s is n (of_pair (a, s.goal)) at refl (value (types_at t.patterns.space s.set) (left_at t.patterns.space s.set) a [] derives (none (types_at t.patterns.space s.set) (left_at t.patterns.space s.set))) in
-      let h : HasEdge i (Some n) t.edges = are.complete i n 10 o (cost-pair t.env n (omega arith) (omega (arith, low))) coerces in
+      let h : HasEdge i (Some n) t.edges = are.complete i n (coercion_weight t.env) o (cost-pair t.env n (omega arith) (omega (arith, low))) coerces in
       go j.0 j.1 h (cases i h.number s h.edge is h.is h.at_state)
     where
       go : (j : ℕ) → slice_get t.env.pairs j ≡ Some (a, s.goal) → (h : HasEdge i (Some (length t.env.decls + j)) t.edges) → Case i s h.edge → Under i s a
@@ -375,7 +375,7 @@ module _ (t : Tables) (c : Compression) (valid : IsValid t.env) (lengths : HasLe
           }
 
   -- a declaration that may come to a term within the limit is among the numbers of the ways
-  declared-there : (p : Spot) (sp : IsSpot t.env t.patterns p) (k : ℕ) (decl : Decl) → slice_get t.env.decls k ≡ Some decl → is_below t.env decl.result sp.state.goal ≡ true → has_room (left_at t.patterns.space sp.state.set) decl.args ≡ true → decl.weight + binders decl.args + step (Some decl.result) sp.state.goal + total (least_of t) (places (rows_at t.env p.row) (left_at t.patterns.space sp.state.set) decl.args) ≤ t.env.limit → 1 ≤ often (2 * k + 1) (ways_at t.env t.edges p.state)
+  declared-there : (p : Spot) (sp : IsSpot t.env t.patterns p) (k : ℕ) (decl : Decl) → slice_get t.env.decls k ≡ Some decl → is_below t.env decl.result sp.state.goal ≡ true → has_room (left_at t.patterns.space sp.state.set) decl.args ≡ true → decl.weight + binders_weight t.env (binders decl.args) + step_in t.env (Some decl.result) sp.state.goal + total (least_of t) (places (rows_at t.env p.row) (left_at t.patterns.space sp.state.set) decl.args) ≤ t.env.limit → 1 ≤ often (2 * k + 1) (ways_at t.env t.edges p.state)
   declared-there p sp k decl found below room fits =
       let d = t.patterns in
       let s = sp.state in
@@ -388,7 +388,7 @@ module _ (t : Tables) (c : Compression) (valid : IsValid t.env) (lengths : HasLe
         | inr pair ↦ (
             let derives : Derivable t.env (types_at d.space s.set) left decl.result = by_decl (types_at d.space s.set) left k decl found wants in
             let apart = (valid-pair t.env valid decl.result s.goal pair).2 in
-            let ten : step (Some decl.result) s.goal ≡ 10 = step-apart decl.result s.goal apart in
+            let ten : step_in t.env (Some decl.result) s.goal ≡ coercion_weight t.env = step-apart t.env decl.result s.goal apart in
             let u = under p.state s sp.is decl.result pair derives (omega (arith, fits, ten)) in
             let low : State = record { set = s.set; goal = decl.result } in
             let h = head-there u.below low u.is k decl found (decl-edge u.below low u.is k decl found refl wants (omega (arith, fits))) in
@@ -414,11 +414,11 @@ module _ (t : Tables) (c : Compression) (valid : IsValid t.env) (lengths : HasLe
           let same : length (joined (tabled.place_of t p).ctx) ≡ bound_at t p = ap (λ x. length (joined x)) (place-rows t p) in
           omega (arith, low, same)
 
-      heavy : (k : ℕ) (decl : Decl) → slice_get t.env.decls k ≡ Some decl → (a b : Bool) → is_below t.env decl.result sp.state.goal ≡ a → has_room (left_at t.patterns.space sp.state.set) decl.args ≡ b → some_when (a && b) (record { weight = decl.weight + binders decl.args + step (Some decl.result) sp.state.goal; open_places = places (rows_at t.env p.row) (left_at t.patterns.space sp.state.set) decl.args }) ≡ Some r → 1 ≤ often (2 * k + 1) (ways_at t.env t.edges p.state)
+      heavy : (k : ℕ) (decl : Decl) → slice_get t.env.decls k ≡ Some decl → (a b : Bool) → is_below t.env decl.result sp.state.goal ≡ a → has_room (left_at t.patterns.space sp.state.set) decl.args ≡ b → some_when (a && b) (record { weight = decl.weight + binders_weight t.env (binders decl.args) + step_in t.env (Some decl.result) sp.state.goal; open_places = places (rows_at t.env p.row) (left_at t.patterns.space sp.state.set) decl.args }) ≡ Some r → 1 ≤ often (2 * k + 1) (ways_at t.env t.edges p.state)
       heavy k decl found false b below room v = absurd (none_of r v)
       heavy k decl found true false below room v = absurd (none_of r v)
       heavy k decl found true true below room v =
-          let q : Reading = record { weight = decl.weight + binders decl.args + step (Some decl.result) sp.state.goal; open_places = places (rows_at t.env p.row) (left_at t.patterns.space sp.state.set) decl.args } in
+          let q : Reading = record { weight = decl.weight + binders_weight t.env (binders decl.args) + step_in t.env (Some decl.result) sp.state.goal; open_places = places (rows_at t.env p.row) (left_at t.patterns.space sp.state.set) decl.args } in
           let same : q ≡ r = some_of q r v in
           let l : q.weight + total (least_of t) q.open_places ≡ r.weight + total (least_of t) r.open_places = ap (λ (x : Reading). x.weight + total (least_of t) x.open_places) same in
           declared-there p sp k decl found below room (omega (arith, l, fits))
@@ -439,14 +439,15 @@ module _ (t : Tables) (c : Compression) (valid : IsValid t.env) (lengths : HasLe
   pub are-complete : AreComplete t
   are-complete =
       let d = t.patterns in
-      let same = made.depth_is in
+      let first = first-set c t.env.goal t.env.depth d made in
+      let left = first.1 in
       record {
         valid = valid;
         weights = right;
         least = are_least t.env c d t.least valid comp made right;
         root = root_kept t.env c d made;
-        start = record { state = record { set = 0; goal = t.env.goal }; is = made.found.first; types = no_types; depth = omega (arith, same) };
-        start_is = ap (λ o. at_state d o []) made.found.first ∙ ap (λ n. record { ctx = []; left = n; wanted = t.env.goal }) made.depth_is;
+        start = record { state = record { set = 0; goal = t.env.goal }; is = made.found.first; types = no_types ∙ sym first.0; depth = omega (arith, left) };
+        start_is = ap (λ o. at_state d o []) made.found.first ∙ ap (λ n. record { ctx = []; left = n; wanted = t.env.goal }) left;
         ways = λ p sp m e at here. way-of t c valid lengths made right cases totals p sp m e at here;
         totals = totals;
         floors = floors;

@@ -3,6 +3,7 @@ use Rattle.std.proofs.Common.{◌≡◌, ◌⊎◌, inl, inr, ℕ, zero, suc, �
 use Rattle.std.proofs.lemmas.Bool.{lt-ltb, le-ltb}
 use Rattle.std.proofs.lemmas.Option.{slice_get_within, slice_get-get_or}
 use Rattle.terms.specs.Reading.{binders}
+use Rattle.terms.specs.Weights.{binders_weight}
 use Rattle.terms.specs.declared.parts.Arg.TheVariants.{Plain}
 use Rattle.terms.specs.declared.parts.Decl.{Decl}
 use Rattle.terms.specs.declared.parts.Parts.{Parts}
@@ -28,7 +29,7 @@ pub record AtDecl (g : Parts) (c : Compression) (d : Patterned) (i : ℕ) (s : S
   pub source : e.source ≡ Some number
   pub is : slice_get g.decls number ≡ Some decl
   pub gives : decl.result ≡ s.goal
-  pub weighs : e.weight ≡ decl.weight + binders decl.args
+  pub weighs : e.weight ≡ decl.weight + binders_weight g (binders decl.args)
   pub tails : AreTails c d i decl.args e.tails
   pub declared : declared_in g e.source ≡ Some number
   pub lower : lower_in g e.source e.tails ≡ None
@@ -106,7 +107,7 @@ module _ (g : Parts) (c : Compression) (d : Patterned) (comp : IsCompression g c
       go q o tails (inl r) =
           let low = slice_get_within g.decls q.number r.member r.is in
           let gives = offered-gives i q.number s q.source is o q.is in
-          let cost : slice_get (source_costs g) q.number ≡ Some (decl_cost r.member) = at-first decl_cost g.decls (map pair_cost g.pairs) q.number r.member r.is in
+          let cost : slice_get (source_costs g) q.number ≡ Some (decl_cost g r.member) = at-first (decl_cost g) g.decls (map (pair_cost g) g.pairs) q.number r.member r.is in
           let test = lt-ltb q.number (length g.decls) low in
           inl (record {
             number = q.number;
@@ -114,7 +115,7 @@ module _ (g : Parts) (c : Compression) (d : Patterned) (comp : IsCompression g c
             source = q.numbered;
             is = r.is;
             gives = ap (λ (x : Source). x.result) r.to ∙ gives;
-            weighs = some_eq e.weight (decl_cost r.member) (sym q.weight ∙ cost);
+            weighs = some_eq e.weight (decl_cost g r.member) (sym q.weight ∙ cost);
             tails = subst (λ (x : Source). AreTails c d i x.args e.tails) (sym r.to) tails;
             declared = ap (declared_in g) q.numbered ∙ ap (λ b. cond b (Some q.number) None) test;
             lower = ap (λ x. lower_in g x e.tails) q.numbered ∙ ap (λ b. cond b None (first_of e.tails)) test;

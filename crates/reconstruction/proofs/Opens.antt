@@ -1,28 +1,28 @@
 -- A head at a place that is kept opens kept places alone.
-use Rattle.std.proofs.Common.{◌≡◌, inl, inr, ℕ, zero, suc, ◌+◌, ◌-◌, ◌<◌, Bool, true, false, ◌&&◌, ◌==◌, cond, List, [], ◌∷◌, ◌++◌, length, map, slice_get, get_or, Option, Some, None, refl, sym, ap, subst, ◌∙◌, arith, length-append}
+use Rattle.std.proofs.Common.{◌≡◌, inl, inr, ℕ, zero, suc, ◌+◌, Bool, true, false, ◌&&◌, ◌==◌, List, [], ◌∷◌, ◌++◌, length, map, slice_get, get_or, Option, Some, None, refl, sym, ap, subst, ◌∙◌, arith, length-append}
 use Rattle.std.specs.List.{list_any}
-use Rattle.std.proofs.lemmas.Bool.{and_parts, false≢true, eq-eqb, eqb-true, ne_eqb, or_cases, or_left, or_right, cases_eq}
-use Rattle.std.proofs.lemmas.Option.{slice_get_within, slice_get-get_or, get_or_from_slice_get}
+use Rattle.std.proofs.lemmas.Bool.{and_parts, false≢true, eq-eqb, eqb-true, or_cases, or_left, or_right}
+use Rattle.std.proofs.lemmas.Option.{slice_get_within, slice_get-get_or}
 use Rattle.terms.specs.Faults.{IsValid}
 use Rattle.terms.specs.Place.{Place}
 use Rattle.terms.specs.Reading.{Reading, Symbol, variable, declared, symbol, has_room, places, binders, some_when, variable_at, declared_at, turn_by, turn}
-use Rattle.terms.specs.Weights.{step}
+use Rattle.terms.specs.Weights.{variable_weight, binders_weight, step_in}
 use Rattle.terms.specs.Typing.{joined, is_pair, is_below}
 use Rattle.terms.specs.declared.parts.Arg.{Arg}
 use Rattle.terms.specs.declared.parts.Arg.TheVariants.{Plain, Fun}
 use Rattle.terms.specs.declared.parts.Decl.{Decl}
 use Rattle.terms.specs.declared.parts.Parts.{Parts}
-use Rattle.terms.proofs.Valid.{valid-depth}
 use Rattle.succinct.specs.Compression.{Compression, IsCompression, IsKindOf, Source, sources, of_decl, of_pair, need_of}
 use Rattle.succinct.specs.Sets.{has, set_of, joined_with, types_bound}
 use Rattle.succinct.specs.declared.kind.Succinct.{Succinct}
 use Rattle.succinct.specs.declared.need.Need.{Need}
-use Rattle.succinct.proofs.Rising.{has-joined_with}
+use Rattle.succinct.proofs.Rising.{has-joined_with, joined_with-set_of, rising-joined_with}
 use Rattle.patterns.specs.Patterned.{Patterned, ArePatterns}
-use Rattle.patterns.specs.States.{Space, types_at, left_at, set_sought, kinds_of, IsListed, IsOpenNeed, IsWantedAs}
+use Rattle.patterns.specs.States.{types_at, left_at, kinds_of, IsListed, IsOpenNeed, IsWantedAs}
 use Rattle.patterns.specs.declared.state.State.{State}
 use Rattle.patterns.specs.declared.wanted.Wanted.{Wanted}
 use Rattle.patterns.proofs.Contexts.{set_of-more}
+use Rattle.patterns.proofs.Meaning.{lambda-there, plain-sought}
 use Rattle.patterns.proofs.Mets.{in_ends}
 use Rattle.patterns.proofs.Tables.{remap}
 use Rattle.partial_terms.specs.Leasts.{AllPlaces}
@@ -61,27 +61,6 @@ get-pair (x ∷ pairs) a b h = elim (or_cases ((x.0 == a) && (x.1 == b)) (list_a
   | inr there ↦ (let r = get-pair pairs a b there in (suc r.0, r.1))
 ]
 
-pub plain-set : (p : Space) (set : ℕ) (w : Wanted) → w.lambda ≡ false → set_sought p set w ≡ Some set
-plain-set p set w l = ap (λ b. cond b (cond ((set == 0) && (p.depth == 1)) (Some w.set) None) (Some set)) l
-
-lambda-set : (p : Space) (set : ℕ) (w : Wanted) → w.lambda ≡ true → set ≡ 0 → p.depth ≡ 1 → set_sought p set w ≡ Some w.set
-lambda-set p set w l z one = ap (λ b. cond b (cond ((set == 0) && (p.depth == 1)) (Some w.set) None) (Some set)) l ∙ ap (λ b. cond (b && (p.depth == 1)) (Some w.set) None) (eq-eqb set 0 z) ∙ ap (λ b. cond b (Some w.set) None) (eq-eqb p.depth 1 one)
-
-bound-types : (p : Space) (set : ℕ) (types : List ℕ) → 0 < set → slice_get p.bound (set - 1) ≡ Some types → types_at p set ≡ types
-bound-types p set types low is =
-    let b : (set == 0) ≡ false = ne_eqb set 0 (λ e. absurd (omega (arith, low, e))) in
-    ap (λ c. cond c [] (get_or p.bound (set - 1) [])) b ∙ get_or_from_slice_get p.bound (set - 1) types [] is
-
-bound-left : (p : Space) (set : ℕ) → 0 < set → left_at p set ≡ 0
-bound-left p set low = ap (λ c. cond c p.depth 0) (ne_eqb set 0 (λ e. absurd (omega (arith, low, e))))
-
--- where a lambda is left the set is the first one
-pub some-left : (p : Space) (set l : ℕ) → left_at p set ≡ suc l → (set ≡ 0) × (p.depth ≡ suc l)
-some-left p set l h = elim (cases_eq set 0) [
-  | inl z ↦ (z, sym (ap (λ c. cond c p.depth 0) (eq-eqb set 0 z)) ∙ h)
-  | inr nz ↦ (let none : left_at p set ≡ 0 = ap (λ c. cond c p.depth 0) (ne_eqb set 0 nz) in absurd (omega (arith, none, h)))
-]
-
 -- a state that describes places under these rows
 pub record IsUnder (g : Parts) (d : Patterned) (s : State) (ctx : List (List ℕ)) : Type 0 where
   pub listed : IsListed d.states s
@@ -94,7 +73,7 @@ pub record NeedAt (g : Parts) (c : Compression) (d : Patterned) (s : State) (a :
   pub wanted : Wanted
   pub is : slice_get c.needs need ≡ Some (need_of a)
   pub at : slice_get d.space.wanted need ≡ Some wanted
-  pub as_wanted : IsWantedAs g.depth d.space.bound (need_of a) wanted
+  pub as_wanted : IsWantedAs need (need_of a) wanted
   pub opens : IsOpenNeed d.space d.states s need
 
 abbrev pub AreNeeds : Parts → Compression → Patterned → State → List Arg → Type 0
@@ -133,7 +112,7 @@ module _ (g : Parts) (c : Compression) (d : Patterned) (valid : IsValid g) (comp
 
   plain-open : (s : State) (b : ℕ) → NeedAt g c d s (Plain b) → IsListed d.states (record { set = s.set; goal = b })
   plain-open s b n =
-      let there : IsListed d.states (record { set = s.set; goal = n.wanted.goal }) = n.opens n.wanted s.set n.at (plain-set d.space s.set n.wanted n.as_wanted.lambda) in
+      let there : IsListed d.states (record { set = s.set; goal = n.wanted.goal }) = n.opens n.wanted s.set n.at (plain-sought d.space s.set n.wanted n.as_wanted.lambda) in
       subst (λ x. IsListed d.states (record { set = s.set; goal = x })) n.as_wanted.goal there
 
   -- so is the state of each type below the goal
@@ -153,26 +132,19 @@ module _ (g : Parts) (c : Compression) (d : Patterned) (valid : IsValid g) (comp
   arg-kept s ctx left u l (Plain b) room n = kept-of g d (record { set = s.set; goal = b }) ctx left (record { listed = plain-open s b n; types = u.types; depth = u.depth }) l
   arg-kept s ctx zero u l (Fun ps r) room n = absurd (false≢true room)
   arg-kept s ctx (suc left) u l (Fun ps r) room n =
-      let first = some-left d.space s.set left (sym l) in
-      let flat = valid-depth g valid in
-      let same = made.depth_is in
       let rows = u.depth in
-      let one : g.depth ≡ 1 = omega (arith, flat, same, first.1) in
-      let none : left ≡ 0 = omega (arith, one, same, first.1) in
-      let outer : types_bound ctx ≡ [] = u.types ∙ ap (types_at d.space) first.0 in
       let w = n.wanted in
-      let b = n.as_wanted.binds refl one in
-      let listed : IsListed d.states (record { set = w.set; goal = w.goal }) = n.opens w w.set n.at (lambda-set d.space s.set w n.as_wanted.lambda first.0 (same ∙ one)) in
-      let listed_r : IsListed d.states (record { set = w.set; goal = r }) = subst (λ x. IsListed d.states (record { set = w.set; goal = x })) n.as_wanted.goal listed in
-      let bound : types_at d.space w.set ≡ set_of ps = bound-types d.space w.set (set_of ps) b.0 b.1 in
-      let left_none : left_at d.space w.set ≡ 0 = bound-left d.space w.set b.0 in
-      kept-of g d (record { set = w.set; goal = r }) (ctx ++ ps ∷ []) left
+      let st = lambda-there d.space c.needs made.steps s.set n.need left (need_of (Fun ps r)) w n.as_wanted n.is refl (sym l) in
+      let listed : IsListed d.states (record { set = st.0; goal = w.goal }) = n.opens w st.0 n.at st.1 in
+      let listed_r : IsListed d.states (record { set = st.0; goal = r }) = subst (λ x. IsListed d.states (record { set = st.0; goal = x })) n.as_wanted.goal listed in
+      let inner = st.2.left in
+      kept-of g d (record { set = st.0; goal = r }) (ctx ++ ps ∷ []) left
       (record {
         listed = listed_r;
-        types = set_of-more ctx ps ∙ ap (λ x. joined_with x ps) outer ∙ sym bound;
-        depth = omega (arith, length-append ctx (ps ∷ []), left_none, rows, l, none);
+        types = set_of-more ctx ps ∙ sym (joined_with-set_of (types_bound ctx) ps (rising-joined_with [] (joined ctx) tt)) ∙ ap (λ x. joined_with x (set_of ps)) u.types ∙ sym st.2.types;
+        depth = omega (arith, length-append ctx (ps ∷ []), rows, inner);
       })
-      (none ∙ sym left_none)
+      (omega (arith, l, inner))
 
   args-kept : (s : State) (ctx : List (List ℕ)) (left : ℕ) → IsUnder g d s ctx → left ≡ left_at d.space s.set → (args : List Arg) → has_room left args ≡ true → AreNeeds g c d s args → AllPlaces (IsKept g d) (places ctx left args)
   unfolding has_room places
@@ -184,7 +156,7 @@ module _ (g : Parts) (c : Compression) (d : Patterned) (valid : IsValid g) (comp
   declared-opens : (p : Place) → IsKept g d p → (k : ℕ) (decl : Decl) (t : Reading) → slice_get g.decls k ≡ Some decl → declared_at g p (Some decl) ≡ Some t → AllPlaces (IsKept g d) t.open_places
   declared-opens p kept k decl t found h = go (is_below g decl.result p.wanted) (has_room p.left decl.args) refl refl h
     where
-      go : (a b : Bool) → is_below g decl.result p.wanted ≡ a → has_room p.left decl.args ≡ b → some_when (a && b) (record { weight = decl.weight + binders decl.args + step (Some decl.result) p.wanted; open_places = places p.ctx p.left decl.args }) ≡ Some t → AllPlaces (IsKept g d) t.open_places
+      go : (a b : Bool) → is_below g decl.result p.wanted ≡ a → has_room p.left decl.args ≡ b → some_when (a && b) (record { weight = decl.weight + binders_weight g (binders decl.args) + step_in g (Some decl.result) p.wanted; open_places = places p.ctx p.left decl.args }) ≡ Some t → AllPlaces (IsKept g d) t.open_places
       go false b below room h' = absurd (none_of t h')
       go true false below room h' = absurd (none_of t h')
       go true true below room h' =
@@ -202,7 +174,7 @@ module _ (g : Parts) (c : Compression) (d : Patterned) (valid : IsValid g) (comp
   variable-opens p None t h = absurd (none_of t h)
   variable-opens p (Some a) t h = go (is_below g a p.wanted) h
     where
-      go : (b : Bool) → some_when b (record { weight = 1 + step (Some a) p.wanted; open_places = [] }) ≡ Some t → AllPlaces (IsKept g d) t.open_places
+      go : (b : Bool) → some_when b (record { weight = variable_weight g + step_in g (Some a) p.wanted; open_places = [] }) ≡ Some t → AllPlaces (IsKept g d) t.open_places
       go false h' = absurd (none_of t h')
       go true h' = subst (λ (q : Reading). AllPlaces (IsKept g d) q.open_places) (some_of _ t h') tt
 

@@ -1,6 +1,7 @@
 -- What the patterns and the least weights of an environment give the search.
-use Rattle.std.proofs.Common.{◌≡◌, ℕ, zero, suc, ◌≤◌, true, List, [], ◌∷◌, ◌++◌, Option, refl, sym, ap, subst, arith}
+use Rattle.std.proofs.Common.{◌≡◌, ℕ, zero, suc, ◌≤◌, true, List, [], ◌∷◌, ◌++◌, get_or, Option, refl, sym, ap, subst, ◌∙◌, arith}
 use Rattle.std.proofs.lemmas.Bool.{false≢true}
+use Rattle.std.proofs.lemmas.Option.{get_or_from_slice_get}
 use Rattle.terms.specs.Count.{total}
 use Rattle.terms.specs.Faults.{IsValid}
 use Rattle.terms.specs.Place.{Place, HasRoom, goal_place}
@@ -14,7 +15,8 @@ use Rattle.succinct.specs.Compression.{Compression, IsCompression}
 use Rattle.succinct.specs.Sets.{types_bound}
 use Rattle.patterns.specs.Derivable.{Derivable, AllDerivable, none, value, lambda}
 use Rattle.patterns.specs.Patterned.{Patterned, ArePatterns}
-use Rattle.patterns.specs.States.{left_at}
+use Rattle.patterns.specs.States.{types_at, left_at, no_set}
+use Rattle.patterns.specs.declared.bound_set.BoundSet.{BoundSet}
 use Rattle.patterns.proofs.Contexts.{set_of-more}
 use Rattle.patterns.proofs.Derives.{term-derives}
 use Rattle.least_weights.specs.LeastWeight.{AreLeastWeights}
@@ -43,14 +45,21 @@ pub no_types : types_bound [] ≡ []
 unfolding joined
 no_types = refl
 
+-- set 0 has no types and all lambdas left
+pub first-set : (c : Compression) (goal depth : ℕ) (d : Patterned) → ArePatterns c goal depth d → (types_at d.space 0 ≡ []) × (left_at d.space 0 ≡ depth)
+first-set c goal depth d made =
+    let e : get_or d.space.bound 0 no_set ≡ record { types = []; left = depth } = get_or_from_slice_get d.space.bound 0 (record { types = []; left = depth }) no_set made.first_set in
+    (ap (λ (s : BoundSet). s.types) e, ap (λ (s : BoundSet). s.left) e)
+
 -- the place of the goal is that of state 0
 pub root_kept : (g : Parts) (c : Compression) (d : Patterned) → ArePatterns c g.goal g.depth d → IsKept g d (goal_place g)
 root_kept g c d made =
-    let same = made.depth_is in
+    let first = first-set c g.goal g.depth d made in
+    let left = first.1 in
     record {
       number = 0;
-      at = record { state = record { set = 0; goal = g.goal }; is = made.found.first; types = no_types; depth = omega (arith, same) };
-      is = ap (λ n. record { ctx = []; left = n; wanted = g.goal }) (sym same);
+      at = record { state = record { set = 0; goal = g.goal }; is = made.found.first; types = no_types ∙ sym first.0; depth = omega (arith, left) };
+      is = ap (λ n. record { ctx = []; left = n; wanted = g.goal }) (sym left);
     }
 
 -- where the least weights of wants are within the limit together, the wants are derivable

@@ -8,7 +8,7 @@ use Rattle.terms.specs.Faults.{IsValid, HasLengths, are_plain}
 use Rattle.terms.specs.Place.{Place}
 use Rattle.terms.specs.Reading.{has_room, places, binders, some_when, declared_at, turn_by, turn}
 use Rattle.terms.specs.Typing.{args_wanted, is_below, is_pair}
-use Rattle.terms.specs.Weights.{step}
+use Rattle.terms.specs.Weights.{binders_weight, step_in}
 use Rattle.terms.specs.declared.parts.Arg.{Arg}
 use Rattle.terms.specs.declared.parts.Arg.TheVariants.{Plain, Fun}
 use Rattle.terms.specs.declared.parts.Decl.{Decl}
@@ -19,6 +19,7 @@ use Rattle.succinct.specs.Compression.{Compression, need_of}
 use Rattle.patterns.specs.Patterned.{Patterned, ArePatterns, state_sought, sought_from}
 use Rattle.patterns.specs.States.{left_at, place_in, place_sought, place_of}
 use Rattle.patterns.specs.declared.state.State.{State}
+use Rattle.patterns.proofs.Meaning.{plain-sought}
 use Rattle.patterns.proofs.Mets.{place_of-get}
 use Rattle.edges.specs.Edges.{Edge, IsTail, AreTails}
 use Rattle.least_weights.specs.LeastWeight.{AreLeastWeights, place_at}
@@ -34,7 +35,6 @@ use Rattle.reconstruction.specs.declared.spot.Spot.{Spot}
 use Rattle.reconstruction.specs.declared.tables.Tables.{Tables}
 use Rattle.reconstruction.proofs.Evens.{args-shape}
 use Rattle.reconstruction.proofs.Weights.{least-is}
-use Rattle.reconstruction.proofs.Opens.{plain-set}
 use Rattle.reconstruction.proofs.Edged.{AtDecl, EdgeCase}
 
 -- places as spots, with their least weights together
@@ -82,7 +82,7 @@ pub value-state : (g : Parts) (c : Compression) (d : Patterned) → ArePatterns 
 value-state g c d made i s b t is tail =
     let w = made.wanted tail.need (need_of (Plain b)) tail.is in
     let chain : state_sought d i tail.need ≡ place_of d.states (record { set = s.set; goal = w.0.goal }) =
-    ap (λ o. sought_from d o tail.need) is ∙ ap (λ o. place_sought d.space d.states s o) w.1 ∙ ap (λ o. place_in d.states w.0.goal o) (plain-set d.space s.set w.0 w.2.lambda) in
+    ap (λ o. sought_from d o tail.need) is ∙ ap (λ o. place_sought d.space d.states s o) w.1 ∙ ap (λ o. place_in d.states w.0.goal o) (plain-sought d.space s.set w.0 w.2.lambda) in
     let found = place_of-get d.states (record { set = s.set; goal = w.0.goal }) t (sym chain ∙ tail.to) in
     subst (λ x. slice_get d.states t ≡ Some (record { set = s.set; goal = x })) w.2.goal found
 
@@ -131,7 +131,7 @@ module _ (t : Tables) (c : Compression) (valid : IsValid t.env) (lengths : HasLe
   plain-opened i row left b at [] ts plain tails = subst (λ l. Opened t [] (spots_under row l) (least_total t.env.limit t.least l)) (sym (no-tails c t.patterns i ts tails)) (opened-none t)
   plain-opened i row left b at (Plain a ∷ args) ts plain tails =
       let s = split-tails c t.patterns i (Plain a) args ts tails in
-      let inner = plain-at c t.patterns t.env.depth made.wanted made.depth_is i s.first (rows_at t.env row) left b a at s.tail in
+      let inner = plain-at c t.patterns t.env.depth made.wanted made.steps i s.first (rows_at t.env row) left b a at s.tail in
       let rest = plain-opened i row left b at args s.rest plain s.others in
       let qs = places (rows_at t.env row) left args in
       let q : Place = record { ctx = rows_at t.env row; left = left; wanted = a } in
@@ -145,7 +145,7 @@ module _ (t : Tables) (c : Compression) (valid : IsValid t.env) (lengths : HasLe
       let d = t.patterns in
       let ctx = rows_at t.env row in
       let tail : IsTail c d i (Fun ps r) body = tails.each 0 (Fun ps r) body (ap (λ l. slice_get l 0) wants) refl in
-      let u = fun-at c d t.env.depth made.wanted made.depth_is i body ctx left b ps r at tail in
+      let u = fun-at c d t.env.depth made.wanted made.steps i body ctx left b ps r at tail in
       let flat = valid-depth t.env valid in
       let rows = at.rows in
       let some = u.left_is in
@@ -164,20 +164,20 @@ module _ (t : Tables) (c : Compression) (valid : IsValid t.env) (lengths : HasLe
       }
 
   -- a head whose wants are spots is a turn
-  opened-turn : (i row left b goal k w extra : ℕ) (ts : List ℕ) (spots : List Spot) (decl : Decl) → slice_get t.env.decls k ≡ Some decl → decl.result ≡ goal → IsCapped t.env.limit w (decl.weight + binders decl.args + least_total t.env.limit t.least ts) → has_room left decl.args ≡ true → Opened t (places (rows_at t.env row) left decl.args) spots (least_total t.env.limit t.least ts) → is_below t.env goal b ≡ true → step (Some goal) b ≡ extra → IsTurn t (record { ctx = rows_at t.env row; left = left; wanted = b }) (2 * k + 1) (w + extra) spots
+  opened-turn : (i row left b goal k w extra : ℕ) (ts : List ℕ) (spots : List Spot) (decl : Decl) → slice_get t.env.decls k ≡ Some decl → decl.result ≡ goal → IsCapped t.env.limit w (decl.weight + binders_weight t.env (binders decl.args) + least_total t.env.limit t.least ts) → has_room left decl.args ≡ true → Opened t (places (rows_at t.env row) left decl.args) spots (least_total t.env.limit t.least ts) → is_below t.env goal b ≡ true → step_in t.env (Some goal) b ≡ extra → IsTurn t (record { ctx = rows_at t.env row; left = left; wanted = b }) (2 * k + 1) (w + extra) spots
   unfolding turn
   opened-turn i row left b goal k w extra ts spots decl found gives total_is room o below weighs =
       let ctx = rows_at t.env row in
       let q : Place = record { ctx = ctx; left = left; wanted = b } in
-      let weight = decl.weight + binders decl.args + step (Some decl.result) b in
+      let weight = decl.weight + binders_weight t.env (binders decl.args) + step_in t.env (Some decl.result) b in
       let tests : is_below t.env decl.result b && has_room left decl.args ≡ true = and_from (is_below t.env decl.result b) (has_room left decl.args) (ap (λ x. is_below t.env x b) gives ∙ below) room in
-      let more : step (Some decl.result) b ≡ extra = ap (λ x. step (Some x) b) gives ∙ weighs in
+      let more : step_in t.env (Some decl.result) b ≡ extra = ap (λ x. step_in t.env (Some x) b) gives ∙ weighs in
       let all : total (least_of t) (places_of t spots) ≡ least_total t.env.limit t.least ts = ap (total (least_of t)) (sym o.places) ∙ o.least in
       record {
         weight = weight;
         is = ap (turn_by t.env q) (symbol-odd k) ∙ ap (declared_at t.env q) found ∙ ap (λ x. some_when x (record { weight = weight; open_places = places ctx left decl.args })) tests ∙ ap (λ l. Some (record { weight = weight; open_places = l })) o.places;
         opened = o.opened;
-        capped = more_capped t.env.limit w (decl.weight + binders decl.args + least_total t.env.limit t.least ts) extra (weight + total (least_of t) (places_of t spots)) total_is (omega (arith, more, all));
+        capped = more_capped t.env.limit w (decl.weight + binders_weight t.env (binders decl.args) + least_total t.env.limit t.least ts) extra (weight + total (least_of t) (places_of t spots)) total_is (omega (arith, more, all));
       }
 
   small-number : (k : ℕ) (decl : Decl) → slice_get t.env.decls k ≡ Some decl → k < 2147483648
@@ -194,7 +194,7 @@ module _ (t : Tables) (c : Compression) (valid : IsValid t.env) (lengths : HasLe
   spot-at p s = record { state = s.state; is = s.is; types = s.types; left_is = refl; goal = refl; rows = s.depth }
 
   -- a declaration's edge that gives just a type is a turn where that type may stand
-  decl-turn : (totals : AreTotals t.env.limit t.least t.edges t.totals) (p : Spot) (s : IsSpot t.env t.patterns p) (i goal extra m : ℕ) (e : Edge) (x : State) → slice_get t.edges m ≡ Some e → IsAt t.patterns t.env.depth i (rows_at t.env p.row) (left_at t.patterns.space s.state.set) goal → is_below t.env goal s.state.goal ≡ true → step (Some goal) s.state.goal ≡ extra → x.goal ≡ goal → (q : AtDecl t.env c t.patterns i x e) → Turns t p extra q.number (get_or t.totals m 0) (spots_under (row_under t.env p.row q.number) e.tails)
+  decl-turn : (totals : AreTotals t.env.limit t.least t.edges t.totals) (p : Spot) (s : IsSpot t.env t.patterns p) (i goal extra m : ℕ) (e : Edge) (x : State) → slice_get t.edges m ≡ Some e → IsAt t.patterns t.env.depth i (rows_at t.env p.row) (left_at t.patterns.space s.state.set) goal → is_below t.env goal s.state.goal ≡ true → step_in t.env (Some goal) s.state.goal ≡ extra → x.goal ≡ goal → (q : AtDecl t.env c t.patterns i x e) → Turns t p extra q.number (get_or t.totals m 0) (spots_under (row_under t.env p.row q.number) e.tails)
   decl-turn totals p s i goal extra m e x there at below weighs same q = go (args-shape q.decl.form q.decl.args (valid-decl t.env valid q.number q.decl q.is).formed)
     where
       left : ℕ
@@ -223,7 +223,7 @@ module _ (t : Tables) (c : Compression) (valid : IsValid t.env) (lengths : HasLe
           turned (q.number + 1) (ap (λ o. row_by (args_wanted o) p.row q.number) q.is ∙ ap (λ l. row_by l p.row q.number) fun.2) o.room (subst (λ l. Opened t (places (rows_at t.env p.row) left q.decl.args) (spots_under (q.number + 1) l) (least_total t.env.limit t.least l)) (sym one.1) o.opened)
 
   -- the edge of a state is a head where its type may stand
-  pub head-of : (totals : AreTotals t.env.limit t.least t.edges t.totals) (p : Spot) (s : IsSpot t.env t.patterns p) (i goal extra m : ℕ) (e : Edge) (x : State) → slice_get t.edges m ≡ Some e → IsAt t.patterns t.env.depth i (rows_at t.env p.row) (left_at t.patterns.space s.state.set) goal → is_below t.env goal s.state.goal ≡ true → step (Some goal) s.state.goal ≡ extra → x.goal ≡ goal → EdgeCase t.env c t.patterns i x e → IsHeadOf t p extra m e
+  pub head-of : (totals : AreTotals t.env.limit t.least t.edges t.totals) (p : Spot) (s : IsSpot t.env t.patterns p) (i goal extra m : ℕ) (e : Edge) (x : State) → slice_get t.edges m ≡ Some e → IsAt t.patterns t.env.depth i (rows_at t.env p.row) (left_at t.patterns.space s.state.set) goal → is_below t.env goal s.state.goal ≡ true → step_in t.env (Some goal) s.state.goal ≡ extra → x.goal ≡ goal → EdgeCase t.env c t.patterns i x e → IsHeadOf t p extra m e
   head-of totals p s i goal extra m e x there at below weighs same (inl v) = subst (λ o. IsHeadBy t p extra o (get_or t.totals m 0) e.tails) (sym v.declared) tt
   head-of totals p s i goal extra m e x there at below weighs same (inr (inl q)) = subst (λ o. IsHeadBy t p extra o (get_or t.totals m 0) e.tails) (sym q.declared) (decl-turn totals p s i goal extra m e x there at below weighs same q)
   head-of totals p s i goal extra m e x there at below weighs same (inr (inr q)) = subst (λ o. IsHeadBy t p extra o (get_or t.totals m 0) e.tails) (sym q.declared) tt
@@ -237,15 +237,15 @@ module _ (t : Tables) (c : Compression) (valid : IsValid t.env) (lengths : HasLe
   way-of cases totals p s m e there here = go (cases p.state m s.state e s.is there here)
     where
       own : EdgeCase t.env c t.patterns p.state s.state e → IsHeadOf t p 0 m e
-      own q = head-of totals p s p.state s.state.goal 0 m e s.state there (spot-at p s) (below-itself t.env s.state.goal) (step-same s.state.goal s.state.goal refl) refl q
+      own q = head-of totals p s p.state s.state.goal 0 m e s.state there (spot-at p s) (below-itself t.env s.state.goal) (step-same t.env s.state.goal s.state.goal refl) refl q
 
       go : EdgeCase t.env c t.patterns p.state s.state e → IsWayOf t p m e
       go (inl v) = subst (IsWayBy t p m e) (sym v.lower) (own (inl v))
       go (inr (inl q)) = subst (IsWayBy t p m e) (sym q.lower) (own (inr (inl q)))
       go (inr (inr q)) =
           let left = left_at t.patterns.space s.state.set in
-          let at = plain-at c t.patterns t.env.depth made.wanted made.depth_is p.state q.below (rows_at t.env p.row) left s.state.goal q.low (spot-at p s) q.tail in
+          let at = plain-at c t.patterns t.env.depth made.wanted made.steps p.state q.below (rows_at t.env p.row) left s.state.goal q.low (spot-at p s) q.tail in
           let x = value-state t.env c t.patterns made p.state s.state q.low q.below s.is q.tail in
           let pair : is_pair t.env.pairs q.low s.state.goal ≡ true = pair-get t.env.pairs q.place (q.low, s.state.goal) q.is in
           let apart = (valid-pair t.env valid q.low s.state.goal pair).2 in
-          subst (IsWayBy t p m e) (sym q.lower) (λ n f at_f here_f. head-of totals p s q.below q.low 10 n f (record { set = s.state.set; goal = q.low }) at_f at (pair-below q.low s.state.goal pair) (step-apart q.low s.state.goal apart) refl (cases q.below n (record { set = s.state.set; goal = q.low }) f x at_f here_f))
+          subst (IsWayBy t p m e) (sym q.lower) (λ n f at_f here_f. head-of totals p s q.below q.low 10 n f (record { set = s.state.set; goal = q.low }) at_f at (pair-below q.low s.state.goal pair) (step-apart t.env q.low s.state.goal apart) refl (cases q.below n (record { set = s.state.set; goal = q.low }) f x at_f here_f))
