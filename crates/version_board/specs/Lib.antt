@@ -1,0 +1,3 @@
+pub mod Withdrawals
+pub mod Versions
+pub mod Laws
