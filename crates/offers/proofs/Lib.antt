@@ -1,4 +1,4 @@
-pub mod Tests
+pub mod SubtypeTest
 pub mod Lists
 pub mod Named
 pub mod Chains

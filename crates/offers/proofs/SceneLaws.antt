@@ -10,7 +10,7 @@ use Rattle.java_bodies.specs.declared.site.HoleSite.{HoleSite}
 use Rattle.offers.specs.Weighing.{usual}
 use Rattle.offers.specs.Views.{Outlook, scene}
 use Rattle.offers.specs.Offers.{IsSceneAt}
-use Rattle.offers.proofs.Tests.{test-sound, test-complete}
+use Rattle.offers.proofs.SubtypeTest.{test-sound, test-complete}
 
 abbrev outlook : unit.Unit → HoleSite → List ClassSummary → Ancestry → State → Outlook
 outlook u site known ancestry state = record { unit = u; site = site; known = known; ancestry = ancestry; counts = state.counts; weights = usual }

@@ -1,7 +1,7 @@
 use Rattle.std.proofs.Common.{◌∙◌, ap}
 use Rattle.offers.specs.Views.{Outlook}
 use Rattle.offers.specs.Order.{is_below}
-use Rattle.offers.proofs.Tests.{test-one}
+use Rattle.offers.proofs.SubtypeTest.{test-one}
 use Rattle.offers.proofs.view.View.is_below.Goals as goal
 
 pub returns : goal.returns
