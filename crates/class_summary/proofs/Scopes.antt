@@ -1,12 +1,12 @@
 -- The scopes at a class and those at the classes around it.
-use Rattle.std.proofs.Common.{◌≡◌, ◌∙◌, ap, sym, refl, arith, subst, ℕ, zero, suc, ◌+◌, ◌<◌, ◌≤◌, List, [], ◌∷◌, ◌++◌, length, drop, map, slice_get, Option, Some, None, inl, inr, ◌⊎◌}
+use Rattle.std.proofs.Common.{◌≡◌, ◌∙◌, ap, sym, refl, arith, subst, ℕ, zero, suc, ◌+◌, ◌<◌, List, [], ◌∷◌, ◌++◌, length, drop, map, slice_get, Option, Some, None, inl, inr, ◌⊎◌}
 use Rattle.std.specs.Option.{option_map}
 use Rattle.std.proofs.lemmas.List.{drop-map, length-append}
-use Rattle.std.proofs.lemmas.Option.{slice_get-map, slice_get_within, slice_get_cases}
+use Rattle.std.proofs.lemmas.Option.{slice_get-map, slice_get_cases}
 use Rattle.java_units.specs.declared.types.SourceClass.{SourceClass}
 use Rattle.java_units.specs.UnitLaws.{IsNested, outer_number}
 use Rattle.class_summary.specs.Sources.{around, around_by}
-use Rattle.class_summary.specs.Variables.{Scope, class_scope, method_scope, scopes_at}
+use Rattle.class_summary.specs.Variables.{Scope, class_scope, scopes_at}
 use Rattle.class_summary.specs.VariableEnds.{Reach, AreEnds, AreToldOutside, AreClassEnds}
 
 around-none : (n : ℕ) (cs : List SourceClass) → around_by n cs None ≡ []

@@ -1,12 +1,12 @@
 -- Where variables end, from what is told of the variables that their bounds are.
-use Rattle.std.proofs.Common.{◌≡◌, ◌∙◌, ap, sym, refl, arith, subst, ℕ, zero, suc, ◌+◌, ◌-◌, ◌<◌, ◌≤◌, List, [], ◌∷◌, ◌++◌, length, drop, set, slice_get, get_or, All, add-zero, Option, Some, None, IfSome, inl, inr, ◌⊎◌}
+use Rattle.std.proofs.Common.{◌≡◌, ◌∙◌, ap, sym, refl, arith, subst, ℕ, zero, suc, ◌+◌, ◌-◌, ◌<◌, ◌≤◌, List, [], ◌∷◌, length, drop, set, slice_get, get_or, All, add-zero, Option, Some, None, IfSome, inl, inr, ◌⊎◌}
 use Rattle.std.proofs.lemmas.Option.{slice_get_within, get_or_from_slice_get}
 use Rattle.std.proofs.lemmas.List.Elements.{All-get_or}
 use Rattle.std.proofs.lemmas.Bool.{cases_lt}
 use Rattle.java_units.specs.declared.types.TypeText.{TypeText}
 use Rattle.class_summary.specs.VariableTables.{bound_at}
-use Rattle.class_summary.specs.Variables.{Scope, End, Found, variable_of, end_at, more_dims, by_bound, by_variable, through, variables, end_with, end_of}
-use Rattle.class_summary.specs.VariableEnds.{Reach, from_bound, EndsSo, IsEndOf, StandsAt, AreTold, AreEnds, AreToldOutside, IsUntold, IsNext, NextIs, LeadsOn, IsClosed, IsFurther}
+use Rattle.class_summary.specs.Variables.{Scope, Found, variable_of, end_at, more_dims, by_variable, through, variables, end_with, end_of}
+use Rattle.class_summary.specs.VariableEnds.{Reach, from_bound, EndsSo, IsEndOf, StandsAt, AreTold, AreEnds, AreToldOutside, IsNext, NextIs, LeadsOn, IsClosed, IsFurther}
 
 through-suc : (n class : ℕ) (parts : List (List ℕ)) (ss : List Scope) → through (suc n) class parts ss ≡ by_variable class parts (variable_of parts ss) (λ f b. through n f.class b.parts f.scopes)
 unfolding through
