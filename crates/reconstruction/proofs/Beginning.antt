@@ -8,25 +8,25 @@ use Rattle.terms.specs.Reading.{read}
 use Rattle.terms.specs.declared.parts.Parts.{Parts}
 use Rattle.partial_terms.specs.Fronts.{reading}
 use Rattle.partial_terms.specs.Search.{IsSearch}
-use Rattle.reconstruction.specs.Spots.{IsSpot}
-use Rattle.reconstruction.specs.Tabled.{place_of, places_of, least_of, AreSpots, backwards, front_of, stack_of, IsHeld, seen}
+use Rattle.reconstruction.specs.NumberedPlaces.{IsNumbered}
+use Rattle.reconstruction.specs.Tabled.{place_of, places_of, least_of, AreNumbered, backwards, front_of, stack_of, IsHeld, seen}
 use Rattle.reconstruction.specs.Levelled.{AreComplete, IsAt}
 use Rattle.reconstruction.specs.declared.item.Item.{Item}
 use Rattle.reconstruction.specs.declared.item.Arena.{Arena}
-use Rattle.reconstruction.specs.declared.spot.Spot.{Spot}
+use Rattle.reconstruction.specs.declared.numbered_place.NumberedPlace.{NumberedPlace}
 use Rattle.reconstruction.specs.declared.tables.Tables.{Tables}
 use Rattle.reconstruction.proofs.Making.{moved_at}
 use Rattle.partial_terms.proofs.Starts.{first_search}
 
-abbrev pub first_spot_of : Spot
-first_spot_of = record { row = 0; state = 0 }
+abbrev pub first_place_of : NumberedPlace
+first_place_of = record { row = 0; state = 0 }
 
 reading-none : (g : Parts) (root : Place) → reading g root [] ≡ Some (record { weight = 0; open_places = root ∷ [] })
 unfolding reading read
 reading-none g root = refl
 
 -- the empty front
-pub begun_one : (t : Tables) (a : Arena) (key : ℕ) (i : Item) (old new : List (ℕ × Item)) → AreComplete t → key ≡ least_of t (place_of t first_spot_of) → key ≤ t.env.limit → a.fronts ≡ [] ∷ [] → i.front ≡ 0 → i.stack < length a.stacks → get_or a.stacks i.stack [] ≡ first_spot_of ∷ []
+pub begun_one : (t : Tables) (a : Arena) (key : ℕ) (i : Item) (old new : List (ℕ × Item)) → AreComplete t → key ≡ least_of t (place_of t first_place_of) → key ≤ t.env.limit → a.fronts ≡ [] ∷ [] → i.front ≡ 0 → i.stack < length a.stacks → get_or a.stacks i.stack [] ≡ first_place_of ∷ []
     → old ≡ [] → IsPermutation ((key, i) ∷ old) new → IsAt t a 0 new []
 begun_one t a key i old new ready is within fronts zero stack_in stack empty perm =
     let root = goal_place t.env in
@@ -37,7 +37,7 @@ begun_one t a key i old new ready is within fronts zero stack_in stack empty per
     let held : IsHeld t a key i = record {
       front_in = omega (arith, zero, long);
       stack_in = stack_in;
-      spots = subst (AreSpots t) (sym stack) (All-cons (IsSpot t.env t.patterns) first_spot_of [] ready.start (All-nil (IsSpot t.env t.patterns)));
+      numbered = subst (AreNumbered t) (sym stack) (All-cons (IsNumbered t.env t.patterns) first_place_of [] ready.start (All-nil (IsNumbered t.env t.patterns)));
       weight = 0;
       is = ap (reading t.env root) none ∙ reading-none t.env root ∙ ap (λ o. Some (record { weight = 0; open_places = o })) (sym places);
       keyed = omega (arith, same, ap (total (least_of t)) places);

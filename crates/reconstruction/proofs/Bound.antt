@@ -1,4 +1,4 @@
--- The variables at a spot.
+-- The variables at a numbered place.
 use Rattle.std.proofs.Common.{◌≡◌, ◌≢◌, inl, ℕ, zero, suc, ◌+◌, ◌-◌, ◌*◌, ◌<◌, ◌≤◌, true, false, List, [], ◌∷◌, ◌++◌, length, get_or, slice_get, Option, None, Some, refl, sym, ap, ◌∙◌, arith, append-nil}
 use Rattle.std.proofs.lemmas.List.Elements.{All-nil}
 use Rattle.std.proofs.lemmas.Option.{slice_get-get_or, slice_get_past}
@@ -13,13 +13,13 @@ use Rattle.terms.specs.declared.parts.Parts.{Parts}
 use Rattle.terms.proofs.Halves.{symbol-even}
 use Rattle.patterns.specs.declared.state.State.{State}
 use Rattle.partial_terms.specs.Fronts.{key_within}
-use Rattle.reconstruction.specs.Spots.{row_of_args, row_of_decl, rows_at, at_state, IsSpot}
+use Rattle.reconstruction.specs.NumberedPlaces.{row_of_args, row_of_decl, rows_at, at_state, IsNumbered}
 use Rattle.reconstruction.specs.Tabled.{place_of, places_of, least_of, front_of, stack_of, AreHeld, IsParent, IsTurn, may, Grew}
 use Rattle.reconstruction.specs.Variables.{variables}
 use Rattle.reconstruction.specs.declared.item.Item.{Item}
 use Rattle.reconstruction.specs.declared.item.Arena.{Arena}
 use Rattle.reconstruction.specs.declared.item.Parent.{Parent}
-use Rattle.reconstruction.specs.declared.spot.Spot.{Spot}
+use Rattle.reconstruction.specs.declared.numbered_place.NumberedPlace.{NumberedPlace}
 use Rattle.reconstruction.specs.declared.tables.Tables.{Tables}
 use Rattle.reconstruction.proofs.Children.{after, next_reading, no_push}
 use Rattle.reconstruction.proofs.Growths.{all-grown-refl, grew-none, grew-one}
@@ -64,32 +64,32 @@ row_some g row ds d h same low at = let is : slice_get ds (row - 1) ≡ Some d =
 pub row_past : (g : Parts) (row : ℕ) (ds : List Decl) → row ≢ 0 → ds ≡ g.decls → length ds ≤ row - 1 → [] ≡ joined (rows_at g row)
 row_past g row ds h same past = let is : slice_get ds (row - 1) ≡ None = slice_get_past ds (row - 1) past in sym (ap joined (row_of g row h ∙ ap (λ l. row_of_decl (slice_get l (row - 1))) (sym same) ∙ ap row_of_decl is) ∙ joined-none)
 
--- a spot's rows are those of its place
-pub place-rows : (t : Tables) (p : Spot) → (place_of t p).ctx ≡ rows_at t.env p.row
+-- a numbered place's rows are those of its place
+pub place-rows : (t : Tables) (p : NumberedPlace) → (place_of t p).ctx ≡ rows_at t.env p.row
 place-rows t p = go (slice_get t.patterns.states p.state)
   where
     go : (o : Option State) → (at_state t.patterns o (rows_at t.env p.row)).ctx ≡ rows_at t.env p.row
     go None = refl
     go (Some s) = refl
 
-turn-is : (t : Tables) (p : Spot) (n a : ℕ) → slice_get (joined (rows_at t.env p.row)) n ≡ Some a → turn t.env (place_of t p) (2 * n) ≡ variable_at t.env (place_of t p) (Some a)
+turn-is : (t : Tables) (p : NumberedPlace) (n a : ℕ) → slice_get (joined (rows_at t.env p.row)) n ≡ Some a → turn t.env (place_of t p) (2 * n) ≡ variable_at t.env (place_of t p) (Some a)
 unfolding turn
 turn-is t p n a is = ap (turn_by t.env (place_of t p)) (symbol-even n) ∙ ap (λ c. variable_at t.env (place_of t p) (slice_get (joined c) n)) (place-rows t p) ∙ ap (variable_at t.env (place_of t p)) is
 
 -- a variable below the wanted type is a turn
-pub variable-turn : (t : Tables) (p : Spot) (n a w : ℕ) → slice_get (joined (rows_at t.env p.row)) n ≡ Some a → is_below t.env a (place_of t p).wanted ≡ true → w ≡ variable_weight t.env + step_in t.env (Some a) (place_of t p).wanted → IsTurn t (place_of t p) (2 * n) w []
+pub variable-turn : (t : Tables) (p : NumberedPlace) (n a w : ℕ) → slice_get (joined (rows_at t.env p.row)) n ≡ Some a → is_below t.env a (place_of t p).wanted ≡ true → w ≡ variable_weight t.env + step_in t.env (Some a) (place_of t p).wanted → IsTurn t (place_of t p) (2 * n) w []
 variable-turn t p n a w is below weighs = record {
   weight = variable_weight t.env + step_in t.env (Some a) (place_of t p).wanted;
   is = turn-is t p n a is ∙ ap (λ b. some_when b (record { weight = variable_weight t.env + step_in t.env (Some a) (place_of t p).wanted; open_places = [] })) below;
-  opened = All-nil (IsSpot t.env t.patterns);
+  opened = All-nil (IsNumbered t.env t.patterns);
   capped = inl (omega (arith, weighs));
 }
 
 -- another one adds nothing
-pub no_variable : (t : Tables) (a : Arena) (p : Parent) (n b : ℕ) (items : List (ℕ × Item)) → IsParent t a p → AreHeld t a items → slice_get (joined (rows_at t.env p.spot.row)) n ≡ Some b → is_below t.env b (place_of t p.spot).wanted ≡ false → Grew t a a (front_of a p.front) ((2 * n) ∷ []) items items
+pub no_variable : (t : Tables) (a : Arena) (p : Parent) (n b : ℕ) (items : List (ℕ × Item)) → IsParent t a p → AreHeld t a items → slice_get (joined (rows_at t.env p.place.row)) n ≡ Some b → is_below t.env b (place_of t p.place).wanted ≡ false → Grew t a a (front_of a p.front) ((2 * n) ∷ []) items items
 no_variable t a p n b items parent all is below =
-    let at = place_of t p.spot in
-    let none : turn t.env at (2 * n) ≡ None = turn-is t p.spot n b is ∙ ap (λ c. some_when c (record { weight = variable_weight t.env + step_in t.env (Some b) at.wanted; open_places = [] })) below in
+    let at = place_of t p.place in
+    let none : turn t.env at (2 * n) ≡ None = turn-is t p.place n b is ∙ ap (λ c. some_when c (record { weight = variable_weight t.env + step_in t.env (Some b) at.wanted; open_places = [] })) below in
     let dead : may t (front_of a p.front) (2 * n) ≡ false =
     ap (key_within t.env.limit (least_of t)) (next_reading t.env (goal_place t.env) (front_of a p.front) (2 * n) parent.weight at (places_of t (stack_of a p.rest)) parent.is ∙ ap (λ o. and_then o (after parent.weight (places_of t (stack_of a p.rest)))) none) in
     grew-one t a a (front_of a p.front) (2 * n) items items (all-grown-refl a) all (no_push t a (front_of a p.front) (2 * n) items dead)

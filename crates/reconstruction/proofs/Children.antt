@@ -12,13 +12,13 @@ use Rattle.terms.proofs.Sums.{total-append}
 use Rattle.partial_terms.specs.Leasts.{key}
 use Rattle.partial_terms.specs.Fronts.{reading, key_within}
 use Rattle.partial_terms.specs.Search.{key_of}
-use Rattle.reconstruction.specs.Spots.{IsSpot}
-use Rattle.reconstruction.specs.Tabled.{place_of, places_of, least_of, AreSpots, backwards, front_of, stack_of, IsParent, IsTurn, child, may, Pushes}
+use Rattle.reconstruction.specs.NumberedPlaces.{IsNumbered}
+use Rattle.reconstruction.specs.Tabled.{place_of, places_of, least_of, AreNumbered, backwards, front_of, stack_of, IsParent, IsTurn, child, may, Pushes}
 use Rattle.reconstruction.specs.Totals.{IsCapped}
 use Rattle.reconstruction.specs.declared.item.Item.{Item}
 use Rattle.reconstruction.specs.declared.item.Arena.{Arena}
 use Rattle.reconstruction.specs.declared.item.Parent.{Parent}
-use Rattle.reconstruction.specs.declared.spot.Spot.{Spot}
+use Rattle.reconstruction.specs.declared.numbered_place.NumberedPlace.{NumberedPlace}
 use Rattle.reconstruction.specs.declared.tables.Tables.{Tables}
 use Rattle.partial_terms.proofs.Division.{read-append}
 
@@ -31,25 +31,25 @@ pub next_reading : (g : Parts) (root : Place) (f : List ℕ) (n w : ℕ) (p : Pl
 unfolding reading read
 next_reading g root f n w p rest h = read-append g 0 (root ∷ []) f (n ∷ []) ∙ ap (λ o. and_then o (λ r. read g r.weight r.open_places (n ∷ []))) h
 
-pub places-append : (t : Tables) (xs ys : List Spot) → places_of t (xs ++ ys) ≡ places_of t xs ++ places_of t ys
+pub places-append : (t : Tables) (xs ys : List NumberedPlace) → places_of t (xs ++ ys) ≡ places_of t xs ++ places_of t ys
 places-append t [] ys = refl
 places-append t (x ∷ xs) ys = ap (λ ps. place_of t x ∷ ps) (places-append t xs ys)
 
 -- the reading that a turn makes of a parent
-abbrev pub made : Tables → Arena → (pw tw : ℕ) → List Spot → List Spot → Reading
-made t a pw tw spots rest = record { weight = pw + tw; open_places = places_of t spots ++ places_of t rest }
+abbrev pub made : Tables → Arena → (pw tw : ℕ) → List NumberedPlace → List NumberedPlace → Reading
+made t a pw tw numbered rest = record { weight = pw + tw; open_places = places_of t numbered ++ places_of t rest }
 
-child-is : (t : Tables) (a : Arena) (p : Parent) (n w : ℕ) (spots : List Spot) (h : IsParent t a p) (u : IsTurn t (place_of t p.spot) n w spots)
-    → child t (front_of a p.front) n ≡ Some (made t a h.weight u.weight spots (stack_of a p.rest))
-child-is t a p n w spots h u =
-    next_reading t.env (goal_place t.env) (front_of a p.front) n h.weight (place_of t p.spot) (places_of t (stack_of a p.rest)) h.is
+child-is : (t : Tables) (a : Arena) (p : Parent) (n w : ℕ) (numbered : List NumberedPlace) (h : IsParent t a p) (u : IsTurn t (place_of t p.place) n w numbered)
+    → child t (front_of a p.front) n ≡ Some (made t a h.weight u.weight numbered (stack_of a p.rest))
+child-is t a p n w numbered h u =
+    next_reading t.env (goal_place t.env) (front_of a p.front) n h.weight (place_of t p.place) (places_of t (stack_of a p.rest)) h.is
     ∙ ap (λ o. and_then o (after h.weight (places_of t (stack_of a p.rest)))) u.is
 
 -- its key is the parent's without the first place, and what the head gives
-key-made : (t : Tables) (a : Arena) (p : Parent) (n w : ℕ) (spots : List Spot) (h : IsParent t a p) (u : IsTurn t (place_of t p.spot) n w spots)
-    → key (least_of t) (made t a h.weight u.weight spots (stack_of a p.rest)) ≡ p.base + (u.weight + total (least_of t) (places_of t spots))
-key-made t a p n w spots h u =
-    let sums = total-append (least_of t) (places_of t spots) (places_of t (stack_of a p.rest)) in
+key-made : (t : Tables) (a : Arena) (p : Parent) (n w : ℕ) (numbered : List NumberedPlace) (h : IsParent t a p) (u : IsTurn t (place_of t p.place) n w numbered)
+    → key (least_of t) (made t a h.weight u.weight numbered (stack_of a p.rest)) ≡ p.base + (u.weight + total (least_of t) (places_of t numbered))
+key-made t a p n w numbered h u =
+    let sums = total-append (least_of t) (places_of t numbered) (places_of t (stack_of a p.rest)) in
     let base = h.base in
     omega (arith, sums, base)
 
@@ -57,27 +57,27 @@ pub no_push : (t : Tables) (a : Arena) (f : List ℕ) (n : ℕ) (items : List (�
 no_push t a f n items h = rw h refl
 
 -- above the limit nothing may come of it
-pub too_heavy : (t : Tables) (a : Arena) (p : Parent) (n w : ℕ) (spots : List Spot) → IsParent t a p → IsTurn t (place_of t p.spot) n w spots → t.env.limit < p.base + w → may t (front_of a p.front) n ≡ false
-too_heavy t a p n w spots h u heavy =
-    ap (key_within t.env.limit (least_of t)) (child-is t a p n w spots h u)
-    ∙ lt-leb (key (least_of t) (made t a h.weight u.weight spots (stack_of a p.rest))) t.env.limit (past u.capped)
+pub too_heavy : (t : Tables) (a : Arena) (p : Parent) (n w : ℕ) (numbered : List NumberedPlace) → IsParent t a p → IsTurn t (place_of t p.place) n w numbered → t.env.limit < p.base + w → may t (front_of a p.front) n ≡ false
+too_heavy t a p n w numbered h u heavy =
+    ap (key_within t.env.limit (least_of t)) (child-is t a p n w numbered h u)
+    ∙ lt-leb (key (least_of t) (made t a h.weight u.weight numbered (stack_of a p.rest))) t.env.limit (past u.capped)
   where
-    past : IsCapped t.env.limit w (u.weight + total (least_of t) (places_of t spots)) → t.env.limit < key (least_of t) (made t a h.weight u.weight spots (stack_of a p.rest))
-    past (inl same) = (let k = key-made t a p n w spots h u in omega (arith, k, same, heavy))
-    past (inr both) = (let k = key-made t a p n w spots h u in let more = both.1 in omega (arith, k, more))
+    past : IsCapped t.env.limit w (u.weight + total (least_of t) (places_of t numbered)) → t.env.limit < key (least_of t) (made t a h.weight u.weight numbered (stack_of a p.rest))
+    past (inl same) = (let k = key-made t a p n w numbered h u in omega (arith, k, same, heavy))
+    past (inr both) = (let k = key-made t a p n w numbered h u in let more = both.1 in omega (arith, k, more))
 
 -- the pushed item
-pub one_push : (t : Tables) (a0 a1 : Arena) (p : Parent) (n w k : ℕ) (spots : List Spot) (i : Item) (old new : List (ℕ × Item)) → IsParent t a0 p → IsTurn t (place_of t p.spot) n w spots → k ≡ p.base + w → k ≤ t.env.limit
-    → i.front < length a1.fronts → i.stack < length a1.stacks → get_or a1.fronts i.front [] ≡ n ∷ get_or a0.fronts p.front [] → get_or a1.stacks i.stack [] ≡ spots ++ get_or a0.stacks p.rest []
+pub one_push : (t : Tables) (a0 a1 : Arena) (p : Parent) (n w k : ℕ) (numbered : List NumberedPlace) (i : Item) (old new : List (ℕ × Item)) → IsParent t a0 p → IsTurn t (place_of t p.place) n w numbered → k ≡ p.base + w → k ≤ t.env.limit
+    → i.front < length a1.fronts → i.stack < length a1.stacks → get_or a1.fronts i.front [] ≡ n ∷ get_or a0.fronts p.front [] → get_or a1.stacks i.stack [] ≡ numbered ++ get_or a0.stacks p.rest []
     → IsPermutation ((k, i) ∷ old) new → Pushes t a1 (front_of a0 p.front) n old new
-one_push t a0 a1 p n w k spots i old new h u key_is within front_in stack_in front stack moved =
+one_push t a0 a1 p n w k numbered i old new h u key_is within front_in stack_in front stack moved =
     let f = front_of a0 p.front in
     let rest = stack_of a0 p.rest in
-    let m : Reading = made t a0 h.weight u.weight spots rest in
-    let c : child t f n ≡ Some m = child-is t a0 p n w spots h u in
-    let opens : m.open_places ≡ places_of t (stack_of a1 i.stack) = sym (places-append t spots rest) ∙ ap (places_of t) (sym stack) in
-    let exact : w ≡ u.weight + total (least_of t) (places_of t spots) = uncapped u.capped in
-    let is_key : key (least_of t) m ≡ k = (let km = key-made t a0 p n w spots h u in omega (arith, km, exact, key_is)) in
+    let m : Reading = made t a0 h.weight u.weight numbered rest in
+    let c : child t f n ≡ Some m = child-is t a0 p n w numbered h u in
+    let opens : m.open_places ≡ places_of t (stack_of a1 i.stack) = sym (places-append t numbered rest) ∙ ap (places_of t) (sym stack) in
+    let exact : w ≡ u.weight + total (least_of t) (places_of t numbered) = uncapped u.capped in
+    let is_key : key (least_of t) m ≡ k = (let km = key-made t a0 p n w numbered h u in omega (arith, km, exact, key_is)) in
     let made_key : key_of (least_of t) (child t f n) ≡ k = ap (key_of (least_of t)) c ∙ is_key in
     let ok : may t f n ≡ true = ap (key_within t.env.limit (least_of t)) c ∙ le-leb (key (least_of t) m) t.env.limit (omega (arith, is_key, within)) in
     let grown : front_of a1 i.front ≡ f ++ n ∷ [] = ap backwards front in
@@ -87,7 +87,7 @@ one_push t a0 a1 p n w k spots i old new h u key_is within front_in stack_in fro
       record {
         front_in = front_in;
         stack_in = stack_in;
-        spots = subst (AreSpots t) (sym stack) (All-append (IsSpot t.env t.patterns) spots rest u.opened h.others);
+        numbered = subst (AreNumbered t) (sym stack) (All-append (IsNumbered t.env t.patterns) numbered rest u.opened h.others);
         weight = m.weight;
         is = ap (reading t.env (goal_place t.env)) grown ∙ c ∙ ap (λ o. Some (record { weight = m.weight; open_places = o })) opens;
         keyed = omega (arith, is_key, ap (total (least_of t)) opens);
@@ -96,7 +96,7 @@ one_push t a0 a1 p n w k spots i old new h u key_is within front_in stack_in fro
       grown,
     )
   where
-    uncapped : IsCapped t.env.limit w (u.weight + total (least_of t) (places_of t spots)) → w ≡ u.weight + total (least_of t) (places_of t spots)
+    uncapped : IsCapped t.env.limit w (u.weight + total (least_of t) (places_of t numbered)) → w ≡ u.weight + total (least_of t) (places_of t numbered)
     uncapped (inl same) = same
     uncapped (inr both) = (let more = both.0 in absurd (omega (arith, more, key_is, within)))
 

@@ -26,20 +26,20 @@ use Rattle.least_weights.specs.LeastWeight.{AreLeastWeights, place_at}
 use Rattle.least_weights.proofs.Joins.{at-first, get-pair, pair-get}
 use Rattle.least_weights.proofs.Lows.{below-pair, step-apart}
 use Rattle.reconstruction.specs.Levelled.{AreComplete}
-use Rattle.reconstruction.specs.Spots.{rows_at, at_state, IsSpot}
+use Rattle.reconstruction.specs.NumberedPlaces.{rows_at, at_state, IsNumbered}
 use Rattle.reconstruction.specs.Tabled as tabled
 use Rattle.reconstruction.specs.Tabled.{least_of}
 use Rattle.reconstruction.specs.Totals.{declared_in, lower_in, AreTotals}
 use Rattle.reconstruction.specs.Usable.{AreFloors, AreUsable}
 use Rattle.reconstruction.specs.Variables.{variables, bound_at, numbers_at}
 use Rattle.reconstruction.specs.Ways.{numbers_of_head, head_numbers, heads_at, way_numbers_by, way_numbers, ways_at, often}
-use Rattle.reconstruction.specs.declared.spot.Spot.{Spot}
+use Rattle.reconstruction.specs.declared.numbered_place.NumberedPlace.{NumberedPlace}
 use Rattle.reconstruction.specs.declared.tables.Tables.{Tables}
 use Rattle.reconstruction.proofs.Bound.{place-rows}
 use Rattle.reconstruction.proofs.Edged.{EdgeCase, edge-case, after-second}
 use Rattle.reconstruction.proofs.Evens.{variables-odd, variables-past, variables-within, valid-pairs_apart, is_pair_of, is_lower, lower-is}
 use Rattle.reconstruction.proofs.Ready.{are_least, first-set, root_kept, no_types, wants_derive}
-use Rattle.reconstruction.proofs.Turned.{value-state, spot-place, way-of}
+use Rattle.reconstruction.proofs.Turned.{value-state, numbered-place, way-of}
 use Rattle.reconstruction.proofs.Ways.{where-most, where-some, where-zero, few-pass}
 use Rattle.reconstruction.proofs.Weights.{none_of, some_of}
 
@@ -269,7 +269,7 @@ module _ (t : Tables) (c : Compression) (valid : IsValid t.env) (lengths : HasLe
           omega (arith, o))) i s is in omega (arith, z))
       go (Some decl) found = ways-once i s is k decl found
 
-  numbers-once : (p : Spot) → IsSpot t.env t.patterns p → (n : ℕ) → often n (numbers_at t p) ≤ 1
+  numbers-once : (p : NumberedPlace) → IsNumbered t.env t.patterns p → (n : ℕ) → often n (numbers_at t p) ≤ 1
   numbers-once p sp n = go (symbol n) refl
     where
       split : (x : ℕ) → often x (variables (bound_at t p) ++ ways_at t.env t.edges p.state) ≡ often x (variables (bound_at t p)) + often x (ways_at t.env t.edges p.state)
@@ -375,7 +375,7 @@ module _ (t : Tables) (c : Compression) (valid : IsValid t.env) (lengths : HasLe
           }
 
   -- a declaration that may come to a term within the limit is among the numbers of the ways
-  declared-there : (p : Spot) (sp : IsSpot t.env t.patterns p) (k : ℕ) (decl : Decl) → slice_get t.env.decls k ≡ Some decl → is_below t.env decl.result sp.state.goal ≡ true → has_room (left_at t.patterns.space sp.state.set) decl.args ≡ true → decl.weight + binders_weight t.env (binders decl.args) + step_in t.env (Some decl.result) sp.state.goal + total (least_of t) (places (rows_at t.env p.row) (left_at t.patterns.space sp.state.set) decl.args) ≤ t.env.limit → 1 ≤ often (2 * k + 1) (ways_at t.env t.edges p.state)
+  declared-there : (p : NumberedPlace) (sp : IsNumbered t.env t.patterns p) (k : ℕ) (decl : Decl) → slice_get t.env.decls k ≡ Some decl → is_below t.env decl.result sp.state.goal ≡ true → has_room (left_at t.patterns.space sp.state.set) decl.args ≡ true → decl.weight + binders_weight t.env (binders decl.args) + step_in t.env (Some decl.result) sp.state.goal + total (least_of t) (places (rows_at t.env p.row) (left_at t.patterns.space sp.state.set) decl.args) ≤ t.env.limit → 1 ≤ often (2 * k + 1) (ways_at t.env t.edges p.state)
   declared-there p sp k decl found below room fits =
       let d = t.patterns in
       let s = sp.state in
@@ -396,11 +396,11 @@ module _ (t : Tables) (c : Compression) (valid : IsValid t.env) (lengths : HasLe
             omega (arith, e, h))
       ]
 
-  all-there : (p : Spot) (n x : ℕ) → n ≡ x → often x (numbers_at t p) ≡ often x (variables (bound_at t p)) + often x (ways_at t.env t.edges p.state) → 1 ≤ often x (variables (bound_at t p)) + often x (ways_at t.env t.edges p.state) → 1 ≤ often n (numbers_at t p)
+  all-there : (p : NumberedPlace) (n x : ℕ) → n ≡ x → often x (numbers_at t p) ≡ often x (variables (bound_at t p)) + often x (ways_at t.env t.edges p.state) → 1 ≤ often x (variables (bound_at t p)) + often x (ways_at t.env t.edges p.state) → 1 ≤ often n (numbers_at t p)
   all-there p n x same split h = subst (λ y. 1 ≤ often y (numbers_at t p)) (sym same) (omega (arith, split, h))
 
   -- each number that may come to a term within the limit is there
-  numbers-there : (p : Spot) → IsSpot t.env t.patterns p → (n : ℕ) (r : Reading) → turn t.env (tabled.place_of t p) n ≡ Some r → r.weight + total (least_of t) r.open_places ≤ t.env.limit → 1 ≤ often n (numbers_at t p)
+  numbers-there : (p : NumberedPlace) → IsNumbered t.env t.patterns p → (n : ℕ) (r : Reading) → turn t.env (tabled.place_of t p) n ≡ Some r → r.weight + total (least_of t) r.open_places ≤ t.env.limit → 1 ≤ often n (numbers_at t p)
   unfolding turn
   numbers-there p sp n r h fits = go (symbol n) refl h
     where
@@ -433,7 +433,7 @@ module _ (t : Tables) (c : Compression) (valid : IsValid t.env) (lengths : HasLe
           let one = variables-within (bound_at t p) m low in
           all-there p n (2 * m) (sym (number-symbol n) ∙ ap number e) (split (2 * m)) (omega (arith, one))
       go (declared k) e v =
-          let there = head k (slice_get t.env.decls k) refl (sym (ap (λ q. declared_at t.env q (slice_get t.env.decls k)) (spot-place t c valid lengths made right p sp)) ∙ v) in
+          let there = head k (slice_get t.env.decls k) refl (sym (ap (λ q. declared_at t.env q (slice_get t.env.decls k)) (numbered-place t c valid lengths made right p sp)) ∙ v) in
           all-there p n (2 * k + 1) (sym (number-symbol n) ∙ ap number e) (split (2 * k + 1)) (omega (arith, there))
 
   pub are-complete : AreComplete t

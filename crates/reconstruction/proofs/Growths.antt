@@ -8,7 +8,7 @@ use Rattle.terms.specs.Place.{Place, goal_place}
 use Rattle.terms.specs.declared.parts.Parts.{Parts}
 use Rattle.partial_terms.specs.Fronts.{reading}
 use Rattle.partial_terms.specs.Search.{key_of, children}
-use Rattle.reconstruction.specs.Tabled.{places_of, least_of, AreSpots, backwards, front_of, stack_of, IsHeld, AreHeld, IsParent, AreGrown, child, may, PushesIf, Pushes, seen, picked, Grew}
+use Rattle.reconstruction.specs.Tabled.{places_of, least_of, AreNumbered, backwards, front_of, stack_of, IsHeld, AreHeld, IsParent, AreGrown, child, may, PushesIf, Pushes, seen, picked, Grew}
 use Rattle.reconstruction.specs.declared.item.Item.{Item}
 use Rattle.reconstruction.specs.declared.item.Arena.{Arena}
 use Rattle.reconstruction.specs.declared.item.Parent.{Parent}
@@ -33,7 +33,7 @@ held-grown t a b s k i h =
     record {
       front_in = omega (arith, f_in, f_long);
       stack_in = omega (arith, s_in, s_long);
-      spots = subst (AreSpots t) stack h.spots;
+      numbered = subst (AreNumbered t) stack h.numbered;
       weight = h.weight;
       is = ap (reading t.env (goal_place t.env)) (sym front) ∙ h.is ∙ ap (λ ps. Some (record { weight = h.weight; open_places = places_of t ps })) stack;
       keyed = h.keyed ∙ ap (λ ps. h.weight + total (least_of t) (places_of t ps)) stack;

@@ -13,13 +13,13 @@ use Rattle.terms.proofs.Sums.{total-append}
 use Rattle.partial_terms.specs.Leasts.{key}
 use Rattle.partial_terms.specs.Fronts.{begins, reading, IsItem, key_within, IsGrowth}
 use Rattle.partial_terms.specs.Search.{IsSearch, fronts, children}
-use Rattle.reconstruction.specs.Spots.{IsKept, IsSpot}
-use Rattle.reconstruction.specs.Tabled.{place_of, places_of, least_of, AreSpots, backwards, front_of, stack_of, IsHeld, AreHeld, IsParent, AreGrown, child, may, seen, picked, Grew}
+use Rattle.reconstruction.specs.NumberedPlaces.{IsKept, IsNumbered}
+use Rattle.reconstruction.specs.Tabled.{place_of, places_of, least_of, AreNumbered, backwards, front_of, stack_of, IsHeld, AreHeld, IsParent, AreGrown, child, may, seen, picked, Grew}
 use Rattle.reconstruction.specs.Variables.{numbers_at}
 use Rattle.reconstruction.specs.Levelled.{AreComplete, IsAt}
 use Rattle.reconstruction.specs.declared.item.Item.{Item}
 use Rattle.reconstruction.specs.declared.item.Arena.{Arena}
-use Rattle.reconstruction.specs.declared.spot.Spot.{Spot}
+use Rattle.reconstruction.specs.declared.numbered_place.NumberedPlace.{NumberedPlace}
 use Rattle.reconstruction.specs.declared.tables.Tables.{Tables}
 use Rattle.partial_terms.proofs.Levels.{taken, grown}
 use Rattle.partial_terms.proofs.Popping.{completed}
@@ -66,9 +66,9 @@ all-picked ok (m ∷ ns) = go (ok m) refl (all-picked ok ns)
     go false is h = h
 
 -- the numbers that are added to a front are those that may follow it, each once
-pub growth : (t : Tables) → AreComplete t → (f : List ℕ) (w : ℕ) (p : Spot) (rest : List Place) → IsSpot t.env t.patterns p → reading t.env (goal_place t.env) f ≡ Some (record { weight = w; open_places = place_of t p ∷ rest })
+pub growth : (t : Tables) → AreComplete t → (f : List ℕ) (w : ℕ) (p : NumberedPlace) (rest : List Place) → IsNumbered t.env t.patterns p → reading t.env (goal_place t.env) f ≡ Some (record { weight = w; open_places = place_of t p ∷ rest })
     → IsGrowth t.env t.env.limit (least_of t) (goal_place t.env) f (picked (may t f) (numbers_at t p))
-growth t ready f w p rest spot is n = count-picked (may t f) (numbers_at t p) n ∙ go (may t f n) refl
+growth t ready f w p rest place is n = count-picked (may t f) (numbers_at t p) n ∙ go (may t f n) refl
   where
     follows : child t f n ≡ and_then (turn t.env (place_of t p) n) (after w rest)
     follows = next_reading t.env (goal_place t.env) f n w (place_of t p) rest is
@@ -78,12 +78,12 @@ growth t ready f w p rest spot is n = count-picked (may t f) (numbers_at t p) n 
     there (Some r) e h =
         let low : key (least_of t) (record { weight = w + r.weight; open_places = r.open_places ++ rest }) ≤ t.env.limit = leb-true (key (least_of t) (record { weight = w + r.weight; open_places = r.open_places ++ rest })) t.env.limit h in
         let sums = total-append (least_of t) r.open_places rest in
-        ready.complete p spot n r e (omega (arith, low, sums))
+        ready.complete p place n r e (omega (arith, low, sums))
 
     go : (b : Bool) → may t f n ≡ b → cond b (count (λ m. m == n) (numbers_at t p)) 0 ≡ once_if b
     go false e = refl
     go true e =
-        let few = ready.once p spot n in
+        let few = ready.once p place n in
         let some = there (turn t.env (place_of t p) n) refl (ap (key_within t.env.limit (least_of t)) (sym follows) ∙ e) in
         omega (arith, few, some)
 
@@ -132,21 +132,21 @@ step_taken t a from k i rest found ready h l none =
     map-push (x ∷ xs) = ap (λ l. front_of a x ∷ l) (map-push xs)
 
 -- an item with its first open place taken off
-pub parent_of : (t : Tables) (a : Arena) (k : ℕ) (p : Spot) (r base : ℕ) (i : Item) → IsHeld t a k i → stack_of a i.stack ≡ p ∷ stack_of a r → r < length a.stacks → base + least_of t (place_of t p) ≡ k → IsParent t a (record { front = i.front; base = base; spot = p; rest = r })
+pub parent_of : (t : Tables) (a : Arena) (k : ℕ) (p : NumberedPlace) (r base : ℕ) (i : Item) → IsHeld t a k i → stack_of a i.stack ≡ p ∷ stack_of a r → r < length a.stacks → base + least_of t (place_of t p) ≡ k → IsParent t a (record { front = i.front; base = base; place = p; rest = r })
 parent_of t a k p r base i h first l sum =
-    let spots : AreSpots t (p ∷ stack_of a r) = subst (AreSpots t) first h.spots in
+    let numbered : AreNumbered t (p ∷ stack_of a r) = subst (AreNumbered t) first h.numbered in
     let keyed = h.keyed in
     record {
       front_in = h.front_in;
       rest_in = l;
-      first = All-head (IsSpot t.env t.patterns) p (stack_of a r) spots;
-      others = All-tail (IsSpot t.env t.patterns) p (stack_of a r) spots;
+      first = All-head (IsNumbered t.env t.patterns) p (stack_of a r) numbered;
+      others = All-tail (IsNumbered t.env t.patterns) p (stack_of a r) numbered;
       weight = h.weight;
       is = h.is ∙ ap (λ x. Some (record { weight = h.weight; open_places = places_of t x })) first;
       base = omega (arith, keyed, ap (λ x. total (least_of t) (places_of t x)) first, sum);
     }
 
-pub first_below : (t : Tables) (a : Arena) (k : ℕ) (p : Spot) (r : ℕ) (i : Item) → IsHeld t a k i → stack_of a i.stack ≡ p ∷ stack_of a r → least_of t (place_of t p) ≤ k
+pub first_below : (t : Tables) (a : Arena) (k : ℕ) (p : NumberedPlace) (r : ℕ) (i : Item) → IsHeld t a k i → stack_of a i.stack ≡ p ∷ stack_of a r → least_of t (place_of t p) ≤ k
 first_below t a k p r i h first = (let keyed = h.keyed in omega (arith, keyed, ap (λ x. total (least_of t) (places_of t x)) first))
 
 pub same_fronts : (a b : Arena) → AreGrown a b → (xs : List ℕ) → All (λ x. x < length a.fronts) xs → map (front_of b) xs ≡ map (front_of a) xs
@@ -179,7 +179,7 @@ grown_seen t a b f ns rest none aside new old empty grew perm =
     IsPermutation-trans (grows ++ seen a rest) (seen b (aside ++ rest)) (seen b new) (subst (λ l. IsPermutation (grows ++ seen a rest) l) shown two) (IsPermutation-map (λ (x : ℕ × Item). (x.0, front_of b x.1.front)) (aside ++ rest) new perm)
 
 -- an item gives way to what grows from it, which was made aside
-pub step_grown : (t : Tables) (a b : Arena) (from k r : ℕ) (p : Spot) (i : Item) (rest none aside new : List (ℕ × Item)) (found : List ℕ) → AreComplete t → IsAt t a from ((k, i) ∷ rest) found → stack_of a i.stack ≡ p ∷ stack_of a r
+pub step_grown : (t : Tables) (a b : Arena) (from k r : ℕ) (p : NumberedPlace) (i : Item) (rest none aside new : List (ℕ × Item)) (found : List ℕ) → AreComplete t → IsAt t a from ((k, i) ∷ rest) found → stack_of a i.stack ≡ p ∷ stack_of a r
     → none ≡ [] → Grew t a b (front_of a i.front) (numbers_at t p) none aside → IsPermutation (aside ++ rest) new → IsAt t b from new found
 step_grown t a b from k r p i rest none aside new found ready h first empty grew perm =
     let P : ℕ × Item → Type 0 = λ x. IsHeld t a x.0 x.1 in
@@ -188,7 +188,7 @@ step_grown t a b from k r p i rest none aside new found ready h first empty grew
     let f = front_of a i.front in
     let g = t.env in
     let root = goal_place t.env in
-    let spot : IsSpot t.env t.patterns p = All-head (IsSpot t.env t.patterns) p (stack_of a r) (subst (AreSpots t) first kept.spots) in
+    let place : IsNumbered t.env t.patterns p = All-head (IsNumbered t.env t.patterns) p (stack_of a r) (subst (AreNumbered t) first kept.numbered) in
     let at : Reading = record { weight = kept.weight; open_places = place_of t p ∷ places_of t (stack_of a r) } in
     let is : reading g root f ≡ Some at = kept.is ∙ ap (λ x. Some (record { weight = kept.weight; open_places = places_of t x })) first in
     let ns = picked (may t f) (numbers_at t p) in
@@ -200,7 +200,7 @@ step_grown t a b from k r p i rest none aside new found ready h first empty grew
       inside = inside-grown a b grew.grown found h.inside;
       search = subst (λ l. IsSearch g t.env.limit (least_of t) root from (seen b new) l) (sym (same_fronts a b grew.grown found h.inside))
           (grown g t.env.limit (IsKept t.env t.patterns) (least_of t) root ready.least ready.root from (seen a ((k, i) ∷ rest)) (seen a rest) (seen b new) (map (front_of a) found) k f at ns
-          h.search (IsPermutation-refl (seen a ((k, i) ∷ rest))) is (nonempty (place_of t p) (places_of t (stack_of a r))) (growth t ready f kept.weight p (places_of t (stack_of a r)) spot is) (all-picked (may t f) (numbers_at t p)) three);
+          h.search (IsPermutation-refl (seen a ((k, i) ∷ rest))) is (nonempty (place_of t p) (places_of t (stack_of a r))) (growth t ready f kept.weight p (places_of t (stack_of a r)) place is) (all-picked (may t f) (numbers_at t p)) three);
     }
   where
     nonempty : (q : Place) (ps : List Place) → q ∷ ps ≡ [] → ⊥

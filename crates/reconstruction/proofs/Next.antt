@@ -8,7 +8,7 @@ use Rattle.terms.specs.Listing.{level_of, Skipped}
 use Rattle.terms.specs.Place.{goal_place, fits_place, weigh}
 use Rattle.terms.proofs.Inhabitants.{level-within, level-none}
 use Rattle.partial_terms.specs.Fronts.{IsItem}
-use Rattle.reconstruction.specs.Spots.{IsKept}
+use Rattle.reconstruction.specs.NumberedPlaces.{IsKept}
 use Rattle.reconstruction.specs.Tabled.{least_of, front_of, seen}
 use Rattle.reconstruction.specs.Levelled.{AreComplete, IsAt}
 use Rattle.reconstruction.specs.declared.item.Item.{Item}

@@ -26,7 +26,7 @@ use Rattle.patterns.proofs.Meaning.{lambda-there, plain-sought}
 use Rattle.patterns.proofs.Mets.{in_ends}
 use Rattle.patterns.proofs.Tables.{remap}
 use Rattle.partial_terms.specs.Leasts.{AllPlaces}
-use Rattle.reconstruction.specs.Spots.{IsKept}
+use Rattle.reconstruction.specs.NumberedPlaces.{IsKept}
 use Rattle.reconstruction.proofs.Weights.{some_of, none_of}
 
 -- the number of a want's need stands among the numbers

@@ -15,7 +15,7 @@ use Rattle.reconstruction.specs.Levelled.{AreComplete, IsAt, with_held}
 use Rattle.reconstruction.specs.Partial.{AreDivided, IsCode, least_completion, waiting_with}
 use Rattle.reconstruction.specs.Rebuilding.{IsOn, held_shown}
 use Rattle.partial_terms.specs.Search.{fronts}
-use Rattle.reconstruction.specs.Spots.{IsKept}
+use Rattle.reconstruction.specs.NumberedPlaces.{IsKept}
 use Rattle.reconstruction.specs.Tabled.{front_of, least_of, seen}
 use Rattle.reconstruction.specs.declared.item.Item.{Item}
 use Rattle.reconstruction.specs.declared.item.Arena.{Arena}

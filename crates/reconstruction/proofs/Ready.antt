@@ -21,7 +21,7 @@ use Rattle.patterns.proofs.Contexts.{set_of-more}
 use Rattle.patterns.proofs.Derives.{term-derives}
 use Rattle.least_weights.specs.LeastWeight.{AreLeastWeights}
 use Rattle.partial_terms.specs.Leasts.{AreLeast}
-use Rattle.reconstruction.specs.Spots.{IsKept, least_at}
+use Rattle.reconstruction.specs.NumberedPlaces.{IsKept, least_at}
 use Rattle.reconstruction.proofs.Weights.{least-low, least-met}
 use Rattle.reconstruction.proofs.Opens.{opens-kept}
 

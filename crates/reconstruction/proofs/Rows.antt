@@ -2,10 +2,10 @@
 use Rattle.std.proofs.Common.{◌≡◌, ◌≢◌, ℕ, ◌+◌, List, [], ◌∷◌, length, get_or, Option, Some, refl, sym, ap, subst, ◌∙◌, arith}
 use Rattle.terms.specs.declared.parts.Arg.{Arg}
 use Rattle.terms.specs.declared.parts.Arg.TheVariants.{Plain, Fun}
-use Rattle.reconstruction.specs.Tabled.{spots_under}
+use Rattle.reconstruction.specs.Tabled.{numbered_under}
 use Rattle.reconstruction.specs.Totals.{row_by, row_under}
 use Rattle.reconstruction.specs.Ways.{Turns, IsHeadBy}
-use Rattle.reconstruction.specs.declared.spot.Spot.{Spot}
+use Rattle.reconstruction.specs.declared.numbered_place.NumberedPlace.{NumberedPlace}
 use Rattle.reconstruction.specs.declared.tables.Tables.{Tables}
 
 pub row-other : (args : List Arg) (row k : ℕ) → length args ≢ 1 → row ≡ row_by args row k
@@ -26,5 +26,5 @@ row-plain (a ∷ c ∷ more) x b row k n at is = absurd (omega (arith, n))
 row-plain (a ∷ []) x b row k n at is = sym (ap (λ y. row_by (y ∷ []) row k) (sym at ∙ is))
 
 -- the turn of a declaration's edge
-pub head-turn : (t : Tables) (p : Spot) (step k w : ℕ) (o : Option ℕ) (tails : List ℕ) → IsHeadBy t p step o w tails → o ≡ Some k → Turns t p step k w (spots_under (row_under t.env p.row k) tails)
+pub head-turn : (t : Tables) (p : NumberedPlace) (step k w : ℕ) (o : Option ℕ) (tails : List ℕ) → IsHeadBy t p step o w tails → o ≡ Some k → Turns t p step k w (numbered_under (row_under t.env p.row k) tails)
 head-turn t p step k w o tails h is = subst (λ x. IsHeadBy t p step x w tails) is h

@@ -19,7 +19,7 @@ use Rattle.reconstruction.specs.Tallied.{capped, held_many, AreTallied}
 use Rattle.reconstruction.specs.Variables.{numbers_at}
 use Rattle.reconstruction.specs.declared.item.Item.{Item}
 use Rattle.reconstruction.specs.declared.item.Arena.{Arena}
-use Rattle.reconstruction.specs.declared.spot.Spot.{Spot}
+use Rattle.reconstruction.specs.declared.numbered_place.NumberedPlace.{NumberedPlace}
 use Rattle.reconstruction.specs.declared.tables.Tables.{Tables}
 use Rattle.reconstruction.proofs.Making.{moved_at, step_taken, step_grown, at_grown}
 use Rattle.reconstruction.proofs.Remaining.{none_lost_taken, none_lost_grown, none_lost_kept}
@@ -84,7 +84,7 @@ running_taken t a from level k i p q found now r up is low none pushed taken =
     (λ popped h. none_lost_taken t a k i p.queue popped (item_held t a from level k i p found r is) none h))
 
 -- an item gives way to what grows from it
-pub running_grown : (t : Tables) (a b : Arena) (from level k rest : ℕ) (s : Spot) (i : Item) (p q : Pending) (cleared children : List (ℕ × Item)) (found : List ℕ) → IsRunning t a from level p found → from ≤ level → p.held ≡ Some (k, i) → k ≤ level → stack_of a i.stack ≡ s ∷ stack_of a rest
+pub running_grown : (t : Tables) (a b : Arena) (from level k rest : ℕ) (s : NumberedPlace) (i : Item) (p q : Pending) (cleared children : List (ℕ × Item)) (found : List ℕ) → IsRunning t a from level p found → from ≤ level → p.held ≡ Some (k, i) → k ≤ level → stack_of a i.stack ≡ s ∷ stack_of a rest
     → cleared ≡ [] → Grew t a b (front_of a i.front) (numbers_at t s) cleared children → IsPermutation (children ++ p.queue) q.queue → q.held ≡ None → q.pops ≡ p.pops → IsRunning t b from level q found
 running_grown t a b from level k rest s i p q cleared children found r up is low first empty grew moved none pops =
     let at : IsAt t a level ((k, i) ∷ p.queue) found = running_item t a from level k i p found r up is in

@@ -13,7 +13,7 @@ use Rattle.reconstruction.specs.Levelled.{AreComplete, IsAt, with_held}
 use Rattle.partial_terms.specs.Popped.{HasCompletion, IsPopped, NoneLost}
 use Rattle.reconstruction.specs.Rebuilding.{AreGiven}
 use Rattle.partial_terms.specs.Search.{fronts, children}
-use Rattle.reconstruction.specs.Spots.{IsKept}
+use Rattle.reconstruction.specs.NumberedPlaces.{IsKept}
 use Rattle.reconstruction.specs.Tabled.{least_of, front_of, may, picked, seen, AreHeld, AreGrown, Grew}
 use Rattle.reconstruction.specs.Tallied.{capped, held_many, AreTallied}
 use Rattle.reconstruction.specs.declared.item.Item.{Item}

@@ -1,4 +1,4 @@
--- The edges of a state are turns at each of its spots.
+-- The edges of a state are turns at each of its numbered places.
 use Rattle.std.proofs.Common.{◌≡◌, ◌⊎◌, inl, inr, ℕ, suc, ◌+◌, ◌*◌, ◌<◌, ◌≤◌, true, ◌&&◌, ◌==◌, List, [], ◌∷◌, ◌++◌, length, get_or, slice_get, Some, refl, sym, ap, subst, ◌∙◌, arith}
 use Rattle.std.proofs.lemmas.Bool.{and_from, false≢true, or_right}
 use Rattle.std.proofs.lemmas.List.Elements.{All-nil, All-cons}
@@ -26,36 +26,36 @@ use Rattle.least_weights.specs.LeastWeight.{AreLeastWeights, place_at}
 use Rattle.least_weights.proofs.Joins.{pair-get}
 use Rattle.least_weights.proofs.Lows.{split-tails, no-tails, step-same, step-apart}
 use Rattle.least_weights.proofs.Sought.{IsAt, plain-at, fun-at}
-use Rattle.reconstruction.specs.Spots.{row_of_args, row_of_decl, rows_at, at_state, IsSpot}
+use Rattle.reconstruction.specs.NumberedPlaces.{row_of_args, row_of_decl, rows_at, at_state, IsNumbered}
 use Rattle.reconstruction.specs.Tabled as tabled
-use Rattle.reconstruction.specs.Tabled.{places_of, least_of, AreSpots, IsTurn, spots_under}
+use Rattle.reconstruction.specs.Tabled.{places_of, least_of, AreNumbered, IsTurn, numbered_under}
 use Rattle.reconstruction.specs.Totals.{IsCapped, AreTotals, number_of, least_total, row_by, row_under}
 use Rattle.reconstruction.specs.Ways.{Turns, IsHeadBy, IsHeadOf, IsWayBy, IsWayOf}
-use Rattle.reconstruction.specs.declared.spot.Spot.{Spot}
+use Rattle.reconstruction.specs.declared.numbered_place.NumberedPlace.{NumberedPlace}
 use Rattle.reconstruction.specs.declared.tables.Tables.{Tables}
 use Rattle.reconstruction.proofs.Evens.{args-shape}
 use Rattle.reconstruction.proofs.Weights.{least-is}
 use Rattle.reconstruction.proofs.Edged.{AtDecl, EdgeCase}
 
--- places as spots, with their least weights together
-pub record Opened (t : Tables) (ps : List Place) (spots : List Spot) (sum : ℕ) : Type 0 where
-  pub places : ps ≡ places_of t spots
-  pub opened : AreSpots t spots
+-- places by their numbers, with their least weights together
+pub record Opened (t : Tables) (ps : List Place) (numbered : List NumberedPlace) (sum : ℕ) : Type 0 where
+  pub places : ps ≡ places_of t numbered
+  pub opened : AreNumbered t numbered
   pub least : total (least_of t) ps ≡ sum
 
--- a place as a spot, with its least weight
-pub record IsSpotOf (t : Tables) (q : Place) (p : Spot) (n : ℕ) : Type 0 where
-  pub spot : IsSpot t.env t.patterns p
+-- a place by its numbers, with its least weight
+pub record IsNumberedAs (t : Tables) (q : Place) (p : NumberedPlace) (n : ℕ) : Type 0 where
+  pub place : IsNumbered t.env t.patterns p
   pub is : q ≡ tabled.place_of t p
   pub least : least_of t q ≡ n
 
 pub opened-none : (t : Tables) → Opened t [] [] 0
-opened-none t = record { places = refl; opened = All-nil (IsSpot t.env t.patterns); least = refl }
+opened-none t = record { places = refl; opened = All-nil (IsNumbered t.env t.patterns); least = refl }
 
-pub opened-more : (t : Tables) (q : Place) (p : Spot) (n : ℕ) (qs : List Place) (ps : List Spot) (sum : ℕ) → IsSpotOf t q p n → Opened t qs ps sum → Opened t (q ∷ qs) (p ∷ ps) (n + sum)
+pub opened-more : (t : Tables) (q : Place) (p : NumberedPlace) (n : ℕ) (qs : List Place) (ps : List NumberedPlace) (sum : ℕ) → IsNumberedAs t q p n → Opened t qs ps sum → Opened t (q ∷ qs) (p ∷ ps) (n + sum)
 opened-more t q p n qs ps sum first rest = record {
   places = ap (λ x. x ∷ qs) first.is ∙ ap (λ l. tabled.place_of t p ∷ l) rest.places;
-  opened = All-cons (IsSpot t.env t.patterns) p ps first.spot rest.opened;
+  opened = All-cons (IsNumbered t.env t.patterns) p ps first.place rest.opened;
   least = (let a = first.least in let b = rest.least in omega (arith, a, b));
 }
 
@@ -105,12 +105,12 @@ more_capped limit w real extra both (inr past) sum = (let a = past.0 in let b = 
 -- the place of a lambda's body, and that there is room for it
 pub record BodyOpened (t : Tables) (k left : ℕ) (ctx : List (List ℕ)) (args : List Arg) (body : ℕ) : Type 0 where
   pub room : has_room left args ≡ true
-  pub opened : Opened t (places ctx left args) (spots_under (k + 1) (body ∷ [])) (least_total t.env.limit t.least (body ∷ []))
+  pub opened : Opened t (places ctx left args) (numbered_under (k + 1) (body ∷ [])) (least_total t.env.limit t.least (body ∷ []))
 
 module _ (t : Tables) (c : Compression) (valid : IsValid t.env) (lengths : HasLengths t.env) (made : ArePatterns c t.env.goal t.env.depth t.patterns) (right : AreLeastWeights t.env t.patterns t.least) where
-  -- a place that stands at a state is its spot
-  pub spot-is : (i row left b : ℕ) → IsAt t.patterns t.env.depth i (rows_at t.env row) left b → IsSpotOf t (record { ctx = rows_at t.env row; left = left; wanted = b }) (record { row = row; state = i }) (number_of t.env.limit t.least i)
-  spot-is i row left b at =
+  -- a place that stands at a state is that of its numbers
+  pub numbered-is : (i row left b : ℕ) → IsAt t.patterns t.env.depth i (rows_at t.env row) left b → IsNumberedAs t (record { ctx = rows_at t.env row; left = left; wanted = b }) (record { row = row; state = i }) (number_of t.env.limit t.least i)
+  numbered-is i row left b at =
       let d = t.patterns in
       let s = at.state in
       let ctx = rows_at t.env row in
@@ -120,24 +120,24 @@ module _ (t : Tables) (c : Compression) (valid : IsValid t.env) (lengths : HasLe
       let here : Place = record { ctx = ctx; left = left; wanted = b } in
       let place : here ≡ place_at d s ctx = ap (λ n. record { ctx = ctx; left = n; wanted = b }) l ∙ ap (λ n. record { ctx = ctx; left = left_at d.space s.set; wanted = n }) at.goal in
       record {
-        spot = record { state = s; is = at.is; types = at.types; depth = depth };
+        place = record { state = s; is = at.is; types = at.types; depth = depth };
         is = place ∙ sym (ap (λ o. at_state d o ctx) at.is);
         least = ap (least_of t) place ∙ least-is t.env d t.least right i s ctx at.is at.types depth;
       }
 
   -- the places of values
-  pub plain-opened : (i row left b : ℕ) → IsAt t.patterns t.env.depth i (rows_at t.env row) left b → (args : List Arg) (ts : List ℕ) → are_plain args ≡ true → AreTails c t.patterns i args ts → Opened t (places (rows_at t.env row) left args) (spots_under row ts) (least_total t.env.limit t.least ts)
+  pub plain-opened : (i row left b : ℕ) → IsAt t.patterns t.env.depth i (rows_at t.env row) left b → (args : List Arg) (ts : List ℕ) → are_plain args ≡ true → AreTails c t.patterns i args ts → Opened t (places (rows_at t.env row) left args) (numbered_under row ts) (least_total t.env.limit t.least ts)
   unfolding places
-  plain-opened i row left b at [] ts plain tails = subst (λ l. Opened t [] (spots_under row l) (least_total t.env.limit t.least l)) (sym (no-tails c t.patterns i ts tails)) (opened-none t)
+  plain-opened i row left b at [] ts plain tails = subst (λ l. Opened t [] (numbered_under row l) (least_total t.env.limit t.least l)) (sym (no-tails c t.patterns i ts tails)) (opened-none t)
   plain-opened i row left b at (Plain a ∷ args) ts plain tails =
       let s = split-tails c t.patterns i (Plain a) args ts tails in
       let inner = plain-at c t.patterns t.env.depth made.wanted made.steps i s.first (rows_at t.env row) left b a at s.tail in
       let rest = plain-opened i row left b at args s.rest plain s.others in
       let qs = places (rows_at t.env row) left args in
       let q : Place = record { ctx = rows_at t.env row; left = left; wanted = a } in
-      let p : Spot = record { row = row; state = s.first } in
-      subst (λ l. Opened t (q ∷ qs) (spots_under row l) (least_total t.env.limit t.least l)) (sym s.is)
-      (opened-more t q p (number_of t.env.limit t.least s.first) qs (spots_under row s.rest) (least_total t.env.limit t.least s.rest) (spot-is s.first row left a inner) rest)
+      let p : NumberedPlace = record { row = row; state = s.first } in
+      subst (λ l. Opened t (q ∷ qs) (numbered_under row l) (least_total t.env.limit t.least l)) (sym s.is)
+      (opened-more t q p (number_of t.env.limit t.least s.first) qs (numbered_under row s.rest) (least_total t.env.limit t.least s.rest) (numbered-is s.first row left a inner) rest)
   plain-opened i row left b at (Fun ps r ∷ args) ts plain tails = absurd (false≢true plain)
 
   pub lambda-opened : (i row left b k body : ℕ) (decl : Decl) (ps : List ℕ) (r : ℕ) → IsAt t.patterns t.env.depth i (rows_at t.env row) left b → slice_get t.env.decls k ≡ Some decl → decl.args ≡ Fun ps r ∷ [] → AreTails c t.patterns i decl.args (body ∷ []) → BodyOpened t k left (rows_at t.env row) decl.args body
@@ -155,29 +155,29 @@ module _ (t : Tables) (c : Compression) (valid : IsValid t.env) (lengths : HasLe
       let same : ctx ++ ps ∷ [] ≡ rows_at t.env (k + 1) = ap (λ (x : List (List ℕ)). x ++ ps ∷ []) outer ∙ sym row_is in
       let inner : IsAt d t.env.depth body (rows_at t.env (k + 1)) u.inner r = subst (λ x. IsAt d t.env.depth body x u.inner r) same u.at in
       let q : Place = record { ctx = rows_at t.env (k + 1); left = u.inner; wanted = r } in
-      let p : Spot = record { row = k + 1; state = body } in
-      let one : Opened t (q ∷ []) (p ∷ []) (least_total t.env.limit t.least (body ∷ [])) = opened-more t q p (number_of t.env.limit t.least body) [] [] 0 (spot-is body (k + 1) u.inner r inner) (opened-none t) in
+      let p : NumberedPlace = record { row = k + 1; state = body } in
+      let one : Opened t (q ∷ []) (p ∷ []) (least_total t.env.limit t.least (body ∷ [])) = opened-more t q p (number_of t.env.limit t.least body) [] [] 0 (numbered-is body (k + 1) u.inner r inner) (opened-none t) in
       let shown : places ctx left decl.args ≡ q ∷ [] = ap (places ctx left) wants ∙ ap (λ n. places ctx n (Fun ps r ∷ [])) u.left_is ∙ places-fun ctx u.inner ps r ∙ ap (λ x. record { ctx = x; left = u.inner; wanted = r } ∷ []) same in
       record {
         room = ap (has_room left) wants ∙ ap (λ n. has_room n (Fun ps r ∷ [])) u.left_is ∙ fun-room u.inner ps r;
         opened = subst (λ l. Opened t l (p ∷ []) (least_total t.env.limit t.least (body ∷ []))) (sym shown) one;
       }
 
-  -- a head whose wants are spots is a turn
-  opened-turn : (i row left b goal k w extra : ℕ) (ts : List ℕ) (spots : List Spot) (decl : Decl) → slice_get t.env.decls k ≡ Some decl → decl.result ≡ goal → IsCapped t.env.limit w (decl.weight + binders_weight t.env (binders decl.args) + least_total t.env.limit t.least ts) → has_room left decl.args ≡ true → Opened t (places (rows_at t.env row) left decl.args) spots (least_total t.env.limit t.least ts) → is_below t.env goal b ≡ true → step_in t.env (Some goal) b ≡ extra → IsTurn t (record { ctx = rows_at t.env row; left = left; wanted = b }) (2 * k + 1) (w + extra) spots
+  -- a head whose wants are numbered places is a turn
+  opened-turn : (i row left b goal k w extra : ℕ) (ts : List ℕ) (numbered : List NumberedPlace) (decl : Decl) → slice_get t.env.decls k ≡ Some decl → decl.result ≡ goal → IsCapped t.env.limit w (decl.weight + binders_weight t.env (binders decl.args) + least_total t.env.limit t.least ts) → has_room left decl.args ≡ true → Opened t (places (rows_at t.env row) left decl.args) numbered (least_total t.env.limit t.least ts) → is_below t.env goal b ≡ true → step_in t.env (Some goal) b ≡ extra → IsTurn t (record { ctx = rows_at t.env row; left = left; wanted = b }) (2 * k + 1) (w + extra) numbered
   unfolding turn
-  opened-turn i row left b goal k w extra ts spots decl found gives total_is room o below weighs =
+  opened-turn i row left b goal k w extra ts numbered decl found gives total_is room o below weighs =
       let ctx = rows_at t.env row in
       let q : Place = record { ctx = ctx; left = left; wanted = b } in
       let weight = decl.weight + binders_weight t.env (binders decl.args) + step_in t.env (Some decl.result) b in
       let tests : is_below t.env decl.result b && has_room left decl.args ≡ true = and_from (is_below t.env decl.result b) (has_room left decl.args) (ap (λ x. is_below t.env x b) gives ∙ below) room in
       let more : step_in t.env (Some decl.result) b ≡ extra = ap (λ x. step_in t.env (Some x) b) gives ∙ weighs in
-      let all : total (least_of t) (places_of t spots) ≡ least_total t.env.limit t.least ts = ap (total (least_of t)) (sym o.places) ∙ o.least in
+      let all : total (least_of t) (places_of t numbered) ≡ least_total t.env.limit t.least ts = ap (total (least_of t)) (sym o.places) ∙ o.least in
       record {
         weight = weight;
         is = ap (turn_by t.env q) (symbol-odd k) ∙ ap (declared_at t.env q) found ∙ ap (λ x. some_when x (record { weight = weight; open_places = places ctx left decl.args })) tests ∙ ap (λ l. Some (record { weight = weight; open_places = l })) o.places;
         opened = o.opened;
-        capped = more_capped t.env.limit w (decl.weight + binders_weight t.env (binders decl.args) + least_total t.env.limit t.least ts) extra (weight + total (least_of t) (places_of t spots)) total_is (omega (arith, more, all));
+        capped = more_capped t.env.limit w (decl.weight + binders_weight t.env (binders decl.args) + least_total t.env.limit t.least ts) extra (weight + total (least_of t) (places_of t numbered)) total_is (omega (arith, more, all));
       }
 
   small-number : (k : ℕ) (decl : Decl) → slice_get t.env.decls k ≡ Some decl → k < 2147483648
@@ -186,15 +186,15 @@ module _ (t : Tables) (c : Compression) (valid : IsValid t.env) (lengths : HasLe
   small-weight : (w : ℕ) → w ≤ t.env.limit + 1 → w ≤ 10001
   small-weight w h = (let l = valid-limit t.env valid in let top = l.1 in omega (arith, h, top))
 
-  -- the spot's place, written out
-  pub spot-place : (p : Spot) (s : IsSpot t.env t.patterns p) → tabled.place_of t p ≡ place_at t.patterns s.state (rows_at t.env p.row)
-  spot-place p s = ap (λ o. at_state t.patterns o (rows_at t.env p.row)) s.is
+  -- the place of the numbers, written out
+  pub numbered-place : (p : NumberedPlace) (s : IsNumbered t.env t.patterns p) → tabled.place_of t p ≡ place_at t.patterns s.state (rows_at t.env p.row)
+  numbered-place p s = ap (λ o. at_state t.patterns o (rows_at t.env p.row)) s.is
 
-  pub spot-at : (p : Spot) (s : IsSpot t.env t.patterns p) → IsAt t.patterns t.env.depth p.state (rows_at t.env p.row) (left_at t.patterns.space s.state.set) s.state.goal
-  spot-at p s = record { state = s.state; is = s.is; types = s.types; left_is = refl; goal = refl; rows = s.depth }
+  pub numbered-at : (p : NumberedPlace) (s : IsNumbered t.env t.patterns p) → IsAt t.patterns t.env.depth p.state (rows_at t.env p.row) (left_at t.patterns.space s.state.set) s.state.goal
+  numbered-at p s = record { state = s.state; is = s.is; types = s.types; left_is = refl; goal = refl; rows = s.depth }
 
   -- a declaration's edge that gives just a type is a turn where that type may stand
-  decl-turn : (totals : AreTotals t.env.limit t.least t.edges t.totals) (p : Spot) (s : IsSpot t.env t.patterns p) (i goal extra m : ℕ) (e : Edge) (x : State) → slice_get t.edges m ≡ Some e → IsAt t.patterns t.env.depth i (rows_at t.env p.row) (left_at t.patterns.space s.state.set) goal → is_below t.env goal s.state.goal ≡ true → step_in t.env (Some goal) s.state.goal ≡ extra → x.goal ≡ goal → (q : AtDecl t.env c t.patterns i x e) → Turns t p extra q.number (get_or t.totals m 0) (spots_under (row_under t.env p.row q.number) e.tails)
+  decl-turn : (totals : AreTotals t.env.limit t.least t.edges t.totals) (p : NumberedPlace) (s : IsNumbered t.env t.patterns p) (i goal extra m : ℕ) (e : Edge) (x : State) → slice_get t.edges m ≡ Some e → IsAt t.patterns t.env.depth i (rows_at t.env p.row) (left_at t.patterns.space s.state.set) goal → is_below t.env goal s.state.goal ≡ true → step_in t.env (Some goal) s.state.goal ≡ extra → x.goal ≡ goal → (q : AtDecl t.env c t.patterns i x e) → Turns t p extra q.number (get_or t.totals m 0) (numbered_under (row_under t.env p.row q.number) e.tails)
   decl-turn totals p s i goal extra m e x there at below weighs same q = go (args-shape q.decl.form q.decl.args (valid-decl t.env valid q.number q.decl q.is).formed)
     where
       left : ℕ
@@ -206,24 +206,24 @@ module _ (t : Tables) (c : Compression) (valid : IsValid t.env) (lengths : HasLe
       sum : IsCapped t.env.limit w (q.decl.weight + binders q.decl.args + least_total t.env.limit t.least e.tails)
       sum = subst (λ n. IsCapped t.env.limit w (n + least_total t.env.limit t.least e.tails)) q.weighs (totals.each m e there).capped
 
-      turned : (row : ℕ) → row_under t.env p.row q.number ≡ row → has_room left q.decl.args ≡ true → Opened t (places (rows_at t.env p.row) left q.decl.args) (spots_under row e.tails) (least_total t.env.limit t.least e.tails) → Turns t p extra q.number w (spots_under (row_under t.env p.row q.number) e.tails)
+      turned : (row : ℕ) → row_under t.env p.row q.number ≡ row → has_room left q.decl.args ≡ true → Opened t (places (rows_at t.env p.row) left q.decl.args) (numbered_under row e.tails) (least_total t.env.limit t.least e.tails) → Turns t p extra q.number w (numbered_under (row_under t.env p.row q.number) e.tails)
       turned row is room o = record {
         number = small-number q.number q.decl q.is;
         small = small-weight w (totals.each m e there).small;
-        head = subst (λ r. IsTurn t (tabled.place_of t p) (2 * q.number + 1) (w + extra) (spots_under r e.tails)) (sym is) (subst (λ y. IsTurn t y (2 * q.number + 1) (w + extra) (spots_under row e.tails)) (sym (spot-place p s))
-            (opened-turn i p.row left s.state.goal goal q.number w extra e.tails (spots_under row e.tails) q.decl q.is (q.gives ∙ same) sum room o below weighs));
+        head = subst (λ r. IsTurn t (tabled.place_of t p) (2 * q.number + 1) (w + extra) (numbered_under r e.tails)) (sym is) (subst (λ y. IsTurn t y (2 * q.number + 1) (w + extra) (numbered_under row e.tails)) (sym (numbered-place p s))
+            (opened-turn i p.row left s.state.goal goal q.number w extra e.tails (numbered_under row e.tails) q.decl q.is (q.gives ∙ same) sum room o below weighs));
       }
 
-      go : (are_plain q.decl.args ≡ true) ⊎ ((ps : List ℕ) × (r : ℕ) × (q.decl.args ≡ Fun ps r ∷ [])) → Turns t p extra q.number w (spots_under (row_under t.env p.row q.number) e.tails)
+      go : (are_plain q.decl.args ≡ true) ⊎ ((ps : List ℕ) × (r : ℕ) × (q.decl.args ≡ Fun ps r ∷ [])) → Turns t p extra q.number w (numbered_under (row_under t.env p.row q.number) e.tails)
       go (inl plain) = turned p.row (ap (λ o. row_by (args_wanted o) p.row q.number) q.is ∙ plain-row q.decl.args p.row q.number plain) (plain-room left q.decl.args plain) (plain-opened i p.row left goal at q.decl.args e.tails plain q.tails)
       go (inr fun) =
           let one = single e.tails (q.tails.as_many ∙ ap length fun.2) in
           let tails : AreTails c t.patterns i q.decl.args (one.0 ∷ []) = subst (AreTails c t.patterns i q.decl.args) one.1 q.tails in
           let o = lambda-opened i p.row left goal q.number one.0 q.decl fun.0 fun.1 at q.is fun.2 tails in
-          turned (q.number + 1) (ap (λ o. row_by (args_wanted o) p.row q.number) q.is ∙ ap (λ l. row_by l p.row q.number) fun.2) o.room (subst (λ l. Opened t (places (rows_at t.env p.row) left q.decl.args) (spots_under (q.number + 1) l) (least_total t.env.limit t.least l)) (sym one.1) o.opened)
+          turned (q.number + 1) (ap (λ o. row_by (args_wanted o) p.row q.number) q.is ∙ ap (λ l. row_by l p.row q.number) fun.2) o.room (subst (λ l. Opened t (places (rows_at t.env p.row) left q.decl.args) (numbered_under (q.number + 1) l) (least_total t.env.limit t.least l)) (sym one.1) o.opened)
 
   -- the edge of a state is a head where its type may stand
-  pub head-of : (totals : AreTotals t.env.limit t.least t.edges t.totals) (p : Spot) (s : IsSpot t.env t.patterns p) (i goal extra m : ℕ) (e : Edge) (x : State) → slice_get t.edges m ≡ Some e → IsAt t.patterns t.env.depth i (rows_at t.env p.row) (left_at t.patterns.space s.state.set) goal → is_below t.env goal s.state.goal ≡ true → step_in t.env (Some goal) s.state.goal ≡ extra → x.goal ≡ goal → EdgeCase t.env c t.patterns i x e → IsHeadOf t p extra m e
+  pub head-of : (totals : AreTotals t.env.limit t.least t.edges t.totals) (p : NumberedPlace) (s : IsNumbered t.env t.patterns p) (i goal extra m : ℕ) (e : Edge) (x : State) → slice_get t.edges m ≡ Some e → IsAt t.patterns t.env.depth i (rows_at t.env p.row) (left_at t.patterns.space s.state.set) goal → is_below t.env goal s.state.goal ≡ true → step_in t.env (Some goal) s.state.goal ≡ extra → x.goal ≡ goal → EdgeCase t.env c t.patterns i x e → IsHeadOf t p extra m e
   head-of totals p s i goal extra m e x there at below weighs same (inl v) = subst (λ o. IsHeadBy t p extra o (get_or t.totals m 0) e.tails) (sym v.declared) tt
   head-of totals p s i goal extra m e x there at below weighs same (inr (inl q)) = subst (λ o. IsHeadBy t p extra o (get_or t.totals m 0) e.tails) (sym q.declared) (decl-turn totals p s i goal extra m e x there at below weighs same q)
   head-of totals p s i goal extra m e x there at below weighs same (inr (inr q)) = subst (λ o. IsHeadBy t p extra o (get_or t.totals m 0) e.tails) (sym q.declared) tt
@@ -232,19 +232,19 @@ module _ (t : Tables) (c : Compression) (valid : IsValid t.env) (lengths : HasLe
   unfolding is_below
   pair-below a b h = or_right (a == b) (is_pair t.env.pairs a b) h
 
-  -- the edges of a state are ways at its spots: under a coercion those of the lower state are heads
-  pub way-of : (cases : (i m : ℕ) (x : State) (e : Edge) → slice_get t.patterns.states i ≡ Some x → slice_get t.edges m ≡ Some e → e.state ≡ i → EdgeCase t.env c t.patterns i x e) (totals : AreTotals t.env.limit t.least t.edges t.totals) (p : Spot) (s : IsSpot t.env t.patterns p) (m : ℕ) (e : Edge) → slice_get t.edges m ≡ Some e → e.state ≡ p.state → IsWayOf t p m e
+  -- the edges of a state are ways at its numbered places: under a coercion those of the lower state are heads
+  pub way-of : (cases : (i m : ℕ) (x : State) (e : Edge) → slice_get t.patterns.states i ≡ Some x → slice_get t.edges m ≡ Some e → e.state ≡ i → EdgeCase t.env c t.patterns i x e) (totals : AreTotals t.env.limit t.least t.edges t.totals) (p : NumberedPlace) (s : IsNumbered t.env t.patterns p) (m : ℕ) (e : Edge) → slice_get t.edges m ≡ Some e → e.state ≡ p.state → IsWayOf t p m e
   way-of cases totals p s m e there here = go (cases p.state m s.state e s.is there here)
     where
       own : EdgeCase t.env c t.patterns p.state s.state e → IsHeadOf t p 0 m e
-      own q = head-of totals p s p.state s.state.goal 0 m e s.state there (spot-at p s) (below-itself t.env s.state.goal) (step-same t.env s.state.goal s.state.goal refl) refl q
+      own q = head-of totals p s p.state s.state.goal 0 m e s.state there (numbered-at p s) (below-itself t.env s.state.goal) (step-same t.env s.state.goal s.state.goal refl) refl q
 
       go : EdgeCase t.env c t.patterns p.state s.state e → IsWayOf t p m e
       go (inl v) = subst (IsWayBy t p m e) (sym v.lower) (own (inl v))
       go (inr (inl q)) = subst (IsWayBy t p m e) (sym q.lower) (own (inr (inl q)))
       go (inr (inr q)) =
           let left = left_at t.patterns.space s.state.set in
-          let at = plain-at c t.patterns t.env.depth made.wanted made.steps p.state q.below (rows_at t.env p.row) left s.state.goal q.low (spot-at p s) q.tail in
+          let at = plain-at c t.patterns t.env.depth made.wanted made.steps p.state q.below (rows_at t.env p.row) left s.state.goal q.low (numbered-at p s) q.tail in
           let x = value-state t.env c t.patterns made p.state s.state q.low q.below s.is q.tail in
           let pair : is_pair t.env.pairs q.low s.state.goal ≡ true = pair-get t.env.pairs q.place (q.low, s.state.goal) q.is in
           let apart = (valid-pair t.env valid q.low s.state.goal pair).2 in

@@ -8,7 +8,7 @@ use Rattle.terms.specs.declared.parts.Parts.{Parts}
 use Rattle.terms.specs.declared.term.Term.{Term}
 use Rattle.terms.specs.declared.term.TermArg.{TermArg}
 use Rattle.terms.proofs.Halves.{symbol-even, symbol-odd}
-use Rattle.reconstruction.specs.Spots.{IsKept}
+use Rattle.reconstruction.specs.NumberedPlaces.{IsKept}
 use Rattle.reconstruction.specs.Tabled.{least_of, front_of}
 use Rattle.reconstruction.specs.Levelled.{AreComplete}
 use Rattle.partial_terms.specs.Built.{stacked, args_with, left_over, wanted_by, applied_by, applied, takes_by, takes, IsEnded, IsRead, IsTermOf}

@@ -164,7 +164,7 @@ flat-more f row k low = ap (flat_map f) (take_more row k 0 low) ∙ flat_map-app
 
 module _ (t : Tables) (a b : Arena) (p : Parent) (parent : IsParent t a p) (floors : AreFloors t.env t.edges t.totals t.floors) (i room : ℕ) (row part : List ℕ) (usable : IsUsable t.env.limit t.floors t.edges i row) (first : IsWithin t.floors room row part) (old new : List (ℕ × Item)) where
   -- the heads of a state's usable edges within a room
-  pub grew-heads : (step : ℕ) → t.env.limit ≤ p.base + (step + room) → AreHeadsAt t p.spot step i → Grew t a b (front_of a p.front) (flat_map (λ m. head_numbers t.env (edge_at t.edges m)) part) old new → Grew t a b (front_of a p.front) (heads_at t.env t.edges i) old new
+  pub grew-heads : (step : ℕ) → t.env.limit ≤ p.base + (step + room) → AreHeadsAt t p.place step i → Grew t a b (front_of a p.front) (flat_map (λ m. head_numbers t.env (edge_at t.edges m)) part) old new → Grew t a b (front_of a p.front) (heads_at t.env t.edges i) old new
   grew-heads step roomy turns h =
       let idle : (m : ℕ) → m < length t.edges → (edge_at t.edges m).state ≡ i → t.env.limit < p.base + (get_or t.floors m 0 + step) → picked (may t (front_of a p.front)) (head_numbers t.env (edge_at t.edges m)) ≡ [] = λ m low here heavy. (
       let e = edge_at t.edges m in
@@ -173,7 +173,7 @@ module _ (t : Tables) (a b : Arena) (p : Parent) (parent : IsParent t a p) (floo
       grew-usable t a b (front_of a p.front) (head_numbers t.env) i room row part old new usable first (λ m low here heavy. idle m low here (omega (arith, heavy))) (λ m low here heavy. idle m low here (omega (arith, heavy, roomy))) h
 
   -- what its usable edges within a room add
-  pub grew-ways : t.env.limit ≤ p.base + (0 + room) → AreWaysAt t p.spot i → Grew t a b (front_of a p.front) (flat_map (λ m. way_numbers t.env t.edges (edge_at t.edges m)) part) old new → Grew t a b (front_of a p.front) (ways_at t.env t.edges i) old new
+  pub grew-ways : t.env.limit ≤ p.base + (0 + room) → AreWaysAt t p.place i → Grew t a b (front_of a p.front) (flat_map (λ m. way_numbers t.env t.edges (edge_at t.edges m)) part) old new → Grew t a b (front_of a p.front) (ways_at t.env t.edges i) old new
   grew-ways roomy ways h =
       let idle : (m : ℕ) → m < length t.edges → (edge_at t.edges m).state ≡ i → t.env.limit < p.base + get_or t.floors m 0 → picked (may t (front_of a p.front)) (way_numbers t.env t.edges (edge_at t.edges m)) ≡ [] = λ m low here heavy. (
       let e = edge_at t.edges m in

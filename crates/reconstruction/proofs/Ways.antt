@@ -125,16 +125,16 @@ where-idle ok f i (e ∷ es) h =
     ap (picked ok) (where-cons f i e es) ∙ picked-append ok (cond (e.state == i) (f e) []) (numbers_where f i es) ∙ ap (λ l. l ++ picked ok (numbers_where f i es)) first ∙ where-idle ok f i es (λ m x is. h (suc m) x is)
 
 -- a head that is above the limit may not come to a term
-pub head-idle : (t : Tables) (a : Arena) (p : Parent) (step w : ℕ) (o : Option ℕ) (tails : List ℕ) → IsParent t a p → IsHeadBy t p.spot step o w tails → ((k : ℕ) → o ≡ Some k → t.env.limit < p.base + (w + step)) → picked (may t (front_of a p.front)) (numbers_of_head o) ≡ []
+pub head-idle : (t : Tables) (a : Arena) (p : Parent) (step w : ℕ) (o : Option ℕ) (tails : List ℕ) → IsParent t a p → IsHeadBy t p.place step o w tails → ((k : ℕ) → o ≡ Some k → t.env.limit < p.base + (w + step)) → picked (may t (front_of a p.front)) (numbers_of_head o) ≡ []
 head-idle t a p step w None tails parent turn heavy = picked-none (may t (front_of a p.front))
 head-idle t a p step w (Some k) tails parent turn heavy =
     picked-one (may t (front_of a p.front)) (2 * k + 1) ∙ ap (λ b. cond b ((2 * k + 1) ∷ []) []) (too_heavy t a p (2 * k + 1) (w + step) _ parent turn.head (heavy k refl))
 
 -- nor the heads of an edge whose floor is above it
-pub way-idle : (t : Tables) (a : Arena) (p : Parent) (m : ℕ) (e : Edge) → IsParent t a p → IsWayOf t p.spot m e → IsFloor t.env t.edges t.totals m e (get_or t.floors m 0) → t.env.limit < p.base + get_or t.floors m 0 → picked (may t (front_of a p.front)) (way_numbers t.env t.edges e) ≡ []
+pub way-idle : (t : Tables) (a : Arena) (p : Parent) (m : ℕ) (e : Edge) → IsParent t a p → IsWayOf t p.place m e → IsFloor t.env t.edges t.totals m e (get_or t.floors m 0) → t.env.limit < p.base + get_or t.floors m 0 → picked (may t (front_of a p.front)) (way_numbers t.env t.edges e) ≡ []
 way-idle t a p m e parent way floor heavy = go (lower_in t.env e.source e.tails) refl way
   where
-    go : (o : Option ℕ) → lower_in t.env e.source e.tails ≡ o → IsWayBy t p.spot m e o → picked (may t (front_of a p.front)) (way_numbers_by t.env t.edges e o) ≡ []
+    go : (o : Option ℕ) → lower_in t.env e.source e.tails ≡ o → IsWayBy t p.place m e o → picked (may t (front_of a p.front)) (way_numbers_by t.env t.edges e o) ≡ []
     go None is turn = head-idle t a p 0 (get_or t.totals m 0) (declared_in t.env e.source) e.tails parent turn (λ k declared. (let low = floor.head k declared in omega (arith, heavy, low)))
     go (Some lower) is turns = where-idle (may t (front_of a p.front)) (head_numbers t.env) lower t.edges (λ n f at here. (
         head-idle t a p 10 (get_or t.totals n 0) (declared_in t.env f.source) f.tails parent (turns n f at here)

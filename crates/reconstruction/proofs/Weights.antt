@@ -11,7 +11,7 @@ use Rattle.patterns.specs.States.{types_at, left_at}
 use Rattle.patterns.specs.declared.state.State.{State}
 use Rattle.least_weights.specs.LeastWeight.{IsLeastWeight, AreLeastWeights, place_at}
 use Rattle.partial_terms.specs.Fronts.{same}
-use Rattle.reconstruction.specs.Spots.{IsKept, describes, number, first_weight, least_at}
+use Rattle.reconstruction.specs.NumberedPlaces.{IsKept, describes, number, first_weight, least_at}
 use Rattle.partial_terms.proofs.Popping.{same-true}
 
 pub same-refl : (a : List ℕ) → same a a ≡ true

@@ -7,7 +7,7 @@ use Rattle.terms.specs.Reading.{Reading, turn}
 use Rattle.least_weights.specs.LeastWeight.{AreLeastWeights}
 use Rattle.partial_terms.specs.Leasts.{AreLeast}
 use Rattle.partial_terms.specs.Search.{IsSearch}
-use Rattle.reconstruction.specs.Spots.{IsSpot, IsKept}
+use Rattle.reconstruction.specs.NumberedPlaces.{IsNumbered, IsKept}
 use Rattle.reconstruction.specs.Tabled.{place_of, least_of, front_of, AreHeld, seen}
 use Rattle.reconstruction.specs.Totals.{AreTotals}
 use Rattle.reconstruction.specs.Usable.{AreFloors, AreUsable}
@@ -15,25 +15,25 @@ use Rattle.reconstruction.specs.Ways.{AreWaysAt}
 use Rattle.reconstruction.specs.Variables.{numbers_at}
 use Rattle.reconstruction.specs.declared.item.Item.{Item}
 use Rattle.reconstruction.specs.declared.item.Arena.{Arena}
-use Rattle.reconstruction.specs.declared.spot.Spot.{Spot}
+use Rattle.reconstruction.specs.declared.numbered_place.NumberedPlace.{NumberedPlace}
 use Rattle.reconstruction.specs.declared.tables.Tables.{Tables}
 
 -- What the tables must say for a search to be complete: least weights, at the goal too, the totals of the edges and
--- those that can be used, and at each spot edges that are turns there, of which each number that may come to a term
--- within the limit is added once.
+-- those that can be used, and at each numbered place edges that are turns there, of which each number that may come
+-- to a term within the limit is added once.
 pub record AreComplete (t : Tables) : Type 0 where
   pub valid : IsValid t.env
   pub weights : AreLeastWeights t.env t.patterns t.least
   pub least : AreLeast t.env t.env.limit (IsKept t.env t.patterns) (least_of t)
   pub root : IsKept t.env t.patterns (goal_place t.env)
-  pub start : IsSpot t.env t.patterns (record { row = 0; state = 0 })
+  pub start : IsNumbered t.env t.patterns (record { row = 0; state = 0 })
   pub start_is : place_of t (record { row = 0; state = 0 }) ≡ goal_place t.env
-  pub ways : (p : Spot) → IsSpot t.env t.patterns p → AreWaysAt t p p.state
-  pub once : (p : Spot) → IsSpot t.env t.patterns p → (n : ℕ) → count (λ m. m == n) (numbers_at t p) ≤ 1
+  pub ways : (p : NumberedPlace) → IsNumbered t.env t.patterns p → AreWaysAt t p p.state
+  pub once : (p : NumberedPlace) → IsNumbered t.env t.patterns p → (n : ℕ) → count (λ m. m == n) (numbers_at t p) ≤ 1
   pub totals : AreTotals t.env.limit t.least t.edges t.totals
   pub floors : AreFloors t.env t.edges t.totals t.floors
   pub usable : AreUsable t.env.limit t.floors t.edges t.usable
-  pub complete : (p : Spot) → IsSpot t.env t.patterns p → (n : ℕ) (r : Reading) → turn t.env (place_of t p) n ≡ Some r → r.weight + total (least_of t) r.open_places ≤ t.env.limit → 1 ≤ count (λ m. m == n) (numbers_at t p)
+  pub complete : (p : NumberedPlace) → IsNumbered t.env t.patterns p → (n : ℕ) (r : Reading) → turn t.env (place_of t p) n ≡ Some r → r.weight + total (least_of t) r.open_places ≤ t.env.limit → 1 ≤ count (λ m. m == n) (numbers_at t p)
 
 -- the popped item that is held, before the items of the queue
 abbrev pub with_held : Option (ℕ × Item) → List (ℕ × Item) → List (ℕ × Item)

@@ -1,5 +1,5 @@
 -- Partial terms, the search that grows them, and what it pops.
-pub mod Spots
+pub mod NumberedPlaces
 pub mod Tabled
 pub mod Totals
 pub mod Ways

@@ -6,27 +6,27 @@ use Rattle.terms.specs.Reading.{Reading, turn}
 use Rattle.partial_terms.specs.Fronts.{reading, key_within}
 use Rattle.partial_terms.specs.Search.{key_of, children}
 use Rattle.partial_terms.specs.Chained.{IsGrown}
-use Rattle.reconstruction.specs.Spots.{spot_place, IsSpot, least_at}
+use Rattle.reconstruction.specs.NumberedPlaces.{numbered_place_in, IsNumbered, least_at}
 use Rattle.reconstruction.specs.Totals.{IsCapped}
 use Rattle.reconstruction.specs.declared.item.Item.{Item}
 use Rattle.reconstruction.specs.declared.item.Arena.{Arena}
 use Rattle.reconstruction.specs.declared.item.Parent.{Parent}
-use Rattle.reconstruction.specs.declared.spot.Spot.{Spot}
+use Rattle.reconstruction.specs.declared.numbered_place.NumberedPlace.{NumberedPlace}
 use Rattle.reconstruction.specs.declared.tables.Tables.{Tables}
 
--- the place of a spot
-abbrev pub place_of : Tables → Spot → Place
-place_of t p = spot_place t.env t.patterns p
+-- the place that the numbers stand for
+abbrev pub place_of : Tables → NumberedPlace → Place
+place_of t p = numbered_place_in t.env t.patterns p
 
-abbrev pub places_of : Tables → List Spot → List Place
+abbrev pub places_of : Tables → List NumberedPlace → List Place
 places_of t ps = map (place_of t) ps
 
 -- the least weight at a place
 abbrev pub least_of : Tables → Place → ℕ
 least_of t p = least_at t.env t.patterns t.least p
 
-abbrev pub AreSpots : Tables → List Spot → Type 0
-AreSpots t ps = All (IsSpot t.env t.patterns) ps
+abbrev pub AreNumbered : Tables → List NumberedPlace → Type 0
+AreNumbered t ps = All (IsNumbered t.env t.patterns) ps
 
 -- the last number of a front stands first in its list
 abbrev pub backwards : List ℕ → List ℕ
@@ -36,14 +36,14 @@ backwards (x ∷ xs) = backwards xs ++ x ∷ []
 abbrev pub front_of : Arena → ℕ → List ℕ
 front_of a i = backwards (get_or a.fronts i [])
 
-abbrev pub stack_of : Arena → ℕ → List Spot
+abbrev pub stack_of : Arena → ℕ → List NumberedPlace
 stack_of a i = get_or a.stacks i []
 
 -- an item is a partial term under its key
 pub record IsHeld (t : Tables) (a : Arena) (k : ℕ) (i : Item) : Type 0 where
   pub front_in : i.front < length a.fronts
   pub stack_in : i.stack < length a.stacks
-  pub spots : AreSpots t (stack_of a i.stack)
+  pub numbered : AreNumbered t (stack_of a i.stack)
   pub weight : ℕ
   pub is : reading t.env (goal_place t.env) (front_of a i.front) ≡ Some (record { weight = weight; open_places = places_of t (stack_of a i.stack) })
   pub keyed : k ≡ weight + total (least_of t) (places_of t (stack_of a i.stack))
@@ -56,10 +56,10 @@ AreHeld t a items = All (λ q. IsHeld t a q.0 q.1) items
 pub record IsParent (t : Tables) (a : Arena) (p : Parent) : Type 0 where
   pub front_in : p.front < length a.fronts
   pub rest_in : p.rest < length a.stacks
-  pub first : IsSpot t.env t.patterns p.spot
-  pub others : AreSpots t (stack_of a p.rest)
+  pub first : IsNumbered t.env t.patterns p.place
+  pub others : AreNumbered t (stack_of a p.rest)
   pub weight : ℕ
-  pub is : reading t.env (goal_place t.env) (front_of a p.front) ≡ Some (record { weight = weight; open_places = place_of t p.spot ∷ places_of t (stack_of a p.rest) })
+  pub is : reading t.env (goal_place t.env) (front_of a p.front) ≡ Some (record { weight = weight; open_places = place_of t p.place ∷ places_of t (stack_of a p.rest) })
   pub base : p.base ≡ weight + total (least_of t) (places_of t (stack_of a p.rest))
 
 -- lists are only added
@@ -67,17 +67,17 @@ pub record AreGrown (old new : Arena) : Type 0 where
   pub fronts : IsGrown old.fronts new.fronts
   pub stacks : IsGrown old.stacks new.stacks
 
--- a head at a place, with the spots that it opens and the least total of what it heads
-pub record IsTurn (t : Tables) (p : Place) (n w : ℕ) (spots : List Spot) : Type 0 where
+-- a head at a place, with the numbered places that it opens and the least total of what it heads
+pub record IsTurn (t : Tables) (p : Place) (n w : ℕ) (numbered : List NumberedPlace) : Type 0 where
   pub weight : ℕ
-  pub is : turn t.env p n ≡ Some (record { weight = weight; open_places = places_of t spots })
-  pub opened : AreSpots t spots
-  pub capped : IsCapped t.env.limit w (weight + total (least_of t) (places_of t spots))
+  pub is : turn t.env p n ≡ Some (record { weight = weight; open_places = places_of t numbered })
+  pub opened : AreNumbered t numbered
+  pub capped : IsCapped t.env.limit w (weight + total (least_of t) (places_of t numbered))
 
--- the spots of these states under one row
-abbrev pub spots_under : ℕ → List ℕ → List Spot
-spots_under row [] = []
-spots_under row (s ∷ more) = record { row = row; state = s } ∷ spots_under row more
+-- the numbered places of these states under one row
+abbrev pub numbered_under : ℕ → List ℕ → List NumberedPlace
+numbered_under row [] = []
+numbered_under row (s ∷ more) = record { row = row; state = s } ∷ numbered_under row more
 
 -- what follows a front by one number
 abbrev pub child : Tables → List ℕ → ℕ → Option Reading

@@ -6,7 +6,7 @@ use Rattle.terms.specs.declared.parts.Arg.{Arg}
 use Rattle.terms.specs.declared.parts.Arg.TheVariants.{Fun}
 use Rattle.terms.specs.declared.parts.Parts.{Parts}
 use Rattle.edges.specs.Edges.{Edge}
-use Rattle.reconstruction.specs.Spots.{number}
+use Rattle.reconstruction.specs.NumberedPlaces.{number}
 
 -- the least weight at a state, above the limit where there is none
 abbrev pub number_of : ℕ → List (Option ℕ) → ℕ → ℕ

@@ -1,6 +1,7 @@
 -- The edges of a state that a search can use, the lightest first.
 use Rattle.std.specs.Prelude.{◌≡◌, ℕ, zero, suc, ◌+◌, ◌<◌, ◌≤◌, ◌&&◌, ◌==◌, nat_le, cond, List, [], ◌∷◌, ◌++◌, length, take, slice_get, slice_index_or, Some, IsPermutation}
 use Rattle.std.specs.List.Sorted.{IsNonDecreasingBy}
+use Rattle.terms.specs.Weights.{coercion_weight}
 use Rattle.terms.specs.declared.parts.Parts.{Parts}
 use Rattle.edges.specs.Edges.{Edge}
 use Rattle.reconstruction.specs.Totals.{declared_in, lower_in}
@@ -10,7 +11,7 @@ use Rattle.reconstruction.specs.Ways.{edge_at}
 -- the lower state.
 pub record IsFloor (g : Parts) (edges : List Edge) (totals : List ℕ) (m : ℕ) (e : Edge) (floor : ℕ) : Type 0 where
   pub head : (k : ℕ) → declared_in g e.source ≡ Some k → floor ≤ slice_index_or totals m 0
-  pub under : (lower n k : ℕ) (f : Edge) → lower_in g e.source e.tails ≡ Some lower → slice_get edges n ≡ Some f → f.state ≡ lower → declared_in g f.source ≡ Some k → floor ≤ slice_index_or totals n 0 + 10
+  pub under : (lower n k : ℕ) (f : Edge) → lower_in g e.source e.tails ≡ Some lower → slice_get edges n ≡ Some f → f.state ≡ lower → declared_in g f.source ≡ Some k → floor ≤ slice_index_or totals n 0 + coercion_weight g
 
 -- the floor of each edge
 abbrev pub AreFloors : Parts → List Edge → List ℕ → List ℕ → Type 0

@@ -1,11 +1,12 @@
 -- The numbers that the edges at a state add to a front.
 use Rattle.std.specs.Prelude.{◌≡◌, ℕ, ◌+◌, ◌*◌, ◌<◌, ◌≤◌, ◌==◌, cond, List, [], ◌∷◌, ◌++◌, slice_get, slice_index_or, Option, Some, None}
 use Rattle.terms.specs.Count.{count}
+use Rattle.terms.specs.Weights.{coercion_weight}
 use Rattle.terms.specs.declared.parts.Parts.{Parts}
 use Rattle.edges.specs.Edges.{Edge}
-use Rattle.reconstruction.specs.Tabled.{IsTurn, spots_under, place_of}
+use Rattle.reconstruction.specs.Tabled.{IsTurn, numbered_under, place_of}
 use Rattle.reconstruction.specs.Totals.{declared_in, lower_in, row_under}
-use Rattle.reconstruction.specs.declared.spot.Spot.{Spot}
+use Rattle.reconstruction.specs.declared.numbered_place.NumberedPlace.{NumberedPlace}
 use Rattle.reconstruction.specs.declared.tables.Tables.{Tables}
 
 -- the edge of a number; where there is none it doesn't matter
@@ -43,31 +44,31 @@ ways_at g edges i = numbers_where (way_numbers g edges) i edges
 abbrev pub often : ℕ → List ℕ → ℕ
 often n ns = count (λ m. m == n) ns
 
--- a declaration's turn at a spot, where a coercion weighs so much
-pub record Turns (t : Tables) (p : Spot) (step k w : ℕ) (spots : List Spot) : Type 0 where
+-- a declaration's turn at a numbered place, where a coercion weighs so much
+pub record Turns (t : Tables) (p : NumberedPlace) (step k w : ℕ) (numbered : List NumberedPlace) : Type 0 where
   pub number : k < 2147483648
   pub small : w ≤ 10001
-  pub head : IsTurn t (place_of t p) (2 * k + 1) (w + step) spots
+  pub head : IsTurn t (place_of t p) (2 * k + 1) (w + step) numbered
 
--- the declaration of an edge is a turn at the spot
-abbrev pub IsHeadBy : Tables → Spot → ℕ → Option ℕ → ℕ → List ℕ → Type 0
+-- the declaration of an edge is a turn at the numbered place
+abbrev pub IsHeadBy : Tables → NumberedPlace → ℕ → Option ℕ → ℕ → List ℕ → Type 0
 IsHeadBy t p step None w tails = Unit {0}
-IsHeadBy t p step (Some k) w tails = Turns t p step k w (spots_under (row_under t.env p.row k) tails)
+IsHeadBy t p step (Some k) w tails = Turns t p step k w (numbered_under (row_under t.env p.row k) tails)
 
-abbrev pub IsHeadOf : Tables → Spot → ℕ → ℕ → Edge → Type 0
+abbrev pub IsHeadOf : Tables → NumberedPlace → ℕ → ℕ → Edge → Type 0
 IsHeadOf t p step m e = IsHeadBy t p step (declared_in t.env e.source) (slice_index_or t.totals m 0) e.tails
 
 -- so is that of each edge at a state
-abbrev pub AreHeadsAt : Tables → Spot → ℕ → ℕ → Type 0
+abbrev pub AreHeadsAt : Tables → NumberedPlace → ℕ → ℕ → Type 0
 AreHeadsAt t p step i = (m : ℕ) (e : Edge) → slice_get t.edges m ≡ Some e → e.state ≡ i → IsHeadOf t p step m e
 
 -- under a coercion those of the edges at the lower state
-abbrev pub IsWayBy : Tables → Spot → ℕ → Edge → Option ℕ → Type 0
+abbrev pub IsWayBy : Tables → NumberedPlace → ℕ → Edge → Option ℕ → Type 0
 IsWayBy t p m e None = IsHeadOf t p 0 m e
-IsWayBy t p m e (Some lower) = AreHeadsAt t p 10 lower
+IsWayBy t p m e (Some lower) = AreHeadsAt t p (coercion_weight t.env) lower
 
-abbrev pub IsWayOf : Tables → Spot → ℕ → Edge → Type 0
+abbrev pub IsWayOf : Tables → NumberedPlace → ℕ → Edge → Type 0
 IsWayOf t p m e = IsWayBy t p m e (lower_in t.env e.source e.tails)
 
-abbrev pub AreWaysAt : Tables → Spot → ℕ → Type 0
+abbrev pub AreWaysAt : Tables → NumberedPlace → ℕ → Type 0
 AreWaysAt t p i = (m : ℕ) (e : Edge) → slice_get t.edges m ≡ Some e → e.state ≡ i → IsWayOf t p m e

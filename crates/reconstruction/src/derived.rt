@@ -93,7 +93,7 @@ fn floors_for(
     ensures floors { IfOk result (λ floors. AreFloors env.now edges.now totals.now floors) }
 {
     let lightest = lightest_for(alloc, env, patterns, edges, totals)?;
-    all_floors(alloc, env.parts(), edges, totals, lightest.as_slice())
+    all_floors(alloc, env, edges, totals, lightest.as_slice())
 }
 
 /// The usable edges of the states. Want of memory is also answered where there would be 2^32 states.

@@ -2,7 +2,8 @@
 
 ghost use Rattle.std.specs.Prelude.{◌≡◌, ◌+◌, ◌*◌, ◌<◌, ◌≤◌, ◌∷◌, [], OnOk, slice_index_or, length};
 ghost use Rattle.terms.specs.Faults.{IsValid};
-ghost use Rattle.reconstruction.specs.Tabled.{front_of, place_of, spots_under, IsParent, IsTurn, AreHeld, AreGrown, Grew};
+ghost use Rattle.terms.specs.Weights.{coercion_weight};
+ghost use Rattle.reconstruction.specs.Tabled.{front_of, place_of, numbered_under, IsParent, IsTurn, AreHeld, AreGrown, Grew};
 ghost use Rattle.reconstruction.specs.Totals.{lower_in, row_by, row_under, AreTotals};
 ghost use Rattle.reconstruction.specs.Usable.{AreFloors, AreUsable, IsWithin};
 ghost use Rattle.reconstruction.specs.Ways.{edge_at, head_numbers, heads_at, way_numbers, ways_at, IsHeadOf, AreHeadsAt, IsWayOf, AreWaysAt};
@@ -86,14 +87,14 @@ fn grow_decl(
     requires parent { IsParent tables.now arena.old parent }
     requires children { AreHeld tables.now arena.old children.old.items }
     requires number { decl < 2147483648 }
-    requires turn { IsTurn tables.now (place_of tables.now parent.spot) (2 * decl + 1) total (spots_under (row_under tables.now.env parent.spot.row decl) tails.now) }
+    requires turn { IsTurn tables.now (place_of tables.now parent.place) (2 * decl + 1) total (numbered_under (row_under tables.now.env parent.place.row decl) tails.now) }
     ensures grew { OnOk result (Grew tables.now arena.old arena.new (front_of arena.old parent.front) ((2 * decl + 1) ∷ []) children.old.items children.new.items) }
     ensures grown { AreGrown arena.old arena.new }
 {
     let head = Head {
         number: 2 * decl + 1,
         total,
-        row: row_under(tables.env.parts(), parent.spot.row, decl),
+        row: row_under(tables.env.parts(), parent.place.row, decl),
     };
     grow_by(tables, arena, children, parent, head, tails)
 }
@@ -110,11 +111,11 @@ fn grow_head(
 ) -> Result<(), AllocError>
     requires parent { IsParent tables.now arena.old parent }
     requires children { AreHeld tables.now arena.old children.old.items }
-    requires step { step ≤ 10 }
+    requires step { step ≤ coercion_weight tables.now.env }
     requires in_range { edge < length tables.now.edges }
     requires totals { AreTotals tables.now.env.limit tables.now.least tables.now.edges tables.now.totals }
     requires valid { IsValid tables.now.env }
-    requires turn { IsHeadOf tables.now parent.spot step edge (edge_at tables.now.edges edge) }
+    requires turn { IsHeadOf tables.now parent.place step edge (edge_at tables.now.edges edge) }
     ensures grew { OnOk result (Grew tables.now arena.old arena.new (front_of arena.old parent.front) (head_numbers tables.now.env (edge_at tables.now.edges edge)) children.old.items children.new.items) }
     ensures grown { AreGrown arena.old arena.new }
 {
@@ -148,8 +149,8 @@ fn grow_heads(
     requires valid { IsValid tables.now.env }
     requires floors { AreFloors tables.now.env tables.now.edges tables.now.totals tables.now.floors }
     requires usable { AreUsable tables.now.env.limit tables.now.floors tables.now.edges tables.now.usable }
-    requires step { step ≤ 10 }
-    requires turns { AreHeadsAt tables.now parent.spot step state }
+    requires step { step ≤ coercion_weight tables.now.env }
+    requires turns { AreHeadsAt tables.now parent.place step state }
     ensures grew { OnOk result (Grew tables.now arena.old arena.new (front_of arena.old parent.front) (heads_at tables.now.env tables.now.edges state) children.old.items children.new.items) }
     ensures grown { AreGrown arena.old arena.new }
 {
@@ -175,12 +176,15 @@ fn grow_edge(
     requires floors { AreFloors tables.now.env tables.now.edges tables.now.totals tables.now.floors }
     requires usable { AreUsable tables.now.env.limit tables.now.floors tables.now.edges tables.now.usable }
     requires in_range { edge < length tables.now.edges }
-    requires way { IsWayOf tables.now parent.spot edge (edge_at tables.now.edges edge) }
+    requires way { IsWayOf tables.now parent.place edge (edge_at tables.now.edges edge) }
     ensures grew { OnOk result (Grew tables.now arena.old arena.new (front_of arena.old parent.front) (way_numbers tables.now.env tables.now.edges (edge_at tables.now.edges edge)) children.old.items children.new.items) }
     ensures grown { AreGrown arena.old arena.new }
 {
     match lower_of(tables, edge) {
-        Some(lower) => grow_heads(tables, arena, children, parent, 10, lower),
+        Some(lower) => {
+            let coercion = tables.env.coercion_weight();
+            grow_heads(tables, arena, children, parent, coercion, lower)
+        }
         None => grow_head(tables, arena, children, parent, 0, edge),
     }
 }
@@ -199,11 +203,11 @@ pub fn grow_edges(
     requires valid { IsValid tables.now.env }
     requires floors { AreFloors tables.now.env tables.now.edges tables.now.totals tables.now.floors }
     requires usable { AreUsable tables.now.env.limit tables.now.floors tables.now.edges tables.now.usable }
-    requires ways { AreWaysAt tables.now parent.spot parent.spot.state }
-    ensures grew { OnOk result (Grew tables.now arena.old arena.new (front_of arena.old parent.front) (ways_at tables.now.env tables.now.edges parent.spot.state) children.old.items children.new.items) }
+    requires ways { AreWaysAt tables.now parent.place parent.place.state }
+    ensures grew { OnOk result (Grew tables.now arena.old arena.new (front_of arena.old parent.front) (ways_at tables.now.env tables.now.edges parent.place.state) children.old.items children.new.items) }
     ensures grown { AreGrown arena.old arena.new }
 {
-    let edges = usable_at(tables, parent.spot.state, room_of(tables, parent, 0));
+    let edges = usable_at(tables, parent.place.state, room_of(tables, parent, 0));
     for edge in edges {
         grow_edge(tables, arena, children, parent, *edge)?;
     }

@@ -1,4 +1,4 @@
-use crate::spot::Spot;
+use crate::numbered_place::NumberedPlace;
 use partial_terms::Chains;
 
 /// A partial term: the list of its front, the last number first, and the list of its open places.
@@ -12,7 +12,7 @@ pub struct Item {
 #[derive(Drop)]
 pub struct Arena {
     pub fronts: Chains<u32>,
-    pub stacks: Chains<Spot>,
+    pub stacks: Chains<NumberedPlace>,
 }
 
 /// A partial term whose first open place is to be filled: its key without that place's least weight, that
@@ -21,7 +21,7 @@ pub struct Arena {
 pub struct Parent {
     pub front: u32,
     pub base: u32,
-    pub spot: Spot,
+    pub place: NumberedPlace,
     pub rest: u32,
 }
 

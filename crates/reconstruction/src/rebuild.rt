@@ -121,13 +121,13 @@ impl Rebuild {
                 self.agenda.drop_held();
                 Ok(true)
             }
-            Some((spot, rest)) => {
-                let base = key - least_at(&self.tables, spot);
+            Some((place, rest)) => {
+                let base = key - least_at(&self.tables, place);
                 let front = item.front;
                 let parent = Parent {
                     front,
                     base,
-                    spot,
+                    place,
                     rest,
                 };
                 self.children.clear();

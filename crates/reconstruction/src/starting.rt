@@ -2,23 +2,23 @@
 
 ghost use Rattle.std.specs.Prelude.{◌≡◌, [], ◌∷◌, OnOk};
 ghost use Rattle.reconstruction.specs.Levelled.{AreComplete, IsAt};
-ghost use Rattle.reconstruction.specs.Spots.{IsSpot};
+ghost use Rattle.reconstruction.specs.NumberedPlaces.{IsNumbered};
 ghost use Rattle.reconstruction.specs.Tabled.{place_of, least_of};
 
 use crate::item::{Arena, Item};
-use crate::spot::Spot;
+use crate::numbered_place::NumberedPlace;
 use crate::tables::Tables;
 use std::alloc::AllocError;
 use weight_queue::WeightQueue;
 
-/// The least weight at a spot, above the limit where no term within it fits.
-pub fn least_at(tables: &Tables, spot: Spot) -> u32
+/// The least weight at a numbered place, above the limit where no term within it fits.
+pub fn least_at(tables: &Tables, place: NumberedPlace) -> u32
     requires complete { AreComplete tables.now }
-    requires spot { IsSpot tables.now.env tables.now.patterns spot }
-    ensures value { result ≡ least_of tables.now (place_of tables.now spot) }
+    requires place { IsNumbered tables.now.env tables.now.patterns place }
+    ensures value { result ≡ least_of tables.now (place_of tables.now place) }
 {
     let limit = tables.env.parts().limit;
-    match tables.least.least(spot.state) {
+    match tables.least.least(place.state) {
         Some(weight) => weight,
         None => limit + 1,
     }
@@ -37,12 +37,12 @@ pub fn begin(
     ensures at { OnOk result (IsAt tables.now arena.new 0 queue.new.items []) }
     ensures pops { queue.new.pops ≡ queue.old.pops }
 {
-    let spot = Spot { row: 0, state: 0 };
-    let key = least_at(tables, spot);
+    let place = NumberedPlace { row: 0, state: 0 };
+    let key = least_at(tables, place);
     if key > tables.env.parts().limit {
         return Ok(());
     }
-    let stack = arena.stacks.cons(spot, 0)?;
+    let stack = arena.stacks.cons(place, 0)?;
     queue.reserve(1)?;
     queue.push(key, Item { front: 0, stack });
     Ok(())

@@ -11,7 +11,7 @@ use edges::Edges;
 use lists::Items;
 use std::alloc::{AllocError, Global};
 use succinct::Rows;
-use terms::Parts;
+use terms::{Env, Parts};
 
 /// The state of the lower type, where a source is a pair.
 pub fn lower(parts: &Parts, source: Option<u32>, tails: &[u32]) -> Option<u32>
@@ -30,12 +30,18 @@ pub fn lower(parts: &Parts, source: Option<u32>, tails: &[u32]) -> Option<u32>
     Some(tails[0])
 }
 
-/// What an edge totals at least under a coercion, where it is one.
-fn lower_floor(parts: &Parts, lightest: &[u32], source: Option<u32>, tails: &[u32]) -> u32
-    ensures under { (i : ℕ) → lower_in parts.now source tails.now ≡ Some i → result ≤ slice_index_or lightest.now i 0 + 10 }
+/// What an edge totals at least under a coercion of this weight, where it is one.
+fn lower_floor(
+    parts: &Parts,
+    coercion: u32,
+    lightest: &[u32],
+    source: Option<u32>,
+    tails: &[u32],
+) -> u32
+    ensures under { (i : ℕ) → lower_in parts.now source tails.now ≡ Some i → result ≤ slice_index_or lightest.now i 0 + coercion }
 {
     match lower(parts, source, tails) {
-        Some(state) => number_at(lightest, state).saturating_add(10),
+        Some(state) => number_at(lightest, state).saturating_add(coercion),
         None => u32::MAX,
     }
 }
@@ -43,18 +49,20 @@ fn lower_floor(parts: &Parts, lightest: &[u32], source: Option<u32>, tails: &[u3
 /// The floors of all edges, where no declaration's edge is below the lightest of its state.
 pub fn all_floors(
     alloc: Global,
-    parts: &Parts,
+    env: &Env,
     edges: &Edges,
     totals: &[u32],
     lightest: &[u32],
 ) -> Result<Items<u32>, AllocError>
-    requires light { AreLightest parts.now edges.now totals.now lightest.now }
-    ensures floors { IfOk result (λ floors. AreFloors parts.now edges.now totals.now floors) }
+    requires light { AreLightest env.now edges.now totals.now lightest.now }
+    ensures floors { IfOk result (λ floors. AreFloors env.now edges.now totals.now floors) }
 {
+    let parts = env.parts();
+    let coercion = env.coercion_weight();
     let mut floors = Items::new(alloc);
     for edge in 0..edges.len() {
         let source = edges.source(edge);
-        let under = lower_floor(parts, lightest, source, edges.tails(edge));
+        let under = lower_floor(parts, coercion, lightest, source, edges.tails(edge));
         floors.push(lighter(parts, under, source, number_at(totals, edge)))?;
     }
     Ok(floors)

@@ -3,8 +3,8 @@
 ghost use Rattle.std.specs.Prelude.{◌≡◌, ◌+◌, ◌*◌, ◌<◌, ◌≤◌, [], ◌∷◌, All, OnOk, slice_get, Some};
 ghost use Rattle.terms.specs.Faults.{IsValid};
 ghost use Rattle.terms.specs.Typing.{joined};
-ghost use Rattle.terms.specs.Weights.{step};
-ghost use Rattle.reconstruction.specs.Spots.{row_of_args, rows_at};
+ghost use Rattle.terms.specs.Weights.{variable_weight, step_in};
+ghost use Rattle.reconstruction.specs.NumberedPlaces.{row_of_args, rows_at};
 ghost use Rattle.reconstruction.specs.Tabled.{place_of, front_of, IsParent, AreHeld, AreGrown, Grew};
 ghost use Rattle.reconstruction.specs.Totals.{AreTotals};
 ghost use Rattle.reconstruction.specs.Usable.{AreFloors, AreUsable};
@@ -14,10 +14,10 @@ ghost use Rattle.reconstruction.specs.Variables.{variables, bound_at, numbers_at
 use crate::growing::grow_by;
 use crate::heads::grow_edges;
 use crate::item::{Arena, Head, Item, Parent};
-use crate::spot::Spot;
+use crate::numbered_place::NumberedPlace;
 use crate::tables::Tables;
 use std::alloc::AllocError;
-use terms::Arg;
+use terms::{Arg, Env};
 
 /// The parameters of the lambda that is the only argument.
 fn only_row(args: &[Arg]) -> &[u32]
@@ -46,21 +46,21 @@ fn types_at(tables: &Tables, row: u32) -> &[u32]
     }
 }
 
-/// The type that is wanted at a spot.
-fn goal_at(tables: &Tables, spot: Spot) -> u32
-    ensures value { result ≡ (place_of tables.now spot).wanted }
+/// The type that is wanted at a numbered place.
+fn goal_at(tables: &Tables, place: NumberedPlace) -> u32
+    ensures value { result ≡ (place_of tables.now place).wanted }
 {
-    match tables.patterns.states().get(spot.state as usize) {
+    match tables.patterns.states().get(place.state as usize) {
         Some(state) => state.goal,
         None => 0,
     }
 }
 
-/// What a coercion weighs, with the variable below it.
-fn with_step(from: u32, to: u32) -> u32
-    ensures value { result ≡ 1 + step (Some from) to }
+/// What a variable weighs with the coercion above it.
+fn with_step(env: &Env, from: u32, to: u32) -> u32
+    ensures value { result ≡ variable_weight env.now + step_in env.now (Some from) to }
 {
-    if from == to { 1 } else { 11 }
+    env.variable_weight() + env.step(from, to)
 }
 
 /// Adds what grows by a variable of this type.
@@ -75,15 +75,15 @@ fn grow_variable(
     requires parent { IsParent tables.now arena.old parent }
     requires children { AreHeld tables.now arena.old children.old.items }
     requires small { number < 2147483648 }
-    requires bound { slice_get (joined (rows_at tables.now.env parent.spot.row)) number ≡ Some bound }
+    requires bound { slice_get (joined (rows_at tables.now.env parent.place.row)) number ≡ Some bound }
     ensures grew { OnOk result (Grew tables.now arena.old arena.new (front_of arena.old parent.front) ((2 * number) ∷ []) children.old.items children.new.items) }
     ensures grown { AreGrown arena.old arena.new }
 {
-    let goal = goal_at(tables, parent.spot);
+    let goal = goal_at(tables, parent.place);
     if !tables.env.is_below(bound, goal) {
         return Ok(());
     }
-    let total = with_step(bound, goal);
+    let total = with_step(&tables.env, bound, goal);
     let head = Head {
         number: 2 * number,
         total,
@@ -101,10 +101,10 @@ fn grow_variables(
 ) -> Result<(), AllocError>
     requires parent { IsParent tables.now arena.old parent }
     requires children { AreHeld tables.now arena.old children.old.items }
-    ensures grew { OnOk result (Grew tables.now arena.old arena.new (front_of arena.old parent.front) (variables (bound_at tables.now parent.spot)) children.old.items children.new.items) }
+    ensures grew { OnOk result (Grew tables.now arena.old arena.new (front_of arena.old parent.front) (variables (bound_at tables.now parent.place)) children.old.items children.new.items) }
     ensures grown { AreGrown arena.old arena.new }
 {
-    let types = types_at(tables, parent.spot.row);
+    let types = types_at(tables, parent.place.row);
     if types.len() > 2_147_483_647 {
         return Err(AllocError);
     }
@@ -128,8 +128,8 @@ pub fn grow(
     requires valid { IsValid tables.now.env }
     requires floors { AreFloors tables.now.env tables.now.edges tables.now.totals tables.now.floors }
     requires usable { AreUsable tables.now.env.limit tables.now.floors tables.now.edges tables.now.usable }
-    requires ways { AreWaysAt tables.now parent.spot parent.spot.state }
-    ensures grew { OnOk result (Grew tables.now arena.old arena.new (front_of arena.old parent.front) (numbers_at tables.now parent.spot) children.old.items children.new.items) }
+    requires ways { AreWaysAt tables.now parent.place parent.place.state }
+    ensures grew { OnOk result (Grew tables.now arena.old arena.new (front_of arena.old parent.front) (numbers_at tables.now parent.place) children.old.items children.new.items) }
     ensures grown { AreGrown arena.old arena.new }
 {
     grow_variables(tables, arena, children, parent)?;

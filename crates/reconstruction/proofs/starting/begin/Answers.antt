@@ -1,8 +1,8 @@
 use Rattle.std.proofs.Common.{◌∙◌, ◌∷◌, [], List, get_or, refl, ap, arith}
 use Rattle.reconstruction.specs.declared.item.Arena.{Arena}
 use Rattle.reconstruction.specs.declared.item.Item.{Item}
-use Rattle.reconstruction.specs.declared.spot.Spot.{Spot}
-use Rattle.reconstruction.proofs.Beginning.{first_spot_of, begun_one}
+use Rattle.reconstruction.specs.declared.numbered_place.NumberedPlace.{NumberedPlace}
+use Rattle.reconstruction.proofs.Beginning.{first_place_of, begun_one}
 use Rattle.reconstruction.proofs.starting.begin.Goals as goal
 
 pub returns : goal.returns
@@ -12,7 +12,7 @@ returns c =
     record {
       at = begun_one c.args.tables.now arena c.least_at-key.result item c.reserve.new.self.items c.push.new.self.items c.requires.complete c.least_at-key.ensures.value
           (omega (arith, c.if-key-parts.false, ap (λ g. g.limit) c.parts.ensures.value)) c.requires.fronts refl c.in_ok-stack.ensures.within
-          (c.in_ok-stack.ensures.kept ∙ ap (λ (l : List (List Spot)). first_spot_of ∷ get_or l 0 []) c.requires.stacks)
+          (c.in_ok-stack.ensures.kept ∙ ap (λ (l : List (List NumberedPlace)). first_place_of ∷ get_or l 0 []) c.requires.stacks)
           (c.in_ok-reserve.ensures.items ∙ c.requires.queue) c.push.ensures.added;
       pops = c.push.ensures.pops ∙ c.reserve.ensures.pops;
     }

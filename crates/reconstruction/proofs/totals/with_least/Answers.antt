@@ -1,7 +1,7 @@
 use Rattle.std.proofs.Common.{◌≡◌, ◌+◌, refl, arith, ap, sym, get_or}
 use Rattle.least_weights.proofs.Members.{total-more, total-prefix}
 use Rattle.reconstruction.specs.Totals.{number_of}
-use Rattle.reconstruction.specs.Spots.{number}
+use Rattle.reconstruction.specs.NumberedPlaces.{number}
 use Rattle.reconstruction.proofs.totals.with_least.Goals as goal
 
 pub returns-in-None : goal.returns-in-None

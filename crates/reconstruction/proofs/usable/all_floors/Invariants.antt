@@ -6,5 +6,5 @@ use Rattle.reconstruction.proofs.usable.all_floors.Given as goal
 abbrev pub invariant-loop-edge : goal.invariant-loop-edge
 invariant-loop-edge l = record {
   as_many : length l.floors ≡ l.edge;
-  each : (m : ℕ) → m < l.edge → (e : Edge) → slice_get l.initial.edges m ≡ Some e → IsFloor l.initial.parts l.initial.edges l.initial.totals m e (get_or l.floors m 0);
+  each : (m : ℕ) → m < l.edge → (e : Edge) → slice_get l.initial.edges m ≡ Some e → IsFloor l.initial.env l.initial.edges l.initial.totals m e (get_or l.floors m 0);
 }

@@ -1,6 +1,6 @@
 use Rattle.std.proofs.Common.{◌∙◌, ap}
 use Rattle.terms.specs.Typing.{joined}
-use Rattle.reconstruction.specs.Spots.{row_of_args}
+use Rattle.reconstruction.specs.NumberedPlaces.{row_of_args}
 use Rattle.reconstruction.proofs.Bound.{row_none, row_some, row_past}
 use Rattle.reconstruction.proofs.variables.types_at.Goals as goal
 

@@ -11,7 +11,7 @@ use Rattle.patterns.specs.States.{types_at, left_at}
 use Rattle.patterns.specs.declared.state.State.{State}
 use Rattle.least_weights.specs.LeastWeight.{place_at}
 use Rattle.partial_terms.specs.Fronts.{same}
-use Rattle.reconstruction.specs.declared.spot.Spot.{Spot}
+use Rattle.reconstruction.specs.declared.numbered_place.NumberedPlace.{NumberedPlace}
 
 -- the row of the lambda that is the only argument
 abbrev pub row_of_args : List Arg → List (List ℕ)
@@ -32,9 +32,9 @@ abbrev pub at_state : Patterned → Option State → List (List ℕ) → Place
 at_state d None ctx = record { ctx = ctx; left = 0; wanted = 0 }
 at_state d (Some s) ctx = place_at d s ctx
 
--- the place of a spot
-abbrev pub spot_place : Parts → Patterned → Spot → Place
-spot_place g d p = at_state d (slice_get d.states p.state) (rows_at g p.row)
+-- the place that the numbers stand for
+abbrev pub numbered_place_in : Parts → Patterned → NumberedPlace → Place
+numbered_place_in g d p = at_state d (slice_get d.states p.state) (rows_at g p.row)
 
 -- the state's types are those that the rows bind, and the rows and the lambdas left make up the depth
 pub record IsState (g : Parts) (d : Patterned) (i : ℕ) (ctx : List (List ℕ)) : Type 0 where
@@ -43,8 +43,8 @@ pub record IsState (g : Parts) (d : Patterned) (i : ℕ) (ctx : List (List ℕ))
   pub types : types_bound ctx ≡ types_at d.space state.set
   pub depth : length ctx + left_at d.space state.set ≡ g.depth
 
-abbrev pub IsSpot : Parts → Patterned → Spot → Type 0
-IsSpot g d p = IsState g d p.state (rows_at g p.row)
+abbrev pub IsNumbered : Parts → Patterned → NumberedPlace → Type 0
+IsNumbered g d p = IsState g d p.state (rows_at g p.row)
 
 -- the place is that of a listed state
 pub record IsKept (g : Parts) (d : Patterned) (p : Place) : Type 0 where

@@ -1,13 +1,13 @@
 use Rattle.std.proofs.Common.{◌≡◌, ◌≤◌, ◌<◌, ◌++◌, [], drop, length, get_or}
 use Rattle.partial_terms.specs.Chained.{IsGrown}
-use Rattle.reconstruction.specs.Tabled.{spots_under}
-use Rattle.reconstruction.proofs.growing.keep_spots.Given as goal
+use Rattle.reconstruction.specs.Tabled.{numbered_under}
+use Rattle.reconstruction.proofs.growing.keep_places.Given as goal
 
 abbrev pub invariant-loop-i : goal.invariant-loop-i
 invariant-loop-i l = record {
   inside : l.i ≤ length l.states;
   within : l.at < length l.stacks;
-  kept : get_or l.stacks l.at [] ≡ spots_under l.row (drop l.i l.states) ++ get_or l.fn.stacks l.rest [];
+  kept : get_or l.stacks l.at [] ≡ numbered_under l.row (drop l.i l.states) ++ get_or l.fn.stacks l.rest [];
   grown : IsGrown l.fn.stacks l.stacks;
 }
 
