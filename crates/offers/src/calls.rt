@@ -54,7 +54,7 @@ fn is_bare(method: &MethodSummary) -> bool
 }
 
 /// A type without dimensions.
-pub(crate) fn of_base(base: Base) -> Erased
+pub fn of_base(base: Base) -> Erased
     ensures { result ≡ of_base base }
 {
     Erased { dims: 0, base }

@@ -14,7 +14,7 @@ use std::alloc::{AllocError, Global};
 use type_names::Erased;
 
 /// Whether members are of one kind.
-pub(crate) fn same_kind(a: Kind, b: Kind) -> bool
+pub fn same_kind(a: Kind, b: Kind) -> bool
     ensures { result ≡ same_kind a b }
 {
     match a {
@@ -32,7 +32,7 @@ pub(crate) fn has_result(outcome: &Option<Erased>) -> bool
 }
 
 /// A copy of a type that may be missing.
-pub(crate) fn copy_type(alloc: Global, kind: &Option<Erased>) -> Result<Option<Erased>, AllocError>
+pub fn copy_type(alloc: Global, kind: &Option<Erased>) -> Result<Option<Erased>, AllocError>
     ensures { IfOk result (λ copy. copy ≡ kind.now) }
 {
     match kind {

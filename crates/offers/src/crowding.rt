@@ -84,7 +84,7 @@ fn crowds(
 
 /// Whether a member is crowded among these members and types.
 #[tactic(auto, unfolding(crate::specs::Omissions::is_crowded))]
-pub(crate) fn is_crowded(
+pub fn is_crowded(
     alloc: Global,
     view: &View<'_>,
     types: &[Erased],

@@ -184,7 +184,7 @@ fn add_lambda(
 
 /// The functional interfaces among the offered classes.
 #[tactic(auto, unfolding(crate::specs::Functional::faces))]
-pub(crate) fn faces(
+pub fn faces(
     alloc: Global,
     view: &View<'_>,
     classes: &[ClassSummary],

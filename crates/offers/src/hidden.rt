@@ -134,7 +134,7 @@ fn shown_of(
 
 /// The members that are left after all five omissions; `names` are those that variables and fields take.
 #[tactic(auto, unfolding(crate::specs::Omissions::after_five))]
-pub(crate) fn after_five(
+pub fn after_five(
     alloc: Global,
     view: &View<'_>,
     types: &[Erased],

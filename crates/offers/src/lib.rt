@@ -28,9 +28,25 @@ mod weights;
 mod words;
 mod written;
 
+pub use calls::of_base;
+pub use candidates::{copy_type, same_kind};
+pub use crowding::is_crowded;
+pub use functional::faces;
+pub use hidden::after_five;
 pub use member::{Face, Kind, Member};
-pub use offer::{Offer, offered_members};
+pub use mentioned::{string_type, types_of};
+pub use names::{scope_names, taken_names};
+pub use offer::{Offer, offered_members, own_summaries};
+pub use offered::offered as offered_classes;
+pub use overrides::after_three;
+pub use pairs::pairs_of;
+pub use reach::is_in_package;
+pub use repeats::{is_static, value};
+pub use spelling::{class_spelling, with_dims};
+pub use texts::is_among;
+pub use view::{View, of_class};
 pub use weights::Weights;
+pub use written::{owner_text, static_text};
 
 #[cfg(test)]
 mod tests;

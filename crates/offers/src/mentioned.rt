@@ -17,7 +17,7 @@ use std::alloc::{AllocError, Global};
 use type_names::{Base, Erased};
 
 /// The type of strings.
-pub(crate) fn string_type(alloc: Global) -> Result<Erased, AllocError>
+pub fn string_type(alloc: Global) -> Result<Erased, AllocError>
     ensures { IfOk result (λ kind. kind ≡ string_type) }
 {
     let name = Text::from_str(alloc, "java/lang/String")?;
@@ -96,7 +96,7 @@ fn mentioned(
 
 /// These types in rising byte order of their descriptors, each once.
 #[tactic(auto, unfolding(crate::specs::Types::types_of))]
-pub(crate) fn types_of(
+pub fn types_of(
     alloc: Global,
     view: &View<'_>,
     members: &[Member],

@@ -61,7 +61,7 @@ fn local_names(alloc: Global, locals: &[Local]) -> Result<Items<Text>, AllocErro
 }
 
 /// The names in scope, hidden or not.
-pub(crate) fn scope_names(alloc: Global, view: &View<'_>) -> Result<Items<Text>, AllocError>
+pub fn scope_names(alloc: Global, view: &View<'_>) -> Result<Items<Text>, AllocError>
     ensures { IfOk result (λ names. names ≡ scope_names (scene view.now)) }
 {
     let mut names = local_names(alloc, view.site().locals.as_slice())?;
@@ -144,7 +144,7 @@ fn all_above(alloc: Global, view: &View<'_>) -> Result<Items<Text>, AllocError>
 
 /// The names that variables and fields take at the hole.
 #[tactic(auto, unfolding(crate::specs::Omissions::taken_names))]
-pub(crate) fn taken_names(alloc: Global, view: &View<'_>) -> Result<Items<Text>, AllocError>
+pub fn taken_names(alloc: Global, view: &View<'_>) -> Result<Items<Text>, AllocError>
     ensures { IfOk result (λ names. names ≡ taken_names (scene view.now)) }
 {
     let mut names = scope_names(alloc, view)?;

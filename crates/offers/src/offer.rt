@@ -58,7 +58,7 @@ fn offer_of(alloc: Global, view: &View<'_>) -> Result<Offer, AllocError>
 }
 
 /// The summaries of a unit's classes.
-fn own_summaries(
+pub fn own_summaries(
     alloc: Global,
     index: &Index,
     unit: &Unit,

@@ -119,7 +119,7 @@ fn kept(alloc: Global, view: &View<'_>, reach: &Reach) -> Result<Items<ClassSumm
 
 /// Copies of the offered classes, in rising byte order of their names.
 #[tactic(auto, unfolding(crate::specs::Reach::offered))]
-pub(crate) fn offered(alloc: Global, view: &View<'_>) -> Result<Items<ClassSummary>, AllocError>
+pub fn offered(alloc: Global, view: &View<'_>) -> Result<Items<ClassSummary>, AllocError>
     ensures { IfOk result (λ all. all ≡ offered (scene view.now)) }
 {
     let reach = Reach::new(alloc, view)?;

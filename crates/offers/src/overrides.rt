@@ -102,7 +102,7 @@ fn left_of(alloc: Global, view: &View<'_>, members: &[Member]) -> Result<Items<M
 
 /// The candidates of the offered classes after the first three omissions.
 #[tactic(auto, unfolding(crate::specs::Omissions::after_two, crate::specs::Omissions::after_three))]
-pub(crate) fn after_three(
+pub fn after_three(
     alloc: Global,
     view: &View<'_>,
     classes: &[ClassSummary],

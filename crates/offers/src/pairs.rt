@@ -54,7 +54,7 @@ fn add_row(
 
 /// The pairs of types of which the first is a strict subtype of the second; want of memory where the types are
 /// 2^32 or more.
-pub(crate) fn pairs_of(
+pub fn pairs_of(
     alloc: Global,
     view: &View<'_>,
     types: &[Erased],

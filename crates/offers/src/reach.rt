@@ -62,7 +62,7 @@ pub(crate) fn package_of(name: &str) -> &[u8]
 }
 
 /// Whether an internal name is of a package.
-pub(crate) fn is_in_package(name: &str, home: &str) -> bool
+pub fn is_in_package(name: &str, home: &str) -> bool
     ensures { result ≡ bytes_eq (package_of name.now) home.now }
 {
     package_of(name) == home.as_bytes()

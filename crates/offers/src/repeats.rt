@@ -18,7 +18,7 @@ use std::alloc::{AllocError, Global};
 use type_names::Erased;
 
 /// Whether a field or a method is static.
-pub(crate) fn is_static(member: &Member) -> bool
+pub fn is_static(member: &Member) -> bool
     ensures { result ≡ is_static member.now }
 {
     has_flag(member.flags, STATIC) && !same_kind(member.kind, Kind::Constructor)
@@ -32,7 +32,7 @@ pub(crate) fn is_private(member: &Member) -> bool
 }
 
 /// The type of what a member gives.
-pub(crate) fn value(alloc: Global, member: &Member) -> Result<Erased, AllocError>
+pub fn value(alloc: Global, member: &Member) -> Result<Erased, AllocError>
     ensures { IfOk result (λ kind. kind ≡ value member.now) }
 {
     if let Kind::Constructor = member.kind {

@@ -75,7 +75,7 @@ fn shortest(
 
 /// The spelling of a class at the site.
 #[tactic(auto, unfolding(crate::specs::Spellings::class_spelling))]
-pub(crate) fn class_spelling(
+pub fn class_spelling(
     alloc: Global,
     view: &View<'_>,
     name: &Text,
@@ -110,7 +110,7 @@ fn base_spelling(alloc: Global, view: &View<'_>, base: &Base) -> Result<Option<T
 }
 
 /// A text with `[]` behind it for each dimension.
-fn with_dims(mut text: Text, dims: u64) -> Result<Text, AllocError>
+pub fn with_dims(mut text: Text, dims: u64) -> Result<Text, AllocError>
     ensures { IfOk result (λ whole. whole ≡ with_dims dims text) }
 {
     for _n in 0..dims {

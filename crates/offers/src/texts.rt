@@ -7,7 +7,7 @@ use lists::{Copies, Items, Text};
 use std::alloc::{AllocError, Global};
 
 /// Whether one of these texts is this one.
-pub(crate) fn is_among(texts: &[Text], text: &str) -> bool
+pub fn is_among(texts: &[Text], text: &str) -> bool
     ensures { result ≡ is_among texts.now text.now }
 {
     texts.iter().any(|t| t.as_str() == text)

@@ -25,7 +25,7 @@ use type_names::{Base, Erased};
 
 /// What is looked at from a hole, with tables of the unit that are made once.
 #[derive(Drop)]
-pub(crate) struct View<'a> {
+pub struct View<'a> {
     unit: &'a Unit,
     site: &'a HoleSite,
     index: &'a Index,
@@ -52,7 +52,7 @@ impl<'a> Model for View<'a> {
 }
 
 /// The type of a class.
-pub(crate) fn of_class(alloc: Global, name: &Text) -> Result<Erased, AllocError>
+pub fn of_class(alloc: Global, name: &Text) -> Result<Erased, AllocError>
     ensures { IfOk result (λ kind. kind ≡ of_class name.now) }
 {
     Ok(Erased {
@@ -102,6 +102,20 @@ impl<'a> View<'a> {
             home,
             own,
         })
+    }
+
+    /// How often the member of a key `owner.name:descriptor` was used.
+    pub fn usage(&self, key: &str) -> u32
+        ensures { result ≡ (scene self.now).usage key.now }
+    {
+        self.index.usage(key)
+    }
+
+    /// The weights of declarations.
+    pub fn weights(&self) -> &Weights
+        ensures { result.now ≡ self.now.weights }
+    {
+        &self.weights
     }
 
     /// The internal name of the edited class.

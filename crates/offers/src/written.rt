@@ -93,11 +93,7 @@ pub(crate) fn after_four(
 }
 
 /// The spelling of a member's owner, the empty text where there is none.
-pub(crate) fn owner_text(
-    alloc: Global,
-    view: &View<'_>,
-    member: &Member,
-) -> Result<Text, AllocError>
+pub fn owner_text(alloc: Global, view: &View<'_>, member: &Member) -> Result<Text, AllocError>
     ensures { IfOk result (λ text. text ≡ owner_text (scene view.now) member.now) }
 {
     match class_spelling(alloc, view, &member.owner)? {
@@ -107,11 +103,7 @@ pub(crate) fn owner_text(
 }
 
 /// That spelling, `.` and the member's name.
-pub(crate) fn static_text(
-    alloc: Global,
-    view: &View<'_>,
-    member: &Member,
-) -> Result<Text, AllocError>
+pub fn static_text(alloc: Global, view: &View<'_>, member: &Member) -> Result<Text, AllocError>
     ensures { IfOk result (λ text. text ≡ static_text (scene view.now) member.now) }
 {
     let mut text = owner_text(alloc, view, member)?;
