@@ -1,0 +1,12 @@
+pub mod OrderPairs
+pub mod Every
+pub mod Numbered
+pub mod Declared
+pub mod Ordered
+pub mod PairLaws
+pub mod Runs
+pub mod Halving
+pub mod Making
+pub mod Right
+pub mod HoleTypes
+pub mod HoleSites

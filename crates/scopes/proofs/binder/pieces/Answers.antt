@@ -1,0 +1,8 @@
+use Rattle.std.proofs.Common.{refl, arith, rules}
+use Rattle.std.proofs.lemmas.Iterator.Consumers.{map_from_collect}
+use Rattle.std.proofs.lemmas.Iterator.Splits.{YieldsList-from_slice_split}
+use Rattle.scopes.specs.Binders.{is_between}
+use Rattle.scopes.proofs.binder.pieces.Goals as goal
+
+pub returns : goal.returns
+returns c = map_from_collect _ c.collect.ensures.ran (YieldsList-from_slice_split _ is_between c.args.text.now c.split.ensures.rest c.split.ensures.done c.split.ensures.closure (λ x b q h. (refl, search (rules, h))))

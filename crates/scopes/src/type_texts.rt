@@ -1,0 +1,65 @@
+ghost use Rattle.std.specs.Prelude.{◌≡◌, [], map, unwrap_or, Some, IfOk};
+ghost use Rattle.known_classes.specs.Known.{canonical};
+ghost use Rattle.offers.specs.Spellings.{class_spelling, base_by, type_text};
+ghost use Rattle.offers.specs.Views.{scene};
+ghost use Rattle.scopes.specs.Texts.{class_text};
+
+use lists::{Items, Text};
+use offers::{View, class_spelling, with_dims};
+use std::alloc::{AllocError, Global};
+use type_names::{Base, Erased};
+
+/// The spelling of a class, or its canonical name where it has none.
+fn class_text(alloc: Global, view: &View<'_>, name: &Text) -> Result<Text, AllocError>
+    ensures { IfOk result (λ text. text ≡ class_text (scene view.now) name.now) }
+{
+    match class_spelling(alloc, view, name)? {
+        Some(text) => Ok(text),
+        None => view.canonical(alloc, name),
+    }
+}
+
+/// The text of a type without its dimensions.
+fn base_text(alloc: Global, view: &View<'_>, base: &Base) -> Result<Text, AllocError>
+    ensures { IfOk result (λ text. Some text ≡ base_by (λ name. Some (class_text (scene view.now) name)) base.now) }
+{
+    let word = match base {
+        Base::Class(name) => {
+            return class_text(alloc, view, name);
+        }
+        Base::Byte => "byte",
+        Base::Char => "char",
+        Base::Double => "double",
+        Base::Float => "float",
+        Base::Int => "int",
+        Base::Long => "long",
+        Base::Short => "short",
+        Base::Boolean => "boolean",
+    };
+    Text::from_str(alloc, word)
+}
+
+/// The text of a type.
+#[tactic(auto, unfolding(offers::specs::Spellings::type_text))]
+fn type_text(alloc: Global, view: &View<'_>, kind: &Erased) -> Result<Text, AllocError>
+    ensures { IfOk result (λ text. text ≡ type_text (scene view.now) kind.now) }
+{
+    let text = base_text(alloc, view, &kind.base)?;
+    let text = with_dims(text, kind.dims)?;
+    Ok(text)
+}
+
+/// The texts of types.
+pub(crate) fn type_texts(
+    alloc: Global,
+    view: &View<'_>,
+    kinds: &[Erased],
+) -> Result<Items<Text>, AllocError>
+    ensures { IfOk result (λ all. all ≡ map (type_text (scene view.now)) kinds.now) }
+{
+    let mut all = Items::new(alloc);
+    for kind in kinds {
+        all.push(type_text(alloc, view, kind)?)?;
+    }
+    Ok(all)
+}
