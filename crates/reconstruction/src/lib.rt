@@ -1,7 +1,7 @@
 // The search that rebuilds the terms of a goal in the order of their weights. A partial term is a front of a
-// prefix code; a queue holds each under the least total of its completions. The main definition is
-// `IsSearch`: each term that is still to come completes exactly one front. It stands on `terms`, `succinct`,
-// `patterns`, `edges`, `least_weights` and `weight_queue`.
+// prefix code; a queue holds each under the least total of its completions. The main definition is `IsSearch`
+// of `partial_terms`: each term that is still to come completes exactly one front. It stands on `terms`,
+// `partial_terms`, `succinct`, `patterns`, `edges`, `least_weights` and `weight_queue`.
 #![tactic(auto)]
 
 mod agenda;
