@@ -1,5 +1,5 @@
 -- The site of a hole in a text is one of the text's unit.
-use Rattle.std.proofs.Common.{◌≡◌, ◌≤◌, ◌<◌, ◌^◌, ℕ, zero, suc, ◌+◌, ◌-◌, ◌*◌, Bool, true, false, if◌then◌else◌, List, [], ◌∷◌, length, drop, take, get_or, refl, sym, ap, subst, ◌∙◌, arith, All, slice_get, Option, Some, None}
+use Rattle.std.proofs.Common.{◌≡◌, ◌≤◌, ◌<◌, ℕ, ◌+◌, ◌*◌, Bool, true, false, if◌then◌else◌, List, [], ◌∷◌, length, drop, take, get_or, refl, sym, ap, subst, arith, slice_get, Option, Some, None}
 use Rattle.std.proofs.lemmas.List.{length-drop, length-take}
 use Rattle.std.proofs.lemmas.Option.{slice_get_within, get_or_from_slice_get}
 use Rattle.java_tokens.specs.declared.token.Token.{Token}
@@ -9,19 +9,19 @@ use Rattle.java_units.specs.declared.types.SourceMethod.{SourceMethod}
 use Rattle.java_units.specs.declared.types.SourceClass.{SourceClass}
 use Rattle.java_units.specs.declared.types.Unit as unit
 use Rattle.java_units.specs.Signs.{Sign, signs_of}
-use Rattle.java_units.specs.Dimensions.{greatest, bound_dims, params_dims, method_dims, type_dims, dims_of_bounds, HasFewDims}
+use Rattle.java_units.specs.Dimensions.{greatest, bound_dims, params_dims, method_dims, type_dims, HasFewDims}
 use Rattle.java_units.proofs.FewDims.{signs_few, few_dims}
 use Rattle.java_units.proofs.UnitLaws.{nested_unit}
 use Rattle.class_summary.specs.Variables.{IsMethodOf, methods_of}
 use Rattle.class_summary.proofs.Greatest.{greatest_at}
 use Rattle.java_bodies.specs.Bodies.{BodySigns}
 use Rattle.java_bodies.specs.Blocks.{is_in_blocks}
-use Rattle.java_bodies.specs.Statements.{own_statement, separates}
+use Rattle.java_bodies.specs.Statements.{own_statement}
 use Rattle.java_bodies.specs.Scopes.{variables_of, names_of}
 use Rattle.java_bodies.specs.Wanted.{wanted}
 use Rattle.java_bodies.specs.Places.{touched, is_free, prefix_start, passed}
 use Rattle.java_bodies.specs.Methods.{signs_before, signs_from, method_at}
-use Rattle.java_bodies.specs.Sites.{cut, body_signs, sighted, sight_by, sight_in, is_static, site_by, in_body, in_method, in_class, in_classes, hole_behind, hole_from, hole_of}
+use Rattle.java_bodies.specs.Sites.{body_signs, sighted, sight_in, is_static, site_by, in_body, in_method, in_class, in_classes, hole_behind, hole_from, hole_of}
 use Rattle.java_bodies.specs.declared.methods.MethodPlace.{MethodPlace}
 use Rattle.java_bodies.specs.declared.names.Names.{Names}
 use Rattle.java_bodies.specs.declared.site.Local.{Local}

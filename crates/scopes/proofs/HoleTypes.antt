@@ -1,5 +1,5 @@
 -- The types of the variables in the scope of a hole have few dimensions.
-use Rattle.std.proofs.Common.{◌≡◌, ◌≤◌, ◌<◌, ◌==◌, ℕ, zero, suc, ◌+◌, ◌-◌, ◌*◌, ◌/◌, Bool, true, false, ◌&&◌, not, if◌then◌else◌, List, [], ◌∷◌, ◌++◌, length, drop, take, map, codes, bytes_eq, refl, sym, arith, Option, Some, None}
+use Rattle.std.proofs.Common.{◌≤◌, ◌==◌, ℕ, zero, suc, ◌-◌, ◌*◌, ◌/◌, Bool, true, false, ◌&&◌, if◌then◌else◌, List, [], ◌∷◌, ◌++◌, length, drop, take, map, codes, bytes_eq, arith, Option, Some, None}
 use Rattle.std.specs.List.{flat_map, list_any}
 use Rattle.std.proofs.lemmas.List.{length-drop, length-take}
 use Rattle.java_units.specs.declared.entries.Entry.{Entry}
@@ -10,7 +10,7 @@ use Rattle.java_units.specs.declared.types.SourceField.{SourceField}
 use Rattle.java_units.specs.declared.types.SourceMethod.{SourceMethod}
 use Rattle.java_units.specs.declared.types.SourceClass.{SourceClass}
 use Rattle.java_units.specs.Signs.{Sign}
-use Rattle.java_units.specs.Forms.{begins, starts, span, type_len, ahead_len, dims_len, entry_len, next_len, entries}
+use Rattle.java_units.specs.Forms.{begins, starts, type_len, ahead_len, dims_len, entry_len, next_len, entries}
 use Rattle.java_units.specs.Values.{type_text, first_text, field_of, fields_of}
 use Rattle.java_units.specs.Dimensions.{greatest, bound_dims, params_dims, method_dims, type_dims}
 use Rattle.java_units.proofs.Dimensions.{plain_few, field_few}
@@ -19,7 +19,7 @@ use Rattle.java_bodies.specs.Kept.{keeps}
 use Rattle.java_bodies.specs.Openers.{opener, gathered}
 use Rattle.java_bodies.specs.Blocks.{follows}
 use Rattle.java_bodies.specs.Statements.{statement, statement_len, typed, named, own_statement, is_declaration, asked_by}
-use Rattle.java_bodies.specs.Variables.{usable, is_var, of_param, of_field, declared, is_each, each, for_header, caught, is_catch, catching, catch_header, alternative_len, begins_at, inside, header_signs, resource_at, try_header, header_variables}
+use Rattle.java_bodies.specs.Variables.{usable, is_var, of_param, of_field, declared, is_each, each, for_header, is_catch, catching, catch_header, begins_at, inside, resource_at, try_header, header_variables}
 use Rattle.java_bodies.specs.Scopes.{header_at, header_before, entered, stated, added_at, own_variable, variables_of, is_named, last_ones, usable_by, local_of, locals_of, names_of}
 use Rattle.java_bodies.specs.Wanted.{field_kind, local_kind, variable_kind, declared_kind, wanted_by, wanted}
 use Rattle.java_bodies.specs.declared.mark.Brackets.TheVariants.{Blocks}

@@ -1,5 +1,5 @@
 -- The pairs of an environment are the subtype pairs among its types.
-use Rattle.std.proofs.Common.{◌≡◌, ◌∙◌, ap, sym, refl, ℕ, suc, ◌-◌, Bool, true, false, ◌||◌, cond, List, [], ◌∷◌, length, get_or}
+use Rattle.std.proofs.Common.{◌≡◌, ◌∙◌, ap, sym, refl, ℕ, suc, Bool, true, false, ◌||◌, cond, List, [], ◌∷◌, length, get_or}
 use Rattle.std.proofs.lemmas.Slice.Eq.{bytes_eq-Decides}
 use Rattle.type_names.specs.declared.kinds.Base.TheVariants.{Int}
 use Rattle.type_names.specs.declared.kinds.Erased.{Erased}

@@ -1,9 +1,7 @@
 -- A word is a variable by its run of `p`.
-use Rattle.std.proofs.Common.{◌≡◌, ℕ, zero, suc, ◌+◌, ◌-◌, ◌<◌, ◌≤◌, ◌⊎◌, inl, inr, Bool, true, false, not, ◌&&◌, ◌||◌, ◌==◌, if◌then◌else◌, List, [], ◌∷◌, ◌++◌, length, replicate, drop, map, bytes_eq, get_or, unwrap_or, refl, sym, ◌∙◌, ap, arith, rules, zero-add, drop-cons, add-one, drop_of_length-le, Option, Some, None}
+use Rattle.std.proofs.Common.{◌≡◌, ℕ, zero, suc, ◌+◌, ◌-◌, ◌<◌, ◌≤◌, ◌⊎◌, inl, inr, Bool, true, false, not, ◌||◌, ◌==◌, if◌then◌else◌, List, [], ◌∷◌, length, replicate, drop, map, bytes_eq, get_or, unwrap_or, refl, sym, ◌∙◌, ap, arith, rules, zero-add, drop-cons, add-one, drop_of_length-le, Some, None}
 use Rattle.std.specs.List.{list_any, list_all}
 use Rattle.std.proofs.lemmas.List.{get_or-replicate, length-replicate, length-map}
-use Rattle.std.proofs.lemmas.Grind.{common_steps}
-use Rattle.std.proofs.lemmas.Slice.Eq.{bytes_eq-Decides}
 use Rattle.java_tokens.specs.Classes.{is_digit}
 use Rattle.class_summary.specs.Names.{first_from}
 use Rattle.scopes.specs.Binders.{is_digits, is_variable, run_from, run_of, binder_of, free_of, IsMarked}

@@ -1,5 +1,5 @@
 -- What the variables of lambdas are called.
-use Rattle.std.specs.Prelude.{◌≡◌, ◌<◌, get_or, ℕ, zero, suc, ◌+◌, Bool, false, ◌&&◌, ◌||◌, not, ◌==◌, if◌then◌else◌, List, [], ◌∷◌, ◌++◌, length, replicate, drop, map, bytes_eq, unwrap_or, take}
+use Rattle.std.specs.Prelude.{◌≡◌, ◌<◌, get_or, ℕ, suc, ◌+◌, Bool, false, ◌&&◌, ◌||◌, not, ◌==◌, if◌then◌else◌, List, [], ◌∷◌, ◌++◌, length, replicate, drop, bytes_eq, unwrap_or}
 use Rattle.std.specs.List.{list_any, list_all, flat_map, slice_split}
 use Rattle.terms.specs.declared.parts.Form.{Form}
 use Rattle.terms.specs.declared.parts.Form.TheVariants as form

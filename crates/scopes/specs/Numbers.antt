@@ -1,5 +1,5 @@
 -- The types of an environment.
-use Rattle.std.specs.Prelude.{ℕ, ◌<◌, ◌^◌, List, length}
+use Rattle.std.specs.Prelude.{◌<◌, ◌^◌, List, length}
 use Rattle.type_names.specs.declared.kinds.Erased.{Erased}
 use Rattle.type_names.specs.Descriptors.{field}
 use Rattle.offers.specs.Sorting.{Rises}

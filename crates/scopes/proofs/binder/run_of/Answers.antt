@@ -1,9 +1,6 @@
-use Rattle.std.proofs.Common.{◌≡◌, ℕ, List, ◌+◌, ◌-◌, ◌<◌, ◌≤◌, ◌||◌, ◌==◌, false, true, not, get_or, take, drop, length, replicate, map, ◌++◌, refl, sym, ◌∙◌, ap, arith, rules, lit<, if◌then◌else◌, Some, None, unwrap_or}
-use Rattle.std.specs.List.{list_any, list_all, slice_split}
-use Rattle.std.proofs.lemmas.Grind.{common_steps}
-use Rattle.class_summary.specs.Names.{first_from}
-use Rattle.scopes.specs.Binders.{is_between, is_digits, run_from, run_of, binder_of, IsMarked, free_of}
-use Rattle.scopes.proofs.Runs.{run_step, run_stop, run_end, first_more, first_here, first_none, free_marked, binder_free}
+use Rattle.std.proofs.Common.{sym, ◌∙◌, ap, arith, if◌then◌else◌}
+use Rattle.scopes.specs.Binders.{is_digits}
+use Rattle.scopes.proofs.Runs.{run_step, run_stop, run_end}
 use Rattle.scopes.proofs.binder.run_of.Goals as goal
 
 pub returns-then-word-i-ne112 : goal.returns-then-word-i-ne112

@@ -1,4 +1,4 @@
-use Rattle.std.proofs.Common.{◌≡◌, ◌++◌, map, take}
+use Rattle.std.proofs.Common.{◌≡◌, map, take}
 use Rattle.offers.specs.Types.{number_in}
 use Rattle.scopes.proofs.declarations.numbers_of.Given as goal
 

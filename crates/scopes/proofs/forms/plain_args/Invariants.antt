@@ -1,4 +1,4 @@
-use Rattle.std.proofs.Common.{◌≡◌, ◌++◌, map, take}
+use Rattle.std.proofs.Common.{◌≡◌, map, take}
 use Rattle.terms.specs.declared.parts.Arg.TheVariants.{Plain}
 use Rattle.offers.specs.Types.{number_in}
 use Rattle.scopes.proofs.forms.plain_args.Given as goal

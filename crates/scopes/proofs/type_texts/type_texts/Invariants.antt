@@ -1,4 +1,4 @@
-use Rattle.std.proofs.Common.{◌≡◌, ◌++◌, map, take}
+use Rattle.std.proofs.Common.{◌≡◌, map, take}
 use Rattle.offers.specs.Spellings.{type_text}
 use Rattle.offers.specs.Views.{scene}
 use Rattle.scopes.proofs.type_texts.type_texts.Given as goal
