@@ -1,0 +1,302 @@
+// From a text with a hole, and texts whose classes it sees, to the Java expressions that fit the hole.
+ghost use Rattle.std.specs.Prelude.{◌≡◌, ◌≤◌, length, Some, IfOk};
+ghost use Rattle.std.specs.Str.{IsCharBoundary};
+ghost use Rattle.java_tokens.specs.Tokens.{AreTokensOf, Tile};
+ghost use Rattle.java_bodies.specs.Sites.{hole_of};
+ghost use Rattle.java_units.specs.Units.{IsUnit};
+ghost use Rattle.scopes.specs.Holes.{IsHoleIn};
+
+use crate::sources::summaries_of;
+use decl_index::{Change, Index};
+use documents::Document;
+use java_bodies::{HoleSite, hole_at};
+use java_tokens::{Token, tokens};
+use java_units::{Unit, read_unit};
+use listing::{Item, Listing};
+use lists::Items;
+use reconstruction::Rebuild;
+use scopes::environment;
+use std::alloc::{AllocError, Global};
+use std::test::Fail;
+use terms::Env;
+
+/// A text's unit, and the site of a hole in it.
+#[derive(Drop)]
+struct Hole {
+    unit: Unit,
+    site: HoleSite,
+}
+
+/// Texts whose classes are published one after the other, a text with a hole, the line and UTF-16 unit of the hole,
+/// the greatest weight, and the weights and texts of all items.
+#[derive(Clone, Copy)]
+struct Row<'a> {
+    library: &'a [&'a str],
+    text: &'a str,
+    at: (u32, u32),
+    limit: u32,
+    items: &'a [(u32, &'a str)],
+}
+
+/// The end of a text of one line: a unit past a line's end means its end.
+const END: (u32, u32) = (0, 1000);
+
+/// A document with this text.
+fn document(alloc: Global, text: &str) -> Result<Document, Fail> {
+    let text = String::from_str(alloc, text)?;
+    if text.len() > 16_777_216 {
+        return Err(Fail::from("a short text"));
+    }
+    Ok(Document::from_text(alloc, text))
+}
+
+/// The site of the hole at a place of a text with these tokens and this unit.
+fn site_in(
+    alloc: Global,
+    text: &str,
+    tokens: &[Token],
+    unit: &Unit,
+    place: u32,
+) -> Result<HoleSite, Fail>
+    requires own_tokens { AreTokensOf text.now tokens.now }
+    requires own_unit { IsUnit text.now tokens.now unit.now }
+    requires boundary { IsCharBoundary text.now place }
+    ensures { IfOk result (λ site. hole_of text.now tokens.now unit.now place ≡ Some site) }
+{
+    match hole_at(alloc, text, tokens, unit, place)? {
+        Some(site) => Ok(site),
+        None => Err(Fail::from("a hole")),
+    }
+}
+
+/// The hole at a place of a text with these tokens.
+fn hole_among(alloc: Global, text: &str, tokens: &[Token], place: u32) -> Result<Hole, Fail>
+    requires short { length text.now ≤ 16777216 }
+    requires own_tokens { AreTokensOf text.now tokens.now }
+    requires tile { Tile 0 (length text.now) tokens.now }
+    requires boundary { IsCharBoundary text.now place }
+    ensures { IfOk result (λ hole. IsHoleIn hole.unit hole.site) }
+{
+    let unit = read_unit(alloc, text, tokens)?;
+    let site = site_in(alloc, text, tokens, &unit, place)?;
+    Ok(Hole { unit, site })
+}
+
+/// The hole at a place of a text.
+fn hole_in(alloc: Global, text: &str, place: u32) -> Result<Hole, Fail>
+    ensures { IfOk result (λ hole. IsHoleIn hole.unit hole.site) }
+{
+    if text.len() > 16_777_216 || !text.is_char_boundary(place as usize) {
+        return Err(Fail::from("a place of a short text"));
+    }
+    let all = tokens(alloc, text)?;
+    let hole = hole_among(alloc, text, all.as_slice(), place)?;
+    Ok(hole)
+}
+
+/// The index after one more publication.
+fn with_change(alloc: Global, index: &Index, change: &Change) -> Result<Index, Fail> {
+    if index.number() == u32::MAX {
+        return Err(Fail::from("few texts"));
+    }
+    index
+        .apply(alloc, change)
+        .map_err(|_| Fail::from("an index"))
+}
+
+/// The publication of the classes of a text, which sees those of an index.
+fn publication(alloc: Global, index: &Index, text: &str) -> Result<Change, AllocError> {
+    Ok(Change::Publish {
+        puts: summaries_of(alloc, text, index)?,
+        removes: Items::new(alloc),
+        counts: Items::new(alloc),
+    })
+}
+
+/// The index of the classes of these texts, each of which sees those of the texts before it.
+fn published(alloc: Global, texts: &[&str]) -> Result<Index, Fail> {
+    let mut index = Index::empty(alloc)?;
+    for text in texts {
+        let change = publication(alloc, &index, text)?;
+        index = with_change(alloc, &index, &change)?;
+    }
+    Ok(index)
+}
+
+/// The environment at a place of a text.
+fn made(alloc: Global, index: &Index, text: &str, place: u32, limit: u32) -> Result<Env, Fail>
+    requires limit { (1 ≤ limit) × (limit ≤ 10000) }
+{
+    let hole = hole_in(alloc, text, place)?;
+    Ok(environment(alloc, index, &hole.unit, &hole.site, limit, 1)?)
+}
+
+/// The environment at the hole of a row.
+fn env_of(alloc: Global, index: &Index, row: &Row<'_>) -> Result<Env, Fail> {
+    let document = document(alloc, row.text)?;
+    let Some(place) = document.offset(row.at.0, row.at.1) else {
+        return Err(Fail::from("a line"));
+    };
+    if row.limit < 1 || row.limit > 10_000 {
+        return Err(Fail::from("a limit"));
+    }
+    made(alloc, index, document.text(), place, row.limit)
+}
+
+/// Whether the items have just these weights and texts, in this order.
+fn are_items(items: &[Item], wanted: &[(u32, &str)]) -> bool {
+    if items.len() != wanted.len() {
+        return false;
+    }
+    for (item, (weight, text)) in items.iter().zip(wanted) {
+        if item.weight != *weight || item.text.as_str() != *text {
+            return false;
+        }
+    }
+    true
+}
+
+/// Whether the whole list of an environment has these items.
+fn lists(alloc: Global, env: Env, wanted: &[(u32, &str)]) -> Result<bool, AllocError> {
+    let mut listing: Listing<Rebuild> = Listing::new(alloc, env)?;
+    let page = listing.page(alloc, 0, 1000)?;
+    Ok(page.last && page.grown == page.len && are_items(listing.items(&page), wanted))
+}
+
+/// Whether the whole list at the hole of a row has its items.
+fn is_listed(alloc: Global, row: &Row<'_>) -> Result<bool, Fail> {
+    let index = published(alloc, row.library)?;
+    let env = env_of(alloc, &index, row)?;
+    Ok(lists(alloc, env, row.items)?)
+}
+
+const OVERLOADS: Row<'static> = Row {
+    library: &[
+        "package q; public class T { public static int m(Object o) {} public static int m(String s) {} }",
+    ],
+    text: "package q; class Use { static void go(String s) { int r = ",
+    at: END,
+    limit: 45,
+    items: &[(30, "T.m(s)"), (40, "T.m((Object) s)")],
+};
+
+#[test]
+fn overloads_are_told_apart_by_a_cast(rt: HostRuntime) -> Result<(), Fail> {
+    assert!(rt; is_listed(rt.alloc(), &OVERLOADS)?);
+    Ok(())
+}
+
+const OVERRIDING: Row<'static> = Row {
+    library: &[
+        "package q; public class A { public int m() {} }",
+        "package q; public class B extends A { public int m() {} }",
+    ],
+    text: "package q; class Use { static void go(B b) { int r = ",
+    at: END,
+    limit: 45,
+    items: &[(40, "b.m()")],
+};
+
+#[test]
+fn an_overridden_method_is_called_once(rt: HostRuntime) -> Result<(), Fail> {
+    assert!(rt; is_listed(rt.alloc(), &OVERRIDING)?);
+    Ok(())
+}
+
+const TWO_PROMISES: Row<'static> = Row {
+    library: &[
+        "package q; public interface I { int m(); } ",
+        "package q; public interface J { int m(); } ",
+        "package q; public class B implements I, J {}",
+    ],
+    text: "package q; class Use { static void go(B b) { int r = ",
+    at: END,
+    limit: 45,
+    items: &[(40, "((I) b).m()"), (40, "((J) b).m()")],
+};
+
+#[test]
+fn a_method_of_two_interfaces_is_called_at_each(rt: HostRuntime) -> Result<(), Fail> {
+    assert!(rt; is_listed(rt.alloc(), &TWO_PROMISES)?);
+    Ok(())
+}
+
+const HIDDEN_FIELD: Row<'static> = Row {
+    library: &[],
+    text: "class P { int k; void f(int k) { int z = ",
+    at: END,
+    limit: 30,
+    items: &[(5, "k"), (25, "this.k")],
+};
+
+#[test]
+fn a_hidden_field_is_named_by_this(rt: HostRuntime) -> Result<(), Fail> {
+    assert!(rt; is_listed(rt.alloc(), &HIDDEN_FIELD)?);
+    Ok(())
+}
+
+const READERS: Row<'static> = Row {
+    library: &[
+        "package java.io; public abstract class Reader {}",
+        "package java.io; public class FileReader extends Reader { public FileReader(String name) {} }",
+        "package java.io; public class BufferedReader extends Reader { public BufferedReader(Reader in) {} }",
+    ],
+    text: "import java.io.*;\nclass Demo {\n  static void go(String name) {\n    Reader r = \n  }\n}\n",
+    at: (3, 15),
+    limit: 4000,
+    items: &[
+        (1015, "new FileReader(name)"),
+        (1210, "new FileReader(\"\")"),
+        (2025, "new BufferedReader(new FileReader(name))"),
+        (2220, "new BufferedReader(new FileReader(\"\"))"),
+        (
+            3035,
+            "new BufferedReader(new BufferedReader(new FileReader(name)))",
+        ),
+        (
+            3230,
+            "new BufferedReader(new BufferedReader(new FileReader(\"\")))",
+        ),
+    ],
+};
+
+#[test]
+fn readers_are_wrapped_as_far_as_the_limit_goes(rt: HostRuntime) -> Result<(), Fail> {
+    assert!(rt; is_listed(rt.alloc(), &READERS)?);
+    Ok(())
+}
+
+/// A hole behind a comment with a character of two UTF-16 units, in a text whose lines end with two characters.
+const COMMENTED: Row<'static> = Row {
+    library: &[],
+    text: "class D {\r\n  void f() {\r\n    /*\u{1F600}*/ int k = \r\n  }\r\n}\r\n",
+    at: (2, 19),
+    limit: 4000,
+    items: &[(200, "0")],
+};
+
+#[test]
+fn a_comment_before_the_hole_changes_nothing(rt: HostRuntime) -> Result<(), Fail> {
+    assert!(rt; is_listed(rt.alloc(), &COMMENTED)?);
+    Ok(())
+}
+
+/// The positions of the start and the end of what a completion at the hole replaces.
+fn replaced(document: &Document, hole: &Hole) -> Option<((u32, u32), (u32, u32))> {
+    let (start, end) = hole.site.prefix;
+    let text = document.text();
+    if !text.is_char_boundary(start as usize) || !text.is_char_boundary(end as usize) {
+        return None;
+    }
+    Some((document.position(start), document.position(end)))
+}
+
+#[test]
+fn a_hole_has_its_place_in_lines_and_units(rt: HostRuntime) -> Result<(), Fail> {
+    let document = document(rt.alloc(), COMMENTED.text)?;
+    assert_eq!(rt; document.offset(2, 19), Some(46));
+    assert_eq!(rt; document.offset(2, 100), Some(46));
+    let hole = hole_in(rt.alloc(), document.text(), 46)?;
+    assert_eq!(rt; replaced(&document, &hole), Some(((2, 19), (2, 19))));
+    Ok(())
+}
