@@ -1,0 +1,10 @@
+pub mod Looks
+pub mod Chains
+pub mod Shapes
+pub mod Pages
+pub mod Environments
+pub mod Withdrawn
+pub mod Headlines
+pub mod Rows
+pub mod MessageRows
+pub mod CursorRows

@@ -1,0 +1,12 @@
+pub mod Histories
+pub mod Holes
+pub mod Failures
+pub mod Cursors
+pub mod Asks
+pub mod Turns
+pub mod Told
+pub mod Sessions
+pub mod Replies
+pub mod Messages
+pub mod Runs
+pub mod Laws
