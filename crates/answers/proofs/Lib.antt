@@ -5,6 +5,8 @@ pub mod Pages
 pub mod Environments
 pub mod Withdrawn
 pub mod Headlines
+pub mod Meanings
+pub mod Tells
 pub mod Rows
 pub mod MessageRows
 pub mod CursorRows

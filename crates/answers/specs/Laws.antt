@@ -7,10 +7,11 @@ use Rattle.terms.specs.declared.parts.Parts.{Parts}
 use Rattle.answers.specs.declared.types.Hole.{Hole}
 use Rattle.answers.specs.Holes.{IsSite, IsEnvironmentIn}
 use Rattle.answers.specs.Cursors.{Lists}
-use Rattle.answers.specs.Turns.{Turn, AllSee}
+use Rattle.answers.specs.Turns.{Turn, answers_to, AllSee}
 use Rattle.answers.specs.Told.{AllHeed, AllShut}
 use Rattle.answers.specs.Sessions.{Seen}
-use Rattle.answers.specs.Runs.{Message, turns_of, lists_after, seen_after, IsRun, Holds}
+use Rattle.answers.specs.Tells.{AllTell}
+use Rattle.answers.specs.Runs.{Message, replies_to, turns_of, lists_after, seen_after, IsRun, Holds}
 
 -- Whatever a client asks and meets lawfully, its answers hold.
 abbrev pub Headline : Type 0
@@ -19,6 +20,10 @@ Headline = (known end : List Change) (messages : List Message) → IsRun known e
 -- The lists of a session are those that its questions about lists leave.
 abbrev pub ListsFollow : Type 0
 ListsFollow = (s : Seen) (messages : List Message) → (seen_after s messages).lists ≡ lists_after s.lists (turns_of s messages)
+
+-- Each outcome of a run tells what was answered about lists and versions, and nothing else of them.
+abbrev pub RepliesTell : Type 0
+RepliesTell = (s : Seen) (messages : List Message) → AllTell (answers_to s.lists (turns_of s messages)) (replies_to s messages)
 
 -- A hole has one site, or none.
 abbrev pub OneSite : Type 0

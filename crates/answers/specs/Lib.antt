@@ -9,4 +9,5 @@ pub mod Sessions
 pub mod Replies
 pub mod Messages
 pub mod Runs
+pub mod Tells
 pub mod Laws
