@@ -10,3 +10,4 @@ pub mod PairRows
 pub mod SceneLaws
 pub mod Descriptors
 pub mod Searches
+pub mod OneScene
