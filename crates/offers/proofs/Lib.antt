@@ -11,3 +11,4 @@ pub mod SceneLaws
 pub mod Descriptors
 pub mod Searches
 pub mod OneScene
+pub mod Missing

@@ -5,6 +5,7 @@ pub mod Spellings
 pub mod Candidates
 pub mod Omissions
 pub mod Functional
+pub mod Missing
 pub mod Order
 pub mod Views
 pub mod Sorting

@@ -2,11 +2,12 @@ ghost use Rattle.std.specs.Prelude.{◌≡◌, ◌++◌, [], IfOk, OnOk};
 ghost use Rattle.offers.specs.Scenes.{of_class};
 ghost use Rattle.offers.specs.Reach.{offered};
 ghost use Rattle.offers.specs.Functional.{is_interface, faces_above, is_whole, is_giver, is_given, is_of_object, is_promise, promises, group, one_method, method_in, face_of, faces_by, faces};
+ghost use Rattle.offers.specs.Missing.{missing};
 ghost use Rattle.offers.specs.Views.{scene};
 
 use crate::calls::{are_same_calls, has_body, is_of_object};
 use crate::candidates::has_result;
-use crate::interfaces::{faces_above, is_below, is_interface, is_whole};
+use crate::interfaces::{faces_above, is_below, is_interface, is_whole, missing};
 use crate::member::Face;
 use crate::reach::{ABSTRACT, has_flag};
 use crate::spelling::class_spelling;
@@ -126,13 +127,15 @@ fn one_method(alloc: Global, methods: &[MethodSummary]) -> Result<Option<MethodS
     }
 }
 
-/// The one method of a functional interface.
+/// The one method of a functional interface. `names` are those of the missing classes.
 #[tactic(auto, unfolding(crate::specs::Functional::method_in))]
 fn method_in(
     alloc: Global,
     view: &View<'_>,
+    names: &[Text],
     class: &ClassSummary,
 ) -> Result<Option<MethodSummary>, AllocError>
+    requires { names.now ≡ missing (scene view.now) }
     ensures { IfOk result (λ one. one ≡ method_in (scene view.now) class.now) }
 {
     if !is_interface(class) {
@@ -141,7 +144,7 @@ fn method_in(
     if class_spelling(alloc, view, &class.name)?.is_none() {
         return Ok(None);
     }
-    let whole = is_whole(alloc, view, class)?;
+    let whole = is_whole(alloc, view, names, class)?;
     if !whole {
         return Ok(None);
     }
@@ -170,12 +173,14 @@ fn face_of(alloc: Global, name: &Text, method: &MethodSummary) -> Result<Face, A
 fn add_lambda(
     alloc: Global,
     view: &View<'_>,
+    names: &[Text],
     class: &ClassSummary,
     all: &mut Items<Face>,
 ) -> Result<(), AllocError>
+    requires { names.now ≡ missing (scene view.now) }
     ensures { OnOk result (all.new ≡ all.old ++ faces_by class.now.name (method_in (scene view.now) class.now)) }
 {
-    let Some(method) = method_in(alloc, view, class)? else {
+    let Some(method) = method_in(alloc, view, names, class)? else {
         return Ok(());
     };
     all.push(face_of(alloc, &class.name, &method)?)?;
@@ -192,9 +197,10 @@ pub fn faces(
     requires { classes.now ≡ offered (scene view.now) }
     ensures { IfOk result (λ all. all ≡ faces (scene view.now)) }
 {
+    let names = missing(alloc, view)?;
     let mut all = Items::new(alloc);
     for class in classes {
-        add_lambda(alloc, view, class, &mut all)?;
+        add_lambda(alloc, view, names.as_slice(), class, &mut all)?;
     }
     Ok(all)
 }

@@ -1,7 +1,8 @@
 ghost use Rattle.std.specs.Prelude.{◌≡◌, ◌++◌, ◌∷◌, [], if◌then◌else◌, IfOk, OnOk};
-ghost use Rattle.std.specs.List.{list_all};
+ghost use Rattle.std.specs.List.{filter};
 ghost use Rattle.offers.specs.Scenes.{of_class, at_or_below};
-ghost use Rattle.offers.specs.Functional.{is_interface, is_face, faces_above, is_there, is_whole};
+ghost use Rattle.offers.specs.Functional.{is_interface, is_face, faces_above, is_whole};
+ghost use Rattle.offers.specs.Missing.{is_missing, missing, is_apart};
 ghost use Rattle.offers.specs.Views.{scene};
 
 use crate::reach::{INTERFACE, has_flag};
@@ -93,58 +94,71 @@ pub(crate) fn faces_above(
     Ok(all)
 }
 
-/// Whether a class isn't above another, is Object, or is known.
-fn is_there(
-    alloc: Global,
-    view: &View<'_>,
-    class: &ClassSummary,
-    name: &Text,
-) -> Result<bool, AllocError>
-    ensures { IfOk result (λ yes. yes ≡ is_there (scene view.now) class.now name.now) }
+/// Whether a class is neither java/lang/Object nor known.
+fn is_missing(view: &View<'_>, name: &str) -> bool
+    ensures { result ≡ is_missing (scene view.now) name.now }
 {
-    let below = is_below(alloc, view, &class.name, name)?;
-    if !below {
-        return Ok(true);
-    }
-    if name.as_str() == "java/lang/Object" {
-        return Ok(true);
-    }
-    Ok(view.class(name.as_str()).is_some())
+    !(name == "java/lang/Object" || view.class(name).is_some())
 }
 
-/// Whether this holds of each of these.
-fn are_there(
+/// Adds those of these names that are.
+fn add_missing(
+    alloc: Global,
+    view: &View<'_>,
+    names: &[Text],
+    all: &mut Items<Text>,
+) -> Result<(), AllocError>
+    ensures { OnOk result (all.new ≡ all.old ++ filter (is_missing (scene view.now)) names.now) }
+{
+    for name in names {
+        if is_missing(view, name.as_str()) {
+            all.push(name.copy(alloc)?)?;
+        }
+    }
+    Ok(())
+}
+
+/// The supers of known classes that are neither known nor java/lang/Object.
+#[tactic(auto, unfolding(crate::specs::Missing::missing))]
+pub(crate) fn missing(alloc: Global, view: &View<'_>) -> Result<Items<Text>, AllocError>
+    ensures { IfOk result (λ all. all ≡ missing (scene view.now)) }
+{
+    let mut all = Items::new(alloc);
+    for place in 0..view.count() {
+        let supers = view.at(place).supers.as_slice();
+        add_missing(alloc, view, supers, &mut all)?;
+    }
+    Ok(all)
+}
+
+/// Whether a class is below none of these.
+fn is_apart(
     alloc: Global,
     view: &View<'_>,
     class: &ClassSummary,
     names: &[Text],
 ) -> Result<bool, AllocError>
-    ensures { IfOk result (λ yes. yes ≡ list_all (is_there (scene view.now) class.now) names.now) }
+    ensures { IfOk result (λ yes. yes ≡ is_apart (scene view.now) class.now names.now) }
 {
     for name in names {
-        let there = is_there(alloc, view, class, name)?;
-        if !there {
+        let below = is_below(alloc, view, &class.name, name)?;
+        if below {
             return Ok(false);
         }
     }
     Ok(true)
 }
 
-/// Whether what stands above a class is known, but for java/lang/Object.
-#[tactic(auto, unfolding(crate::specs::Functional::is_whole))]
+/// Whether what stands above a class is known, but for java/lang/Object. `names` are those of the missing classes.
 pub(crate) fn is_whole(
     alloc: Global,
     view: &View<'_>,
+    names: &[Text],
     class: &ClassSummary,
 ) -> Result<bool, AllocError>
+    requires { names.now ≡ missing (scene view.now) }
     ensures { IfOk result (λ yes. yes ≡ is_whole (scene view.now) class.now) }
 {
-    for place in 0..view.count() {
-        let supers = view.at(place).supers.as_slice();
-        let there = are_there(alloc, view, class, supers)?;
-        if !there {
-            return Ok(false);
-        }
-    }
-    Ok(true)
+    let apart = is_apart(alloc, view, class, names)?;
+    Ok(apart)
 }
