@@ -12,3 +12,4 @@ pub mod Descriptors
 pub mod Searches
 pub mod OneScene
 pub mod Missing
+pub mod Rivals

@@ -6,6 +6,7 @@ pub mod Candidates
 pub mod Omissions
 pub mod Functional
 pub mod Missing
+pub mod Rivals
 pub mod Order
 pub mod Views
 pub mod Sorting

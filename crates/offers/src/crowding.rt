@@ -1,13 +1,15 @@
 ghost use Rattle.std.specs.Prelude.{◌≡◌, IfOk};
 ghost use Rattle.std.specs.List.{list_any};
-ghost use Rattle.offers.specs.Scenes.{of_class, at_or_below};
-ghost use Rattle.offers.specs.Omissions.{is_under, meet, is_other, crowds, is_crowded};
+ghost use Rattle.offers.specs.Scenes.{at_or_below};
+ghost use Rattle.offers.specs.Omissions.{is_other, is_crowded};
+ghost use Rattle.offers.specs.Rivals.{is_rival, rivals, types_under, has_under};
 ghost use Rattle.offers.specs.Views.{scene};
 
 use crate::member::Member;
 use crate::repeats::{is_kin, is_private};
 use crate::types::{same_type, same_types};
 use crate::view::{View, of_class};
+use lists::{Copies, Items};
 use std::alloc::{AllocError, Global};
 use type_names::Erased;
 
@@ -18,41 +20,46 @@ fn at_or_below(view: &View<'_>, a: &Erased, b: &Erased) -> bool
     same_type(a, b) || view.is_below(a, b)
 }
 
-/// Whether a type is at or below the owners of two members.
-fn is_under(
-    alloc: Global,
-    view: &View<'_>,
-    a: &Member,
-    b: &Member,
-    kind: &Erased,
-) -> Result<bool, AllocError>
-    ensures { IfOk result (λ yes. yes ≡ is_under (scene view.now) a.now b.now kind.now) }
-{
-    let first = of_class(alloc, &a.owner)?;
-    if !at_or_below(view, kind, &first) {
-        return Ok(false);
-    }
-    let second = of_class(alloc, &b.owner)?;
-    Ok(at_or_below(view, kind, &second))
-}
-
-/// Whether one of these types is.
-fn meet(
+/// Copies of those of these types that are at or below a type.
+fn types_under(
     alloc: Global,
     view: &View<'_>,
     types: &[Erased],
-    a: &Member,
-    b: &Member,
-) -> Result<bool, AllocError>
-    ensures { IfOk result (λ yes. yes ≡ meet (scene view.now) types.now a.now b.now) }
+    high: &Erased,
+) -> Result<Items<Erased>, AllocError>
+    ensures { IfOk result (λ all. all ≡ types_under (scene view.now) types.now high.now) }
 {
+    let mut all = Items::new(alloc);
     for kind in types {
-        let under = is_under(alloc, view, a, b, kind)?;
-        if under {
-            return Ok(true);
+        if at_or_below(view, kind, high) {
+            all.push(kind.copy(alloc)?)?;
         }
     }
-    Ok(false)
+    Ok(all)
+}
+
+/// Whether one of these types is.
+fn has_under(view: &View<'_>, types: &[Erased], high: &Erased) -> bool
+    ensures { result ≡ has_under (scene view.now) types.now high.now }
+{
+    for kind in types {
+        if at_or_below(view, kind, high) {
+            return true;
+        }
+    }
+    false
+}
+
+/// Whether one of these types is at or below one of the others.
+fn is_any_met(view: &View<'_>, types: &[Erased], owners: &[Erased]) -> bool
+    ensures { result ≡ list_any (has_under (scene view.now) types.now) owners.now }
+{
+    for owner in owners {
+        if has_under(view, types, owner) {
+            return true;
+        }
+    }
+    false
 }
 
 /// Whether members differ in their owners or their parameter types.
@@ -62,24 +69,24 @@ fn is_other(a: &Member, b: &Member) -> bool
     !(a.owner.as_str() == b.owner.as_str() && same_types(a.params.as_slice(), b.params.as_slice()))
 }
 
-/// Whether a member is another of one kind, name and number of parameters, whose owner a type has in common.
-fn crowds(
-    alloc: Global,
-    view: &View<'_>,
-    types: &[Erased],
-    a: &Member,
-    b: &Member,
-) -> Result<bool, AllocError>
-    ensures { IfOk result (λ yes. yes ≡ crowds (scene view.now) types.now a.now b.now) }
+/// Whether a member is another of one kind, name and number of parameters.
+fn is_rival(a: &Member, b: &Member) -> bool
+    ensures { result ≡ is_rival a.now b.now }
 {
-    if !is_kin(a, b) || a.params.len() != b.params.len() {
-        return Ok(false);
+    is_kin(a, b) && a.params.len() == b.params.len() && is_other(a, b)
+}
+
+/// The owners of those of these members that are.
+fn rivals(alloc: Global, members: &[Member], member: &Member) -> Result<Items<Erased>, AllocError>
+    ensures { IfOk result (λ all. all ≡ rivals members.now member.now) }
+{
+    let mut all = Items::new(alloc);
+    for other in members {
+        if is_rival(member, other) {
+            all.push(of_class(alloc, &other.owner)?)?;
+        }
     }
-    if !is_other(a, b) {
-        return Ok(false);
-    }
-    let common = meet(alloc, view, types, a, b)?;
-    Ok(common)
+    Ok(all)
 }
 
 /// Whether a member is crowded among these members and types.
@@ -96,11 +103,11 @@ pub fn is_crowded(
     if is_private(member) {
         return Ok(true);
     }
-    for other in members {
-        let one = crowds(alloc, view, types, member, other)?;
-        if one {
-            return Ok(true);
-        }
+    let owners = rivals(alloc, members, member)?;
+    if owners.len() == 0 {
+        return Ok(false);
     }
-    Ok(false)
+    let high = of_class(alloc, &member.owner)?;
+    let under = types_under(alloc, view, types, &high)?;
+    Ok(is_any_met(view, under.as_slice(), owners.as_slice()))
 }
