@@ -12,4 +12,7 @@ pub mod Descriptors
 pub mod Searches
 pub mod OneScene
 pub mod Missing
+pub mod Grouping
+pub mod Rows
+pub mod Overriding
 pub mod Rivals

@@ -29,11 +29,11 @@ and-false : (b : Bool) → (b && false) ≡ false
 and-false true = refl
 and-false false = refl
 
-first-true : (a b : Bool) → (a && b) ≡ true → a ≡ true
+pub first-true : (a b : Bool) → (a && b) ≡ true → a ≡ true
 first-true true b e = refl
 first-true false b e = absurd (let h = e in cc)
 
-second-true : (a b : Bool) → (a && b) ≡ true → b ≡ true
+pub second-true : (a b : Bool) → (a && b) ≡ true → b ≡ true
 second-true true b e = e
 second-true false b e = absurd (let h = e in cc)
 
@@ -73,3 +73,9 @@ flat-on {A} {B} f xs i x all new s h e =
 -- one more of the values at a, a + 1 ..
 pub range-from : {A : Type 0} (f : ℕ → A) (a i j : ℕ) (xs ys : List A) (x : A) → a + i ≡ j → xs ≡ map f (range_with_len a i) → x ≡ f j → ys ≡ xs ++ x ∷ [] → ys ≡ map f (range_with_len a (i + 1))
 range-from {A} f a i j xs ys x s h e g = g ∙ ap (λ (z : List A). z ++ x ∷ []) h ∙ ap (λ (z : A). map f (range_with_len a i) ++ z ∷ []) e ∙ sym (map-range_with_len_more f a i j s)
+
+-- tests that tell the same
+pub same-test : (b c : Bool) → (b ≡ true → c ≡ true) → (c ≡ true → b ≡ true) → b ≡ c
+same-test true c f g = sym (f refl)
+same-test false true f g = g refl
+same-test false false f g = refl

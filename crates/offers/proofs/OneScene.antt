@@ -1,5 +1,5 @@
 -- A hole has one scene.
-use Rattle.std.proofs.Common.{◌≡◌, ◌∙◌, ap, sym, subst, refl, ℕ, List, Bool, true, false}
+use Rattle.std.proofs.Common.{◌≡◌, ◌∙◌, ap, sym, subst, ℕ, List, Bool, true}
 use Rattle.std.proofs.Math.Path.{fun_ext}
 use Rattle.type_names.specs.declared.kinds.Erased.{Erased}
 use Rattle.java_units.specs.declared.types.Unit as unit
@@ -10,11 +10,7 @@ use Rattle.java_bodies.specs.declared.site.HoleSite.{HoleSite}
 use Rattle.offers.specs.declared.weights.Weights.{Weights}
 use Rattle.offers.specs.Scenes.{Scene}
 use Rattle.offers.specs.Offers.{IsOrder, IsSceneAt}
-
-same-test : (b c : Bool) → (b ≡ true → c ≡ true) → (c ≡ true → b ≡ true) → b ≡ c
-same-test true c f g = sym (f refl)
-same-test false true f g = g refl
-same-test false false f g = refl
+use Rattle.offers.proofs.Lists.{same-test}
 
 below-on : (v w : Scene) → v.known ≡ w.known → IsOrder v → IsOrder w → (a b : Erased) → v.below a b ≡ true → w.below a b ≡ true
 below-on v w k h i a b e = i.complete a b (subst (λ (known : KnownClasses). IsStrictSubtype known a b) k (h.sound a b e))

@@ -7,6 +7,7 @@ pub mod Omissions
 pub mod Functional
 pub mod Missing
 pub mod Rivals
+pub mod Grouping
 pub mod Order
 pub mod Views
 pub mod Sorting

@@ -4,10 +4,12 @@
 // stands on `class_summary`, `subtyping`, `decl_index` and `java_bodies`.
 #![tactic(auto)]
 
+mod by_name;
 mod calls;
 mod candidates;
 mod crowding;
 mod functional;
+mod groups;
 mod hidden;
 mod interfaces;
 mod laws;
@@ -29,6 +31,7 @@ mod weights;
 mod words;
 mod written;
 
+pub use by_name::MembersByName;
 pub use calls::of_base;
 pub use candidates::{copy_type, same_kind};
 pub use crowding::is_crowded;

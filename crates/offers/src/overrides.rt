@@ -5,8 +5,10 @@ ghost use Rattle.offers.specs.Scenes.{of_class, same_type};
 ghost use Rattle.offers.specs.Reach.{offered};
 ghost use Rattle.offers.specs.Candidates.{value};
 ghost use Rattle.offers.specs.Omissions.{is_instance, same_types, overrides, left_of, after_two, after_three};
+ghost use Rattle.offers.specs.Grouping.{at_place};
 ghost use Rattle.offers.specs.Views.{scene};
 
+use crate::by_name::MembersByName;
 use crate::candidates::same_kind;
 use crate::member::{Kind, Member};
 use crate::repeats::{after_two, is_private, is_static, value};
@@ -68,17 +70,34 @@ fn overrides(alloc: Global, view: &View<'_>, a: &Member, b: &Member) -> Result<b
     Ok(below)
 }
 
-/// Whether a method stands for one of these.
-fn is_overriding(
+/// Whether a method stands for the one at a place.
+fn is_over_at(
     alloc: Global,
     view: &View<'_>,
     member: &Member,
     members: &[Member],
+    place: usize,
 ) -> Result<bool, AllocError>
-    ensures { IfOk result (λ yes. yes ≡ list_any (overrides (scene view.now) member.now) members.now) }
+    ensures { IfOk result (λ yes. yes ≡ at_place (overrides (scene view.now) member.now) members.now place) }
 {
-    for other in members {
-        let over = overrides(alloc, view, member, other)?;
+    match members.get(place) {
+        Some(other) => overrides(alloc, view, member, other),
+        None => Ok(false),
+    }
+}
+
+/// Whether a method stands for one at these places.
+fn is_over_any(
+    alloc: Global,
+    view: &View<'_>,
+    member: &Member,
+    members: &[Member],
+    places: &[usize],
+) -> Result<bool, AllocError>
+    ensures { IfOk result (λ yes. yes ≡ list_any (at_place (overrides (scene view.now) member.now) members.now) places.now) }
+{
+    for place in places {
+        let over = is_over_at(alloc, view, member, members, *place)?;
         if over {
             return Ok(true);
         }
@@ -86,12 +105,30 @@ fn is_overriding(
     Ok(false)
 }
 
+/// Whether a method stands for one of these.
+fn is_overriding(
+    alloc: Global,
+    view: &View<'_>,
+    member: &Member,
+    members: &MembersByName<'_>,
+) -> Result<bool, AllocError>
+    ensures { IfOk result (λ yes. yes ≡ list_any (overrides (scene view.now) member.now) members.now) }
+{
+    let row = members.row(alloc, member.name.as_str())?;
+    let over = is_over_any(alloc, view, member, members.members(), row.as_slice())?;
+    Ok(over)
+}
+
 /// Copies of the members that stand for none of the others.
-fn left_of(alloc: Global, view: &View<'_>, members: &[Member]) -> Result<Items<Member>, AllocError>
+fn left_of(
+    alloc: Global,
+    view: &View<'_>,
+    members: &MembersByName<'_>,
+) -> Result<Items<Member>, AllocError>
     ensures { IfOk result (λ all. all ≡ left_of (scene view.now) members.now) }
 {
     let mut all = Items::new(alloc);
-    for member in members {
+    for member in members.members() {
         let over = is_overriding(alloc, view, member, members)?;
         if !over {
             all.push(member.copy(alloc)?)?;
@@ -110,7 +147,8 @@ pub fn after_three(
     requires { classes.now ≡ offered (scene view.now) }
     ensures { IfOk result (λ all. all ≡ after_three (scene view.now)) }
 {
-    let members = after_two(alloc, view, classes)?;
-    let left = left_of(alloc, view, members.as_slice())?;
+    let all = after_two(alloc, view, classes)?;
+    let members = MembersByName::new(alloc, all.as_slice())?;
+    let left = left_of(alloc, view, &members)?;
     Ok(left)
 }

@@ -1,4 +1,4 @@
-use Rattle.std.proofs.Common.{rules, ◌≡◌, ◌∙◌, ap, sym, false, length}
+use Rattle.std.proofs.Common.{rules, ◌≡◌, ◌∙◌, ap, false, length}
 use Rattle.offers.specs.Views.{scene}
 use Rattle.offers.specs.Candidates.{is_private}
 use Rattle.offers.specs.Rivals.{types_under}
