@@ -1,9 +1,9 @@
 -- A name with dots begins with no name and with no field of a bare `this`.
-use Rattle.std.proofs.Common.{◌≡◌, ◌≢◌, ◌∙◌, ◌⊎◌, inl, inr, ap, ap₂, sym, subst, refl, ℕ, ◌<◌, ◌≤◌, ◌^◌, ◌&&◌, not, Bool, true, false, List, [], ◌∷◌, ◌++◌, length, slice_get, Option, Some, None, is_some, codes, chars, encode_utf8_all, IsUtf8, append_assoc}
+use Rattle.std.proofs.Common.{◌≡◌, ◌≢◌, ◌∙◌, ap, ap₂, sym, subst, refl, ℕ, ◌&&◌, not, Bool, true, false, List, [], ◌∷◌, ◌++◌, length, Some, None, is_some, codes, chars, encode_utf8_all, IsUtf8, append_assoc}
 use Rattle.std.proofs.lemmas.Bool.{false≢true, and_parts}
 use Rattle.std.proofs.lemmas.Str.{encodes-append, encodes-chars}
 use Rattle.terms.specs.Expr.{Expr, var, head, Args, no_args, plain, lam}
-use Rattle.terms.specs.Typing.{type_in, fits, joined, is_below, some_below}
+use Rattle.terms.specs.Typing.{type_in, fits, joined, some_below}
 use Rattle.terms.specs.Faults.{IsValid}
 use Rattle.terms.specs.Apart.{Declares, IsDotted, IsOf, IsOwnField, IsToldApart}
 use Rattle.terms.specs.Text.{variable_text, is_this, is_this_form, head_decl}
@@ -13,14 +13,14 @@ use Rattle.terms.specs.declared.parts.Arg.{Arg}
 use Rattle.terms.specs.declared.parts.Arg.TheVariants.{Plain, Fun}
 use Rattle.terms.specs.declared.parts.Form.{Form}
 use Rattle.terms.specs.declared.parts.Form.TheVariants.{Name, This, Call, New, Method, Field, Lambda}
-use Rattle.java_shapes.specs.Words.{spells_identifier, IsPath}
-use Rattle.java_shapes.specs.Shape.{Shape, named, called, lambda, Before, nothing, fresh, Shapes, shapes}
-use Rattle.java_shapes.specs.ShapeOf.{cast_shape, before_of, path_of, method_shape, field_shape, binder_shapes, shape_in, shapes_in}
-use Rattle.java_shapes.specs.Readable.{is_free, IsFormText, IsReadable, HasShortRows, IsContext}
+use Rattle.java_shapes.specs.Words.{IsPath}
+use Rattle.java_shapes.specs.Shape.{named, nothing, fresh, shapes}
+use Rattle.java_shapes.specs.ShapeOf.{cast_shape, before_of, path_of, field_shape, binder_shapes, shape_in, shapes_in}
+use Rattle.java_shapes.specs.Readable.{is_free, IsReadable, IsContext}
 use Rattle.java_shapes.proofs.Encoding.{enc_dot}
-use Rattle.java_shapes.proofs.Typed.{below_typed, plain_fits, lam_fits, no_fit-plain_none, no_fit-lam_none, no_fit-none_some, no_fit-plain_fun, no_fit-lam_plain, few_typed, Opened, opened, typed_is}
-use Rattle.java_shapes.proofs.WordFacts.{Lacks, lacks_not, identifier_not_this, free_identifier, variable_not_free, variable_dotless, first_cut}
-use Rattle.java_shapes.proofs.Shaped.{named_is, named_called, named_lambda, NothingLeft, nothing_left, path_left, Heads, heads, shape_head, shaped, method_not_named}
+use Rattle.java_shapes.proofs.Typed.{below_typed, plain_fits, no_fit-none_some, no_fit-plain_fun, no_fit-lam_plain, few_typed, opened, typed_is}
+use Rattle.java_shapes.proofs.WordFacts.{identifier_not_this, free_identifier, variable_not_free, variable_dotless, first_cut}
+use Rattle.java_shapes.proofs.Shaped.{named_is, named_called, named_lambda, nothing_left, path_left, Heads, heads, shape_head, shaped, method_not_named}
 
 -- a receiver that is `this`
 pub record ThisAt (g : Parts) (ctx : List (List ℕ)) (e : Expr) : Type 0 where

@@ -1,5 +1,5 @@
 -- The bytes of texts that are joined.
-use Rattle.std.proofs.Common.{◌≡◌, ◌∙◌, ap, ap₂, sym, refl, ℕ, List, [], ◌∷◌, ◌++◌, map, Option, Some, None, codes, encode_utf8_all, append_assoc}
+use Rattle.std.proofs.Common.{◌≡◌, ◌∙◌, ap, ap₂, refl, ℕ, List, [], ◌∷◌, ◌++◌, map, Option, Some, None, codes, encode_utf8_all}
 use Rattle.std.specs.Option.{option_map}
 use Rattle.std.proofs.lemmas.Str.{encodes-append}
 use lib.Utf8.{encode}

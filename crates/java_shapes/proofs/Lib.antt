@@ -8,3 +8,7 @@ pub mod Cut
 pub mod Told
 pub mod ToldPairs
 pub mod ToldTerms
+pub mod RunWords
+pub mod RunForms
+pub mod Runs
+pub mod TextTold

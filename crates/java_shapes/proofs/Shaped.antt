@@ -1,17 +1,16 @@
 -- Shapes of well typed terms are shapes of the grammar.
-use Rattle.std.proofs.Common.{◌≡◌, ◌≢◌, ◌∙◌, ◌⊎◌, inl, inr, ap, ap₂, sym, subst, refl, ℕ, zero, suc, ◌+◌, ◌<◌, ◌≤◌, ◌^◌, ◌&&◌, ◌||◌, not, Bool, true, false, List, [], ◌∷◌, ◌++◌, map, length, slice_get, Option, Some, None, is_some, codes, chars, IsUtf8, bytes_eq, arith, append_assoc, append-nil, if◌then◌else◌}
-use Rattle.std.specs.List.{list_all, range_with_len}
+use Rattle.std.proofs.Common.{◌≡◌, ◌≢◌, ◌∙◌, ◌⊎◌, inl, inr, ap, ap₂, sym, subst, refl, ℕ, zero, suc, ◌+◌, ◌<◌, ◌≤◌, ◌^◌, ◌&&◌, not, Bool, true, false, List, [], ◌∷◌, ◌++◌, length, Option, Some, None, is_some, codes, chars, bytes_eq, arith, append_assoc, append-nil, if◌then◌else◌}
+use Rattle.std.specs.List.{list_all}
 use Rattle.std.specs.Option.{option_map}
-use Rattle.std.proofs.lemmas.Bool.{false≢true, and_parts, or_left, or_right, both_ways}
+use Rattle.std.proofs.lemmas.Bool.{false≢true, or_left, or_right}
 use Rattle.std.proofs.lemmas.List.Folds.{list_all-append}
-use Rattle.std.proofs.lemmas.Slice.Eq.{bytes_eq-Decides}
 use Rattle.java_units.specs.Signs.{has}
 use Rattle.java_units.specs.Forms.{primitives}
 use Rattle.terms.specs.Expr.{Expr, var, head, Args, no_args, plain, lam}
-use Rattle.terms.specs.Typing.{type_in, fits, joined, some_below, result_if, args_wanted}
+use Rattle.terms.specs.Typing.{type_in, fits, joined}
 use Rattle.terms.specs.Faults.{is_well_formed, IsValid}
 use Rattle.terms.specs.Apart.{Declares, Wants}
-use Rattle.terms.specs.Text.{variable_text, type_text, differs, is_crowded, is_this, is_this_form, head_decl, cast_of, parameters}
+use Rattle.terms.specs.Text.{variable_text, type_text, differs, is_this, is_this_form, head_decl, parameters}
 use Rattle.terms.specs.declared.parts.Parts.{Parts}
 use Rattle.terms.specs.declared.parts.Decl.{Decl}
 use Rattle.terms.specs.declared.parts.Arg.{Arg}
@@ -19,12 +18,12 @@ use Rattle.terms.specs.declared.parts.Arg.TheVariants.{Plain, Fun}
 use Rattle.terms.specs.declared.parts.Form.{Form}
 use Rattle.terms.specs.declared.parts.Form.TheVariants.{Name, This, Call, New, Method, Field, Lambda}
 use Rattle.java_shapes.specs.Words.{spells_identifier, literals, begins_name, dotted, is_binder, IsPath, IsQualified, IsNamePath, IsCallPath, may_call}
-use Rattle.java_shapes.specs.Shape.{Shape, named, called, lambda, Before, nothing, fresh, behind, in_brackets, Shapes, no_shapes, shapes}
-use Rattle.java_shapes.specs.Grammar.{dimensions, IsType, IsCast, IsNameBehind, IsCallBehind, NeedsBrackets, IsShape, IsBefore, AreShapes}
-use Rattle.java_shapes.specs.ShapeOf.{cast_shape, before_of, path_of, method_shape, field_shape, lambda_shape, is_first_uncast, form_shape, binder_shapes, decl_shape, is_first_this, shape_in, shapes_in}
-use Rattle.java_shapes.specs.Readable.{is_free, IsFreePath, IsFormText, IsTypeText, IsReadable, AreShort, HasShortRows, IsContext}
-use Rattle.java_shapes.proofs.Typed.{fitted, below_typed, formed, plain_fits, lam_fits, no_fit-plain_none, no_fit-lam_none, no_fit-none_some, no_fit-plain_fun, no_fit-lam_plain, few_variables, context_more, few_parameters, few_typed, Opened, opened}
-use Rattle.java_shapes.proofs.WordFacts.{and_both, Lacks, lacks_not, identifier_dotless, identifier_not_this, free_identifier, free_not_binder, all_weaker, variable_binder, variable_dotless, variable_not_this, literal_word, first_whole, has_cases, has_none, variable_identifier}
+use Rattle.java_shapes.specs.Shape.{Shape, named, called, lambda, Before, nothing, fresh, behind, in_brackets, Shapes, shapes}
+use Rattle.java_shapes.specs.Grammar.{IsType, IsCast, IsNameBehind, IsCallBehind, IsShape, IsBefore, AreShapes}
+use Rattle.java_shapes.specs.ShapeOf.{cast_shape, before_of, path_of, method_shape, field_shape, form_shape, binder_shapes, is_first_this, shape_in, shapes_in}
+use Rattle.java_shapes.specs.Readable.{is_free, IsFormText, IsTypeText, IsReadable, AreShort, HasShortRows, IsContext}
+use Rattle.java_shapes.proofs.Typed.{below_typed, formed, plain_fits, lam_fits, no_fit-plain_none, no_fit-lam_none, no_fit-none_some, no_fit-plain_fun, no_fit-lam_plain, few_variables, context_more, few_typed, Opened, opened}
+use Rattle.java_shapes.proofs.WordFacts.{and_both, Lacks, lacks_not, identifier_not_this, free_identifier, all_weaker, variable_binder, variable_not_this, literal_word, first_whole, has_cases, has_none, variable_identifier}
 
 pub named_is : (b c : Before) (t s : List ℕ) → named b t ≡ named c s → (b ≡ c) × (t ≡ s)
 named_is b c t s e = (cc, cc)

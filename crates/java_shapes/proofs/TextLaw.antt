@@ -1,5 +1,5 @@
 -- The text of a well typed term is the text of its shape.
-use Rattle.std.proofs.Common.{◌≡◌, ◌≢◌, ◌∙◌, ◌⊎◌, inl, inr, ap, ap₂, sym, subst, refl, ℕ, zero, suc, ◌+◌, ◌<◌, ◌≤◌, ◌^◌, ◌&&◌, ◌||◌, not, Bool, true, false, List, [], ◌∷◌, ◌++◌, map, length, slice_get, Option, Some, None, is_some, codes, chars, encode_utf8_all, IsUtf8, arith, append_assoc, append-nil, if◌then◌else◌}
+use Rattle.std.proofs.Common.{◌≡◌, ◌≢◌, ◌∙◌, inl, inr, ap, ap₂, sym, refl, ℕ, zero, suc, ◌+◌, ◌<◌, ◌≤◌, ◌^◌, ◌&&◌, ◌||◌, not, Bool, true, false, List, [], ◌∷◌, ◌++◌, map, length, slice_get, Option, Some, None, is_some, codes, chars, encode_utf8_all, IsUtf8, arith, append_assoc, if◌then◌else◌}
 use Rattle.std.specs.List.{range_with_len}
 use Rattle.std.specs.Option.{option_map}
 use Rattle.std.proofs.lemmas.Bool.{false≢true}
@@ -7,19 +7,19 @@ use Rattle.std.proofs.lemmas.Str.{encodes-append, encodes-chars, IsUtf8-append, 
 use Rattle.std.proofs.lemmas.Fmt.{IsAscii-decimal_wide}
 use Rattle.std.specs.Fmt.{decimal}
 use Rattle.terms.specs.Expr.{Expr, var, head, Args, no_args, plain, lam}
-use Rattle.terms.specs.Typing.{type_in, fits, joined, some_below, result_if, args_wanted}
+use Rattle.terms.specs.Typing.{type_in, fits, joined, result_if, args_wanted}
 use Rattle.terms.specs.Faults.{is_well_formed, IsValid}
-use Rattle.terms.specs.Apart.{Declares, Wants}
-use Rattle.terms.specs.Text.{listed, bracketed, with_cast, variable_text, type_text, differs, is_crowded, is_this, is_lambda, is_lambda_form, head_decl, Printed, cast_of, argument_text, has_cast, receiver_text, is_bare_this, call_text, binders_text, parameters, method_text, field_text, lambda_text, form_text, decl_text, text_in, printed}
+use Rattle.terms.specs.Apart.{Wants}
+use Rattle.terms.specs.Text.{listed, bracketed, with_cast, variable_text, type_text, differs, is_crowded, is_lambda, is_lambda_form, head_decl, Printed, cast_of, argument_text, receiver_text, is_bare_this, call_text, binders_text, parameters, method_text, field_text, lambda_text, form_text, decl_text, text_in, printed}
 use Rattle.terms.specs.declared.parts.Parts.{Parts}
 use Rattle.terms.specs.declared.parts.Decl.{Decl}
 use Rattle.terms.specs.declared.parts.Arg.{Arg}
 use Rattle.terms.specs.declared.parts.Arg.TheVariants.{Plain, Fun}
 use Rattle.terms.specs.declared.parts.Form.{Form}
 use Rattle.terms.specs.declared.parts.Form.TheVariants.{Name, This, Call, New, Method, Field, Lambda}
-use Rattle.java_shapes.specs.Shape.{Shape, named, called, lambda, Before, nothing, fresh, behind, in_brackets, Shapes, no_shapes, shapes, shown, shown_before, argument_texts}
+use Rattle.java_shapes.specs.Shape.{Shape, named, called, lambda, Shapes, no_shapes, shapes, shown, shown_before, argument_texts}
 use Rattle.java_shapes.specs.ShapeOf.{cast_shape, before_of, path_of, method_shape, field_shape, lambda_shape, is_first_uncast, form_shape, binder_shapes, decl_shape, is_first_this, shape_in, shapes_in}
-use Rattle.java_shapes.specs.Readable.{IsFormText, IsReadable, AreShort, HasShortRows, IsContext, IsTypeText}
+use Rattle.java_shapes.specs.Readable.{IsFormText, IsReadable, AreShort, HasShortRows, IsContext}
 use Rattle.java_shapes.proofs.Encoding.{enc_three, enc_bracketed, enc_with_cast, enc_listed, enc_space, enc_dot, enc_arrow, enc_new, enc_this}
 use Rattle.java_shapes.proofs.Typed.{fitted, below_typed, formed, plain_fits, lam_fits, no_fit-plain_none, no_fit-lam_none, no_fit-none_some, no_fit-plain_fun, no_fit-lam_plain, few_variables, context_more, few_parameters, few_typed}
 

@@ -1,16 +1,13 @@
 -- Where declarations are told apart, so are well typed terms by their shapes.
-use Rattle.std.proofs.Common.{◌≡◌, ◌≢◌, ◌∙◌, ◌⊎◌, inl, inr, ap, ap₂, sym, subst, refl, ℕ, zero, suc, ◌+◌, ◌<◌, ◌≤◌, ◌^◌, ◌==◌, ◌&&◌, ◌||◌, not, Bool, true, false, List, [], ◌∷◌, ◌++◌, length, slice_get, Option, Some, None, is_some, codes, chars, encode_utf8_all, IsUtf8, arith, append_assoc, append-nil, eqb-true, eq-eqb, ne_eqb, ltb-true, nat_lt}
+use Rattle.std.proofs.Common.{◌≡◌, ◌≢◌, ◌∙◌, ◌⊎◌, inl, inr, ap, ap₂, sym, subst, refl, ℕ, zero, suc, ◌<◌, ◌==◌, Bool, true, false, List, [], ◌∷◌, length, Option, Some, None, chars, encode_utf8_all, IsUtf8, arith, eqb-true, eq-eqb, ne_eqb, ltb-true, nat_lt}
 use Rattle.std.specs.List.{list_all}
-use Rattle.std.specs.Option.{option_map}
 use Rattle.std.proofs.lemmas.Bool.{false≢true, and_parts, or_cases}
-use Rattle.std.proofs.lemmas.Str.{encodes-append, encodes-chars}
-use Rattle.java_units.specs.Signs.{has}
-use Rattle.java_shapes.specs.Words.{spells_identifier, literals, IsPath}
-use Rattle.terms.specs.Expr.{Expr, var, head, Args, no_args, plain, lam}
-use Rattle.terms.specs.Typing.{type_in, fits, joined, is_below, is_pair, some_below, most_rows}
+use Rattle.std.proofs.lemmas.Str.{encodes-chars}
+use Rattle.terms.specs.Expr.{head, Args, no_args, plain, lam}
+use Rattle.terms.specs.Typing.{type_in, fits, is_below, is_pair, some_below}
 use Rattle.terms.specs.Faults.{is_well_formed, are_plain, is_arg_known, IsValid}
-use Rattle.terms.specs.Apart.{Declares, Wants, IsOf, AreAlike, HasReceiver, HasDot, IsDotted, AreTold, IsOwnField, IsToldApart}
-use Rattle.terms.specs.Text.{variable_text, type_text, differs, is_this, head_decl, cast_of, parameters}
+use Rattle.terms.specs.Apart.{Wants, IsOf, AreAlike, HasReceiver, AreTold, IsToldApart}
+use Rattle.terms.specs.Text.{type_text}
 use Rattle.terms.specs.declared.parts.Parts.{Parts}
 use Rattle.terms.specs.declared.parts.Decl.{Decl}
 use Rattle.terms.specs.declared.parts.Arg.{Arg}
@@ -18,14 +15,12 @@ use Rattle.terms.specs.declared.parts.Arg.TheVariants.{Plain, Fun}
 use Rattle.terms.specs.declared.parts.Form.{Form}
 use Rattle.terms.specs.declared.parts.Form.TheVariants.{Name, This, Call, New, Method, Field, Lambda}
 use Rattle.terms.proofs.Valid.{valid-decl, valid-pair}
-use Rattle.java_shapes.specs.Shape.{Shape, named, called, lambda, Before, nothing, fresh, behind, in_brackets, Shapes, no_shapes, shapes}
-use Rattle.java_shapes.specs.Grammar.{IsShape, IsNameBehind}
-use Rattle.java_shapes.specs.ShapeOf.{cast_shape, before_of, path_of, method_shape, field_shape, binder_shapes, shape_in, shapes_in}
-use Rattle.java_shapes.specs.Readable.{is_free, IsFormText, IsTypeText, IsReadable, AreShort, HasShortRows, IsContext}
-use Rattle.java_shapes.proofs.Typed.{below_typed, plain_fits, lam_fits, no_fit-plain_none, no_fit-lam_none, no_fit-none_some, no_fit-plain_fun, no_fit-lam_plain, few_typed, context_more, Opened, opened}
-use Rattle.java_shapes.proofs.WordFacts.{Lacks, lacks_not, last_same, identifier_dotless, identifier_not_this, free_identifier, free_not_binder, variable_not_this, variable_not_free, variable_not_literal, variable_dotless, variable_binder, same_variable, literal_word, first_cut, first_whole}
-use Rattle.java_shapes.proofs.Shaped.{named_is, called_is, lambda_is, shapes_is, named_called, named_lambda, called_lambda, NothingLeft, nothing_left, path_left, Heads, heads, shape_head, shaped, name_not_this, method_not_named, term_shaped}
-use Rattle.java_shapes.proofs.Cut.{ThisAt, this_at, own_field, IsCut, cut, first_same}
+use Rattle.java_shapes.specs.Shape.{Shape, named, called, lambda, Before, behind, in_brackets, Shapes}
+use Rattle.java_shapes.specs.ShapeOf.{cast_shape, before_of, path_of, shape_in, shapes_in}
+use Rattle.java_shapes.specs.Readable.{IsReadable}
+use Rattle.java_shapes.proofs.Typed.{plain_fits, lam_fits, no_fit-plain_none, no_fit-lam_none, no_fit-none_some, no_fit-plain_fun, no_fit-lam_plain}
+use Rattle.java_shapes.proofs.WordFacts.{Lacks, lacks_not, last_same}
+use Rattle.java_shapes.proofs.Shaped.{shapes_is, Heads}
 
 pub decide : (i j : ℕ) → (i ≡ j) ⊎ (i ≢ j)
 decide zero zero = inl refl

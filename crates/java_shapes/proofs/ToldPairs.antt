@@ -1,33 +1,30 @@
 -- Heads that look alike, by their receivers and their words.
-use Rattle.std.proofs.Common.{◌≡◌, ◌≢◌, ◌∙◌, ◌⊎◌, inl, inr, ap, ap₂, sym, subst, refl, ℕ, zero, suc, ◌+◌, ◌<◌, ◌≤◌, ◌^◌, ◌==◌, ◌&&◌, ◌||◌, not, Bool, true, false, List, [], ◌∷◌, ◌++◌, length, slice_get, Option, Some, None, is_some, codes, chars, encode_utf8_all, IsUtf8, arith, append_assoc, append-nil, eqb-true, eq-eqb, ne_eqb, ltb-true, nat_lt, lit<, get_or}
-use Rattle.std.specs.List.{list_all}
-use Rattle.std.specs.Option.{option_map}
-use Rattle.std.proofs.lemmas.Bool.{false≢true, and_parts, or_cases, eqb-false}
+use Rattle.std.proofs.Common.{◌≡◌, ◌≢◌, ◌∙◌, inl, inr, ap, sym, subst, refl, ℕ, ◌<◌, ◌^◌, ◌==◌, ◌&&◌, not, Bool, true, false, List, [], ◌∷◌, ◌++◌, length, Option, Some, None, is_some, codes, chars, IsUtf8, arith, ne_eqb, lit<, get_or}
+use Rattle.std.proofs.lemmas.Bool.{false≢true, and_parts, eqb-false}
 use Rattle.std.specs.Str.{NonePass}
-use Rattle.std.proofs.lemmas.Str.{encodes-append, encodes-chars, NoCharPasses-byte}
+use Rattle.std.proofs.lemmas.Str.{encodes-chars, NoCharPasses-byte}
 use Rattle.java_units.specs.Signs.{has}
 use Rattle.java_shapes.specs.Words.{spells_identifier, literals, IsPath}
-use Rattle.terms.specs.Expr.{Expr, var, head, Args, no_args, plain, lam}
-use Rattle.terms.specs.Typing.{type_in, fits, joined, is_below, is_pair, some_below, most_rows}
-use Rattle.terms.specs.Faults.{is_well_formed, are_plain, is_arg_known, IsValid}
-use Rattle.terms.specs.Apart.{Declares, Wants, IsOf, AreAlike, HasReceiver, HasDot, IsDotted, AreTold, IsOwnField, IsToldApart}
-use Rattle.terms.specs.Text.{variable_text, type_text, differs, is_this, head_decl, cast_of, parameters}
+use Rattle.terms.specs.Expr.{Expr, head, Args, no_args, plain, lam}
+use Rattle.terms.specs.Typing.{type_in, fits}
+use Rattle.terms.specs.Faults.{are_plain, IsValid}
+use Rattle.terms.specs.Apart.{Declares, AreAlike, IsDotted, IsToldApart}
+use Rattle.terms.specs.Text.{variable_text, is_this, head_decl}
 use Rattle.terms.specs.declared.parts.Parts.{Parts}
 use Rattle.terms.specs.declared.parts.Decl.{Decl}
 use Rattle.terms.specs.declared.parts.Arg.{Arg}
 use Rattle.terms.specs.declared.parts.Arg.TheVariants.{Plain, Fun}
 use Rattle.terms.specs.declared.parts.Form.{Form}
-use Rattle.terms.specs.declared.parts.Form.TheVariants.{Name, This, Call, New, Method, Field, Lambda}
-use Rattle.terms.proofs.Valid.{valid-decl, valid-pair}
-use Rattle.java_shapes.specs.Shape.{Shape, named, called, lambda, Before, nothing, fresh, behind, in_brackets, Shapes, no_shapes, shapes}
+use Rattle.terms.specs.declared.parts.Form.TheVariants.{Name, Call, Method, Field}
+use Rattle.java_shapes.specs.Shape.{Shape, named, called, lambda, nothing, fresh, Shapes, no_shapes, shapes}
 use Rattle.java_shapes.specs.Grammar.{IsShape, IsNameBehind}
-use Rattle.java_shapes.specs.ShapeOf.{cast_shape, before_of, path_of, method_shape, field_shape, binder_shapes, shape_in, shapes_in}
-use Rattle.java_shapes.specs.Readable.{is_free, IsFormText, IsTypeText, IsReadable, AreShort, HasShortRows, IsContext}
-use Rattle.java_shapes.proofs.Typed.{below_typed, plain_fits, lam_fits, no_fit-plain_none, no_fit-lam_none, no_fit-none_some, no_fit-plain_fun, no_fit-lam_plain, few_typed, context_more, Opened, opened}
-use Rattle.java_shapes.proofs.WordFacts.{Lacks, lacks_not, lacks_head, lacks_tail, last_same, identifier_dotless, identifier_not_this, free_identifier, free_not_binder, variable_not_this, variable_not_free, variable_not_literal, variable_dotless, variable_binder, same_variable, literal_word, first_cut, first_whole}
-use Rattle.java_shapes.proofs.Shaped.{named_is, called_is, lambda_is, shapes_is, named_called, named_lambda, called_lambda, NothingLeft, nothing_left, path_left, Heads, heads, shape_head, shaped, name_not_this, method_not_named, term_shaped}
-use Rattle.java_shapes.proofs.Cut.{ThisAt, this_at, own_field, IsCut, cut, first_same}
-use Rattle.java_shapes.proofs.Told.{same_bytes, same_heads, SameLink, link_same, alike_plain, alike_turn, heads_told}
+use Rattle.java_shapes.specs.ShapeOf.{cast_shape, before_of, path_of, method_shape, field_shape, shape_in, shapes_in}
+use Rattle.java_shapes.specs.Readable.{is_free, IsFormText, IsReadable, AreShort, HasShortRows, IsContext}
+use Rattle.java_shapes.proofs.Typed.{below_typed, plain_fits, no_fit-plain_none, no_fit-lam_none, no_fit-none_some, no_fit-lam_plain}
+use Rattle.java_shapes.proofs.WordFacts.{Lacks, lacks_not, lacks_head, lacks_tail, identifier_dotless, identifier_not_this, free_identifier, variable_not_free, variable_not_literal, variable_dotless, literal_word, first_whole}
+use Rattle.java_shapes.proofs.Shaped.{named_is, called_is, NothingLeft, nothing_left, path_left, Heads, shape_head}
+use Rattle.java_shapes.proofs.Cut.{this_at, own_field, IsCut, cut}
+use Rattle.java_shapes.proofs.Told.{same_bytes, link_same, alike_plain, alike_turn, heads_told}
 
 -- names
 pub free_not_literal : (g : Parts) (w : List ℕ) → is_free (chars g.binder) w ≡ true → spells_identifier w ≡ true

@@ -1,33 +1,25 @@
 -- Where declarations are told apart, so are well typed terms by their shapes.
-use Rattle.std.proofs.Common.{◌≡◌, ◌≢◌, ◌∙◌, ◌⊎◌, inl, inr, ap, ap₂, sym, subst, refl, ℕ, zero, suc, ◌+◌, ◌<◌, ◌≤◌, ◌^◌, ◌==◌, ◌&&◌, ◌||◌, not, Bool, true, false, List, [], ◌∷◌, ◌++◌, length, slice_get, Option, Some, None, is_some, codes, chars, encode_utf8_all, IsUtf8, arith, append_assoc, append-nil, eqb-true, eq-eqb, ne_eqb, ltb-true, nat_lt}
-use Rattle.std.specs.List.{list_all}
-use Rattle.std.specs.Option.{option_map}
-use Rattle.std.proofs.lemmas.Bool.{false≢true, and_parts, or_cases}
-use Rattle.std.proofs.lemmas.Str.{encodes-append, encodes-chars}
-use Rattle.java_units.specs.Signs.{has}
-use Rattle.java_shapes.specs.Words.{spells_identifier, literals, IsPath}
+use Rattle.std.proofs.Common.{◌≡◌, ◌≢◌, ◌∙◌, ap, ap₂, sym, subst, refl, ℕ, ◌<◌, ◌^◌, ◌&&◌, not, Bool, true, false, List, [], ◌∷◌, ◌++◌, length, slice_get, Option, Some, None, is_some, codes, chars}
+use Rattle.std.proofs.lemmas.Bool.{false≢true}
 use Rattle.terms.specs.Expr.{Expr, var, head, Args, no_args, plain, lam}
-use Rattle.terms.specs.Typing.{type_in, fits, joined, is_below, is_pair, some_below, most_rows}
-use Rattle.terms.specs.Faults.{is_well_formed, are_plain, is_arg_known, IsValid}
-use Rattle.terms.specs.Apart.{Declares, Wants, IsOf, AreAlike, HasReceiver, HasDot, IsDotted, AreTold, IsOwnField, IsToldApart}
-use Rattle.terms.specs.Text.{variable_text, type_text, differs, is_this, head_decl, cast_of, parameters}
+use Rattle.terms.specs.Typing.{type_in, fits, joined}
+use Rattle.terms.specs.Faults.{is_well_formed, IsValid}
+use Rattle.terms.specs.Apart.{Declares, HasReceiver, IsToldApart}
+use Rattle.terms.specs.Text.{variable_text, is_this, head_decl}
 use Rattle.terms.specs.declared.parts.Parts.{Parts}
 use Rattle.terms.specs.declared.parts.Decl.{Decl}
 use Rattle.terms.specs.declared.parts.Arg.{Arg}
 use Rattle.terms.specs.declared.parts.Arg.TheVariants.{Plain, Fun}
 use Rattle.terms.specs.declared.parts.Form.{Form}
 use Rattle.terms.specs.declared.parts.Form.TheVariants.{Name, This, Call, New, Method, Field, Lambda}
-use Rattle.terms.proofs.Valid.{valid-decl, valid-pair}
-use Rattle.java_shapes.specs.Shape.{Shape, named, called, lambda, Before, nothing, fresh, behind, in_brackets, Shapes, no_shapes, shapes}
-use Rattle.java_shapes.specs.Grammar.{IsShape, IsNameBehind}
-use Rattle.java_shapes.specs.ShapeOf.{cast_shape, before_of, path_of, method_shape, field_shape, binder_shapes, shape_in, shapes_in}
-use Rattle.java_shapes.specs.Readable.{is_free, IsFormText, IsTypeText, IsReadable, AreShort, HasShortRows, IsContext}
-use Rattle.java_shapes.proofs.Typed.{below_typed, plain_fits, lam_fits, no_fit-plain_none, no_fit-lam_none, no_fit-none_some, no_fit-plain_fun, no_fit-lam_plain, few_typed, context_more, Opened, opened}
-use Rattle.java_shapes.proofs.WordFacts.{Lacks, lacks_not, last_same, identifier_dotless, identifier_not_this, free_identifier, free_not_binder, variable_not_this, variable_not_free, variable_not_literal, variable_dotless, variable_binder, same_variable, literal_word, first_cut, first_whole}
-use Rattle.java_shapes.proofs.Shaped.{named_is, called_is, lambda_is, shapes_is, named_called, named_lambda, called_lambda, NothingLeft, nothing_left, path_left, Heads, heads, shape_head, shaped, name_not_this, method_not_named, term_shaped}
-use Rattle.java_shapes.proofs.Cut.{ThisAt, this_at, own_field, IsCut, cut, first_same}
-use Rattle.java_shapes.proofs.Told.{same_bytes, same_heads, SameLink, link_same, alike_plain, alike_turn, heads_told, receiver_wanted}
-use Rattle.java_shapes.proofs.ToldPairs.{var_name, name_field_by, var_field_by, this_field_by, no_more, no_args-of, call_method_by, new_method_by, not_fresh, SameRows, same_rows-plain, ArgsTold, alike_told, told_methods, told_fields}
+use Rattle.java_shapes.specs.Shape.{Shape, named, called, lambda, nothing, fresh, Shapes, no_shapes, shapes}
+use Rattle.java_shapes.specs.ShapeOf.{cast_shape, method_shape, field_shape, binder_shapes, shape_in, shapes_in}
+use Rattle.java_shapes.specs.Readable.{IsReadable, AreShort, HasShortRows, IsContext}
+use Rattle.java_shapes.proofs.Typed.{below_typed, plain_fits, lam_fits, no_fit-plain_none, no_fit-lam_none, no_fit-none_some, no_fit-plain_fun, no_fit-lam_plain, few_typed, context_more, opened}
+use Rattle.java_shapes.proofs.WordFacts.{free_identifier, variable_not_this, same_variable}
+use Rattle.java_shapes.proofs.Shaped.{named_is, called_is, lambda_is, shapes_is, Heads, heads, shape_head, shaped, name_not_this, term_shaped}
+use Rattle.java_shapes.proofs.Told.{same_bytes, same_heads, receiver_wanted}
+use Rattle.java_shapes.proofs.ToldPairs.{var_name, name_field_by, var_field_by, this_field_by, no_args-of, call_method_by, new_method_by, not_fresh, SameRows, ArgsTold, alike_told, told_methods, told_fields}
 
 -- heads with a receiver, and lambdas
 received : (g : Parts) (ctx : List (List ℕ)) (j : ℕ) (d : Decl) (l : Bool) (f : Form) (ws : List Arg) (ys : Args) → HasReceiver f → Heads g ctx j d l f ws ys → (P : List Arg → Args → Type 0) → ((b : ℕ) (more : List Arg) (e : Expr) (rest : Args) → Heads g ctx j d l f (Plain b ∷ more) (plain e rest) → P (Plain b ∷ more) (plain e rest)) → P ws ys

@@ -1,5 +1,5 @@
 -- Words hold no signs, and variables are no other words.
-use Rattle.std.proofs.Common.{◌≡◌, ◌≢◌, ◌∙◌, ◌⊎◌, inl, inr, ap, ap₂, sym, subst, refl, ℕ, zero, suc, ◌+◌, ◌<◌, ◌≤◌, ◌^◌, ◌/◌, ◌%◌, ◌==◌, ◌&&◌, ◌||◌, not, nat_le, Bool, true, false, List, [], ◌∷◌, ◌++◌, codes, chars, encode_utf8_all, IsUtf8, bytes_eq, lit<, arith, append_assoc, append-nil, eq-eqb, eqb-true, ne_eqb, leb-true, le-leb}
+use Rattle.std.proofs.Common.{◌≡◌, ◌∙◌, ◌⊎◌, inl, inr, ap, ap₂, sym, subst, refl, ℕ, ◌+◌, ◌<◌, ◌^◌, ◌%◌, ◌==◌, ◌&&◌, ◌||◌, not, nat_le, Bool, true, false, List, [], ◌∷◌, ◌++◌, codes, chars, bytes_eq, lit<, arith, append-nil, eq-eqb, eqb-true, ne_eqb, leb-true, le-leb}
 use Rattle.std.specs.List.{list_all}
 use Rattle.std.specs.Fmt.{decimal}
 use Rattle.std.specs.Char.{is_ascii_alphanumeric, is_ascii_digit, is_ascii_uppercase, is_ascii_lowercase}
@@ -7,7 +7,7 @@ use Rattle.std.proofs.lemmas.Bool.{false≢true, both_ways, and_parts, or_cases,
 use Rattle.std.proofs.lemmas.List.Folds.{list_all-append}
 use Rattle.std.proofs.lemmas.List.{append_cancel_left}
 use Rattle.std.proofs.lemmas.Slice.Eq.{bytes_eq-Decides}
-use Rattle.std.proofs.lemmas.Str.{encodes-chars, chars-append, chars-IsAscii}
+use Rattle.std.proofs.lemmas.Str.{chars-append, chars-IsAscii}
 use Rattle.std.proofs.lemmas.Fmt.{IsAscii-decimal_wide, decimal_by_steps_wide, decimal_is_IsNumeral_wide}
 use Rattle.std.specs.Str.Parse.{digits_value}
 use Rattle.unicode_ident.specs.Ident.{is_xid_start, is_xid_continue}
@@ -17,7 +17,7 @@ use Rattle.java_tokens.specs.Words.{is_word}
 use Rattle.java_units.specs.Signs.{has, reserved}
 use Rattle.terms.specs.Text.{variable_text}
 use Rattle.terms.specs.declared.parts.Parts.{Parts}
-use Rattle.java_shapes.specs.Words.{spells_identifier, literals, begins_name, dotted, are_digits, is_binder, IsPath}
+use Rattle.java_shapes.specs.Words.{spells_identifier, literals, dotted, are_digits, is_binder, IsPath}
 use Rattle.java_shapes.specs.Readable.{is_free, IsReadable}
 
 pub and_both : (a b : Bool) → a ≡ true → b ≡ true → (a && b) ≡ true

@@ -1,6 +1,6 @@
 -- Which shapes are expressions: the grammar of the texts that terms have. Names are JLS 6.5, fields 15.11, calls
 -- 15.12, creation 15.9, casts 15.16, lambdas 15.27. The binders of lambdas are one text with digits.
-use Rattle.std.specs.Prelude.{◌≡◌, ℕ, zero, suc, Bool, true, List, [], ◌∷◌, ◌++◌, Option, Some, None, ◌⊎◌, codes}
+use Rattle.std.specs.Prelude.{◌≡◌, ℕ, zero, suc, true, List, [], ◌∷◌, ◌++◌, Option, Some, None, ◌⊎◌}
 use Rattle.std.specs.List.{list_all}
 use Rattle.java_units.specs.Signs.{has}
 use Rattle.java_units.specs.Forms.{primitives}

@@ -4,3 +4,4 @@ pub mod Shape
 pub mod Grammar
 pub mod ShapeOf
 pub mod Readable
+pub mod Reader
