@@ -8,7 +8,7 @@ use Rattle.terms.specs.Reading.{read}
 use Rattle.terms.specs.declared.parts.Parts.{Parts}
 use Rattle.partial_terms.specs.Fronts.{reading}
 use Rattle.partial_terms.specs.Search.{IsSearch}
-use Rattle.reconstruction.specs.NumberedPlaces.{IsNumbered}
+use Rattle.reconstruction.specs.NumberedPlaces.{no_lambdas, IsNumbered}
 use Rattle.reconstruction.specs.Tabled.{place_of, places_of, least_of, AreNumbered, backwards, front_of, stack_of, IsHeld, seen}
 use Rattle.reconstruction.specs.Levelled.{AreComplete, IsAt}
 use Rattle.reconstruction.specs.declared.item.Item.{Item}
@@ -19,7 +19,7 @@ use Rattle.reconstruction.proofs.Making.{moved_at}
 use Rattle.partial_terms.proofs.Starts.{first_search}
 
 abbrev pub first_place_of : NumberedPlace
-first_place_of = record { row = 0; state = 0 }
+first_place_of = record { lambdas = no_lambdas; state = 0 }
 
 reading-none : (g : Parts) (root : Place) → reading g root [] ≡ Some (record { weight = 0; open_places = root ∷ [] })
 unfolding reading read

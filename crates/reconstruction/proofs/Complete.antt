@@ -375,11 +375,11 @@ module _ (t : Tables) (c : Compression) (valid : IsValid t.env) (lengths : HasLe
           }
 
   -- a declaration that may come to a term within the limit is among the numbers of the ways
-  declared-there : (p : NumberedPlace) (sp : IsNumbered t.env t.patterns p) (k : ℕ) (decl : Decl) → slice_get t.env.decls k ≡ Some decl → is_below t.env decl.result sp.state.goal ≡ true → has_room (left_at t.patterns.space sp.state.set) decl.args ≡ true → decl.weight + binders_weight t.env (binders decl.args) + step_in t.env (Some decl.result) sp.state.goal + total (least_of t) (places (rows_at t.env p.row) (left_at t.patterns.space sp.state.set) decl.args) ≤ t.env.limit → 1 ≤ often (2 * k + 1) (ways_at t.env t.edges p.state)
+  declared-there : (p : NumberedPlace) (sp : IsNumbered t.env t.patterns p) (k : ℕ) (decl : Decl) → slice_get t.env.decls k ≡ Some decl → is_below t.env decl.result sp.state.goal ≡ true → has_room (left_at t.patterns.space sp.state.set) decl.args ≡ true → decl.weight + binders_weight t.env (binders decl.args) + step_in t.env (Some decl.result) sp.state.goal + total (least_of t) (places (rows_at t.env p.lambdas) (left_at t.patterns.space sp.state.set) decl.args) ≤ t.env.limit → 1 ≤ often (2 * k + 1) (ways_at t.env t.edges p.state)
   declared-there p sp k decl found below room fits =
       let d = t.patterns in
       let s = sp.state in
-      let ctx = rows_at t.env p.row in
+      let ctx = rows_at t.env p.lambdas in
       let left = left_at d.space s.set in
       let bound : AllDerivable t.env (types_bound ctx) left decl.args = wants_derive t.env d t.least right ctx left decl.args room (omega (arith, fits)) in
       let wants : AllDerivable t.env (types_at d.space s.set) left decl.args = subst (λ l. AllDerivable t.env l left decl.args) sp.types bound in
@@ -414,16 +414,16 @@ module _ (t : Tables) (c : Compression) (valid : IsValid t.env) (lengths : HasLe
           let same : length (joined (tabled.place_of t p).ctx) ≡ bound_at t p = ap (λ x. length (joined x)) (place-rows t p) in
           omega (arith, low, same)
 
-      heavy : (k : ℕ) (decl : Decl) → slice_get t.env.decls k ≡ Some decl → (a b : Bool) → is_below t.env decl.result sp.state.goal ≡ a → has_room (left_at t.patterns.space sp.state.set) decl.args ≡ b → some_when (a && b) (record { weight = decl.weight + binders_weight t.env (binders decl.args) + step_in t.env (Some decl.result) sp.state.goal; open_places = places (rows_at t.env p.row) (left_at t.patterns.space sp.state.set) decl.args }) ≡ Some r → 1 ≤ often (2 * k + 1) (ways_at t.env t.edges p.state)
+      heavy : (k : ℕ) (decl : Decl) → slice_get t.env.decls k ≡ Some decl → (a b : Bool) → is_below t.env decl.result sp.state.goal ≡ a → has_room (left_at t.patterns.space sp.state.set) decl.args ≡ b → some_when (a && b) (record { weight = decl.weight + binders_weight t.env (binders decl.args) + step_in t.env (Some decl.result) sp.state.goal; open_places = places (rows_at t.env p.lambdas) (left_at t.patterns.space sp.state.set) decl.args }) ≡ Some r → 1 ≤ often (2 * k + 1) (ways_at t.env t.edges p.state)
       heavy k decl found false b below room v = absurd (none_of r v)
       heavy k decl found true false below room v = absurd (none_of r v)
       heavy k decl found true true below room v =
-          let q : Reading = record { weight = decl.weight + binders_weight t.env (binders decl.args) + step_in t.env (Some decl.result) sp.state.goal; open_places = places (rows_at t.env p.row) (left_at t.patterns.space sp.state.set) decl.args } in
+          let q : Reading = record { weight = decl.weight + binders_weight t.env (binders decl.args) + step_in t.env (Some decl.result) sp.state.goal; open_places = places (rows_at t.env p.lambdas) (left_at t.patterns.space sp.state.set) decl.args } in
           let same : q ≡ r = some_of q r v in
           let l : q.weight + total (least_of t) q.open_places ≡ r.weight + total (least_of t) r.open_places = ap (λ (x : Reading). x.weight + total (least_of t) x.open_places) same in
           declared-there p sp k decl found below room (omega (arith, l, fits))
 
-      head : (k : ℕ) (o : Option Decl) → slice_get t.env.decls k ≡ o → declared_at t.env (place_at t.patterns sp.state (rows_at t.env p.row)) o ≡ Some r → 1 ≤ often (2 * k + 1) (ways_at t.env t.edges p.state)
+      head : (k : ℕ) (o : Option Decl) → slice_get t.env.decls k ≡ o → declared_at t.env (place_at t.patterns sp.state (rows_at t.env p.lambdas)) o ≡ Some r → 1 ≤ often (2 * k + 1) (ways_at t.env t.edges p.state)
       head k None is v = absurd (none_of r v)
       head k (Some decl) is v = heavy k decl is (is_below t.env decl.result sp.state.goal) (has_room (left_at t.patterns.space sp.state.set) decl.args) refl refl v
 

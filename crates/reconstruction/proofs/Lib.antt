@@ -5,6 +5,7 @@ pub mod Growths
 pub mod Ways
 pub mod Shuffled
 pub mod Used
+pub mod Contexts
 pub mod Bound
 pub mod Making
 pub mod Seeking

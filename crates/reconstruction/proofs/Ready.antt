@@ -10,7 +10,6 @@ use Rattle.terms.specs.declared.parts.Arg.{Arg}
 use Rattle.terms.specs.declared.parts.Arg.TheVariants.{Plain, Fun}
 use Rattle.terms.specs.declared.parts.Parts.{Parts}
 use Rattle.terms.specs.Typing.{joined}
-use Rattle.terms.proofs.Valid.{valid-depth}
 use Rattle.succinct.specs.Compression.{Compression, IsCompression}
 use Rattle.succinct.specs.Sets.{types_bound}
 use Rattle.patterns.specs.Derivable.{Derivable, AllDerivable, none, value, lambda}
@@ -23,14 +22,15 @@ use Rattle.least_weights.specs.LeastWeight.{AreLeastWeights}
 use Rattle.partial_terms.specs.Leasts.{AreLeast}
 use Rattle.reconstruction.specs.NumberedPlaces.{IsKept, least_at}
 use Rattle.reconstruction.proofs.Weights.{least-low, least-met}
+use Rattle.reconstruction.proofs.Contexts.{valid-rows}
 use Rattle.reconstruction.proofs.Opens.{opens-kept}
 
 kept-room : (g : Parts) (d : Patterned) → IsValid g → (p : Place) → IsKept g d p → HasRoom p
 kept-room g d valid p k =
-    let flat = valid-depth g valid in
+    let deep = valid-rows g valid in
     let rows = k.at.depth in
     let left : p.left ≡ left_at d.space k.at.state.set = ap (λ (q : Place). q.left) k.is in
-    omega (arith, flat, rows, left)
+    omega (arith, deep, rows, left)
 
 -- the numbers of the states are least weights for the search
 pub are_least : (g : Parts) (c : Compression) (d : Patterned) (weights : List (Option ℕ)) → IsValid g → IsCompression g c → ArePatterns c g.goal g.depth d → AreLeastWeights g d weights → AreLeast g g.limit (IsKept g d) (least_at g d weights)

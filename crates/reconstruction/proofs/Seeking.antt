@@ -16,7 +16,7 @@ use Rattle.reconstruction.proofs.Weights.{least-is}
 -- the weight of a numbered place's state is the least weight at its place
 pub place-least : (t : Tables) → AreComplete t → (p : NumberedPlace) → IsNumbered t.env t.patterns p → (o : Option ℕ) → o ≡ get_or t.least p.state None → number t.env.limit o ≡ least_of t (place_of t p)
 place-least t ready p place o is =
-    let rows = rows_at t.env p.row in
+    let rows = rows_at t.env p.lambdas in
     let at : place_of t p ≡ place_at t.patterns place.state rows = ap (λ s. at_state t.patterns s rows) place.is in
     ap (number t.env.limit) is
     ∙ sym (least-is t.env t.patterns t.least ready.weights p.state place.state rows place.is place.types place.depth)

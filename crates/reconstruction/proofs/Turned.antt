@@ -8,13 +8,13 @@ use Rattle.terms.specs.Faults.{IsValid, HasLengths, are_plain}
 use Rattle.terms.specs.Place.{Place}
 use Rattle.terms.specs.Reading.{has_room, places, binders, some_when, declared_at, turn_by, turn}
 use Rattle.terms.specs.Typing.{args_wanted, is_below, is_pair}
-use Rattle.terms.specs.Weights.{binders_weight, step_in}
+use Rattle.terms.specs.Weights.{binders_weight, coercion_weight, step_in}
 use Rattle.terms.specs.declared.parts.Arg.{Arg}
 use Rattle.terms.specs.declared.parts.Arg.TheVariants.{Plain, Fun}
 use Rattle.terms.specs.declared.parts.Decl.{Decl}
 use Rattle.terms.specs.declared.parts.Parts.{Parts}
 use Rattle.terms.proofs.Halves.{symbol-odd}
-use Rattle.terms.proofs.Valid.{valid-decl, valid-depth, valid-limit, valid-pair, below-itself}
+use Rattle.terms.proofs.Valid.{valid-decl, valid-limit, valid-pair, below-itself}
 use Rattle.succinct.specs.Compression.{Compression, need_of}
 use Rattle.patterns.specs.Patterned.{Patterned, ArePatterns, state_sought, sought_from}
 use Rattle.patterns.specs.States.{left_at, place_in, place_sought, place_of}
@@ -26,13 +26,15 @@ use Rattle.least_weights.specs.LeastWeight.{AreLeastWeights, place_at}
 use Rattle.least_weights.proofs.Joins.{pair-get}
 use Rattle.least_weights.proofs.Lows.{split-tails, no-tails, step-same, step-apart}
 use Rattle.least_weights.proofs.Sought.{IsAt, plain-at, fun-at}
-use Rattle.reconstruction.specs.NumberedPlaces.{row_of_args, row_of_decl, rows_at, at_state, IsNumbered}
+use Rattle.reconstruction.specs.NumberedPlaces.{row_of_args, row_of_decl, rows_at, with_lambda, at_state, IsNumbered}
 use Rattle.reconstruction.specs.Tabled as tabled
 use Rattle.reconstruction.specs.Tabled.{places_of, least_of, AreNumbered, IsTurn, numbered_under}
-use Rattle.reconstruction.specs.Totals.{IsCapped, AreTotals, number_of, least_total, row_by, row_under}
+use Rattle.reconstruction.specs.Totals.{IsCapped, AreTotals, number_of, least_total, lambdas_by, lambdas_under}
 use Rattle.reconstruction.specs.Ways.{Turns, IsHeadBy, IsHeadOf, IsWayBy, IsWayOf}
+use Rattle.reconstruction.specs.declared.numbered_place.Lambdas.{Lambdas}
 use Rattle.reconstruction.specs.declared.numbered_place.NumberedPlace.{NumberedPlace}
 use Rattle.reconstruction.specs.declared.tables.Tables.{Tables}
+use Rattle.reconstruction.proofs.Contexts.{valid-rows, rows-more}
 use Rattle.reconstruction.proofs.Evens.{args-shape}
 use Rattle.reconstruction.proofs.Weights.{least-is}
 use Rattle.reconstruction.proofs.Edged.{AtDecl, EdgeCase}
@@ -73,10 +75,6 @@ pub places-fun : (ctx : List (List ℕ)) (left : ℕ) (ps : List ℕ) (r : ℕ) 
 unfolding places
 places-fun ctx left ps r = refl
 
-no_rows : (ctx : List (List ℕ)) → length ctx ≡ 0 → ctx ≡ []
-no_rows [] h = refl
-no_rows (x ∷ ctx) h = absurd (omega (arith, h))
-
 -- a state at which a value is sought from another one
 pub value-state : (g : Parts) (c : Compression) (d : Patterned) → ArePatterns c g.goal g.depth d → (i : ℕ) (s : State) (b t : ℕ) → slice_get d.states i ≡ Some s → IsTail c d i (Plain b) t → slice_get d.states t ≡ Some (record { set = s.set; goal = b })
 value-state g c d made i s b t is tail =
@@ -91,29 +89,29 @@ single [] h = absurd (omega (arith, h))
 single (b ∷ []) h = (b, refl)
 single (b ∷ x ∷ ts) h = absurd (omega (arith, h))
 
--- values leave the row as it is
-plain-row : (args : List Arg) (row k : ℕ) → are_plain args ≡ true → row_by args row k ≡ row
-plain-row [] row k h = refl
-plain-row (Plain b ∷ []) row k h = refl
-plain-row (Plain b ∷ a ∷ more) row k h = refl
-plain-row (Fun ps r ∷ more) row k h = absurd (false≢true h)
+-- values leave the lambdas as they are
+plain-row : (args : List Arg) (around : Lambdas) (k : ℕ) → are_plain args ≡ true → lambdas_by args around k ≡ around
+plain-row [] around k h = refl
+plain-row (Plain b ∷ []) around k h = refl
+plain-row (Plain b ∷ a ∷ more) around k h = refl
+plain-row (Fun ps r ∷ more) around k h = absurd (false≢true h)
 
 more_capped : (limit w real extra both : ℕ) → IsCapped limit w real → both ≡ real + extra → IsCapped limit (w + extra) both
 more_capped limit w real extra both (inl same) sum = inl (omega (arith, same, sum))
 more_capped limit w real extra both (inr past) sum = (let a = past.0 in let b = past.1 in inr (omega (arith, a), omega (arith, b, sum)))
 
 -- the place of a lambda's body, and that there is room for it
-pub record BodyOpened (t : Tables) (k left : ℕ) (ctx : List (List ℕ)) (args : List Arg) (body : ℕ) : Type 0 where
+pub record BodyOpened (t : Tables) (inner : Lambdas) (left : ℕ) (ctx : List (List ℕ)) (args : List Arg) (body : ℕ) : Type 0 where
   pub room : has_room left args ≡ true
-  pub opened : Opened t (places ctx left args) (numbered_under (k + 1) (body ∷ [])) (least_total t.env.limit t.least (body ∷ []))
+  pub opened : Opened t (places ctx left args) (numbered_under inner (body ∷ [])) (least_total t.env.limit t.least (body ∷ []))
 
 module _ (t : Tables) (c : Compression) (valid : IsValid t.env) (lengths : HasLengths t.env) (made : ArePatterns c t.env.goal t.env.depth t.patterns) (right : AreLeastWeights t.env t.patterns t.least) where
   -- a place that stands at a state is that of its numbers
-  pub numbered-is : (i row left b : ℕ) → IsAt t.patterns t.env.depth i (rows_at t.env row) left b → IsNumberedAs t (record { ctx = rows_at t.env row; left = left; wanted = b }) (record { row = row; state = i }) (number_of t.env.limit t.least i)
-  numbered-is i row left b at =
+  pub numbered-is : (i : ℕ) (around : Lambdas) (left b : ℕ) → IsAt t.patterns t.env.depth i (rows_at t.env around) left b → IsNumberedAs t (record { ctx = rows_at t.env around; left = left; wanted = b }) (record { lambdas = around; state = i }) (number_of t.env.limit t.least i)
+  numbered-is i around left b at =
       let d = t.patterns in
       let s = at.state in
-      let ctx = rows_at t.env row in
+      let ctx = rows_at t.env around in
       let rows = at.rows in
       let l = at.left_is in
       let depth : length ctx + left_at d.space s.set ≡ t.env.depth = omega (arith, rows, l) in
@@ -126,37 +124,36 @@ module _ (t : Tables) (c : Compression) (valid : IsValid t.env) (lengths : HasLe
       }
 
   -- the places of values
-  pub plain-opened : (i row left b : ℕ) → IsAt t.patterns t.env.depth i (rows_at t.env row) left b → (args : List Arg) (ts : List ℕ) → are_plain args ≡ true → AreTails c t.patterns i args ts → Opened t (places (rows_at t.env row) left args) (numbered_under row ts) (least_total t.env.limit t.least ts)
+  pub plain-opened : (i : ℕ) (around : Lambdas) (left b : ℕ) → IsAt t.patterns t.env.depth i (rows_at t.env around) left b → (args : List Arg) (ts : List ℕ) → are_plain args ≡ true → AreTails c t.patterns i args ts → Opened t (places (rows_at t.env around) left args) (numbered_under around ts) (least_total t.env.limit t.least ts)
   unfolding places
-  plain-opened i row left b at [] ts plain tails = subst (λ l. Opened t [] (numbered_under row l) (least_total t.env.limit t.least l)) (sym (no-tails c t.patterns i ts tails)) (opened-none t)
-  plain-opened i row left b at (Plain a ∷ args) ts plain tails =
+  plain-opened i around left b at [] ts plain tails = subst (λ l. Opened t [] (numbered_under around l) (least_total t.env.limit t.least l)) (sym (no-tails c t.patterns i ts tails)) (opened-none t)
+  plain-opened i around left b at (Plain a ∷ args) ts plain tails =
       let s = split-tails c t.patterns i (Plain a) args ts tails in
-      let inner = plain-at c t.patterns t.env.depth made.wanted made.steps i s.first (rows_at t.env row) left b a at s.tail in
-      let rest = plain-opened i row left b at args s.rest plain s.others in
-      let qs = places (rows_at t.env row) left args in
-      let q : Place = record { ctx = rows_at t.env row; left = left; wanted = a } in
-      let p : NumberedPlace = record { row = row; state = s.first } in
-      subst (λ l. Opened t (q ∷ qs) (numbered_under row l) (least_total t.env.limit t.least l)) (sym s.is)
-      (opened-more t q p (number_of t.env.limit t.least s.first) qs (numbered_under row s.rest) (least_total t.env.limit t.least s.rest) (numbered-is s.first row left a inner) rest)
-  plain-opened i row left b at (Fun ps r ∷ args) ts plain tails = absurd (false≢true plain)
+      let inner = plain-at c t.patterns t.env.depth made.wanted made.steps i s.first (rows_at t.env around) left b a at s.tail in
+      let rest = plain-opened i around left b at args s.rest plain s.others in
+      let qs = places (rows_at t.env around) left args in
+      let q : Place = record { ctx = rows_at t.env around; left = left; wanted = a } in
+      let p : NumberedPlace = record { lambdas = around; state = s.first } in
+      subst (λ l. Opened t (q ∷ qs) (numbered_under around l) (least_total t.env.limit t.least l)) (sym s.is)
+      (opened-more t q p (number_of t.env.limit t.least s.first) qs (numbered_under around s.rest) (least_total t.env.limit t.least s.rest) (numbered-is s.first around left a inner) rest)
+  plain-opened i around left b at (Fun ps r ∷ args) ts plain tails = absurd (false≢true plain)
 
-  pub lambda-opened : (i row left b k body : ℕ) (decl : Decl) (ps : List ℕ) (r : ℕ) → IsAt t.patterns t.env.depth i (rows_at t.env row) left b → slice_get t.env.decls k ≡ Some decl → decl.args ≡ Fun ps r ∷ [] → AreTails c t.patterns i decl.args (body ∷ []) → BodyOpened t k left (rows_at t.env row) decl.args body
-  lambda-opened i row left b k body decl ps r at is wants tails =
+  pub lambda-opened : (i : ℕ) (around : Lambdas) (left b k body : ℕ) (decl : Decl) (ps : List ℕ) (r : ℕ) → IsAt t.patterns t.env.depth i (rows_at t.env around) left b → slice_get t.env.decls k ≡ Some decl → decl.args ≡ Fun ps r ∷ [] → AreTails c t.patterns i decl.args (body ∷ []) → BodyOpened t (with_lambda around k) left (rows_at t.env around) decl.args body
+  lambda-opened i around left b k body decl ps r at is wants tails =
       let d = t.patterns in
-      let ctx = rows_at t.env row in
+      let ctx = rows_at t.env around in
       let tail : IsTail c d i (Fun ps r) body = tails.each 0 (Fun ps r) body (ap (λ l. slice_get l 0) wants) refl in
       let u = fun-at c d t.env.depth made.wanted made.steps i body ctx left b ps r at tail in
-      let flat = valid-depth t.env valid in
+      let deep = valid-rows t.env valid in
       let rows = at.rows in
       let some = u.left_is in
-      let outer : ctx ≡ [] = no_rows ctx (omega (arith, flat, rows, some)) in
-      let e : k + 1 ≡ suc k = omega arith in
-      let row_is : rows_at t.env (k + 1) ≡ ps ∷ [] = ap (rows_at t.env) e ∙ ap row_of_decl is ∙ ap row_of_args wants in
-      let same : ctx ++ ps ∷ [] ≡ rows_at t.env (k + 1) = ap (λ (x : List (List ℕ)). x ++ ps ∷ []) outer ∙ sym row_is in
-      let inner : IsAt d t.env.depth body (rows_at t.env (k + 1)) u.inner r = subst (λ x. IsAt d t.env.depth body x u.inner r) same u.at in
-      let q : Place = record { ctx = rows_at t.env (k + 1); left = u.inner; wanted = r } in
-      let p : NumberedPlace = record { row = k + 1; state = body } in
-      let one : Opened t (q ∷ []) (p ∷ []) (least_total t.env.limit t.least (body ∷ [])) = opened-more t q p (number_of t.env.limit t.least body) [] [] 0 (numbered-is body (k + 1) u.inner r inner) (opened-none t) in
+      let room : length ctx ≤ 2 = omega (arith, deep, rows, some) in
+      let under : Lambdas = with_lambda around k in
+      let same : ctx ++ ps ∷ [] ≡ rows_at t.env under = ap (λ (x : List ℕ). ctx ++ x ∷ []) (sym (ap row_of_decl is ∙ ap row_of_args wants)) ∙ sym (rows-more t.env around k room) in
+      let inner : IsAt d t.env.depth body (rows_at t.env under) u.inner r = subst (λ x. IsAt d t.env.depth body x u.inner r) same u.at in
+      let q : Place = record { ctx = rows_at t.env under; left = u.inner; wanted = r } in
+      let p : NumberedPlace = record { lambdas = under; state = body } in
+      let one : Opened t (q ∷ []) (p ∷ []) (least_total t.env.limit t.least (body ∷ [])) = opened-more t q p (number_of t.env.limit t.least body) [] [] 0 (numbered-is body under u.inner r inner) (opened-none t) in
       let shown : places ctx left decl.args ≡ q ∷ [] = ap (places ctx left) wants ∙ ap (λ n. places ctx n (Fun ps r ∷ [])) u.left_is ∙ places-fun ctx u.inner ps r ∙ ap (λ x. record { ctx = x; left = u.inner; wanted = r } ∷ []) same in
       record {
         room = ap (has_room left) wants ∙ ap (λ n. has_room n (Fun ps r ∷ [])) u.left_is ∙ fun-room u.inner ps r;
@@ -164,10 +161,10 @@ module _ (t : Tables) (c : Compression) (valid : IsValid t.env) (lengths : HasLe
       }
 
   -- a head whose wants are numbered places is a turn
-  opened-turn : (i row left b goal k w extra : ℕ) (ts : List ℕ) (numbered : List NumberedPlace) (decl : Decl) → slice_get t.env.decls k ≡ Some decl → decl.result ≡ goal → IsCapped t.env.limit w (decl.weight + binders_weight t.env (binders decl.args) + least_total t.env.limit t.least ts) → has_room left decl.args ≡ true → Opened t (places (rows_at t.env row) left decl.args) numbered (least_total t.env.limit t.least ts) → is_below t.env goal b ≡ true → step_in t.env (Some goal) b ≡ extra → IsTurn t (record { ctx = rows_at t.env row; left = left; wanted = b }) (2 * k + 1) (w + extra) numbered
+  opened-turn : (i : ℕ) (around : Lambdas) (left b goal k w extra : ℕ) (ts : List ℕ) (numbered : List NumberedPlace) (decl : Decl) → slice_get t.env.decls k ≡ Some decl → decl.result ≡ goal → IsCapped t.env.limit w (decl.weight + binders_weight t.env (binders decl.args) + least_total t.env.limit t.least ts) → has_room left decl.args ≡ true → Opened t (places (rows_at t.env around) left decl.args) numbered (least_total t.env.limit t.least ts) → is_below t.env goal b ≡ true → step_in t.env (Some goal) b ≡ extra → IsTurn t (record { ctx = rows_at t.env around; left = left; wanted = b }) (2 * k + 1) (w + extra) numbered
   unfolding turn
-  opened-turn i row left b goal k w extra ts numbered decl found gives total_is room o below weighs =
-      let ctx = rows_at t.env row in
+  opened-turn i around left b goal k w extra ts numbered decl found gives total_is room o below weighs =
+      let ctx = rows_at t.env around in
       let q : Place = record { ctx = ctx; left = left; wanted = b } in
       let weight = decl.weight + binders_weight t.env (binders decl.args) + step_in t.env (Some decl.result) b in
       let tests : is_below t.env decl.result b && has_room left decl.args ≡ true = and_from (is_below t.env decl.result b) (has_room left decl.args) (ap (λ x. is_below t.env x b) gives ∙ below) room in
@@ -187,14 +184,14 @@ module _ (t : Tables) (c : Compression) (valid : IsValid t.env) (lengths : HasLe
   small-weight w h = (let l = valid-limit t.env valid in let top = l.1 in omega (arith, h, top))
 
   -- the place of the numbers, written out
-  pub numbered-place : (p : NumberedPlace) (s : IsNumbered t.env t.patterns p) → tabled.place_of t p ≡ place_at t.patterns s.state (rows_at t.env p.row)
-  numbered-place p s = ap (λ o. at_state t.patterns o (rows_at t.env p.row)) s.is
+  pub numbered-place : (p : NumberedPlace) (s : IsNumbered t.env t.patterns p) → tabled.place_of t p ≡ place_at t.patterns s.state (rows_at t.env p.lambdas)
+  numbered-place p s = ap (λ o. at_state t.patterns o (rows_at t.env p.lambdas)) s.is
 
-  pub numbered-at : (p : NumberedPlace) (s : IsNumbered t.env t.patterns p) → IsAt t.patterns t.env.depth p.state (rows_at t.env p.row) (left_at t.patterns.space s.state.set) s.state.goal
+  pub numbered-at : (p : NumberedPlace) (s : IsNumbered t.env t.patterns p) → IsAt t.patterns t.env.depth p.state (rows_at t.env p.lambdas) (left_at t.patterns.space s.state.set) s.state.goal
   numbered-at p s = record { state = s.state; is = s.is; types = s.types; left_is = refl; goal = refl; rows = s.depth }
 
   -- a declaration's edge that gives just a type is a turn where that type may stand
-  decl-turn : (totals : AreTotals t.env.limit t.least t.edges t.totals) (p : NumberedPlace) (s : IsNumbered t.env t.patterns p) (i goal extra m : ℕ) (e : Edge) (x : State) → slice_get t.edges m ≡ Some e → IsAt t.patterns t.env.depth i (rows_at t.env p.row) (left_at t.patterns.space s.state.set) goal → is_below t.env goal s.state.goal ≡ true → step_in t.env (Some goal) s.state.goal ≡ extra → x.goal ≡ goal → (q : AtDecl t.env c t.patterns i x e) → Turns t p extra q.number (get_or t.totals m 0) (numbered_under (row_under t.env p.row q.number) e.tails)
+  decl-turn : (totals : AreTotals t.env.limit t.least t.edges t.totals) (p : NumberedPlace) (s : IsNumbered t.env t.patterns p) (i goal extra m : ℕ) (e : Edge) (x : State) → slice_get t.edges m ≡ Some e → IsAt t.patterns t.env.depth i (rows_at t.env p.lambdas) (left_at t.patterns.space s.state.set) goal → is_below t.env goal s.state.goal ≡ true → step_in t.env (Some goal) s.state.goal ≡ extra → x.goal ≡ goal → (q : AtDecl t.env c t.patterns i x e) → Turns t p extra q.number (get_or t.totals m 0) (numbered_under (lambdas_under t.env p.lambdas q.number) e.tails)
   decl-turn totals p s i goal extra m e x there at below weighs same q = go (args-shape q.decl.form q.decl.args (valid-decl t.env valid q.number q.decl q.is).formed)
     where
       left : ℕ
@@ -203,27 +200,27 @@ module _ (t : Tables) (c : Compression) (valid : IsValid t.env) (lengths : HasLe
       w : ℕ
       w = get_or t.totals m 0
 
-      sum : IsCapped t.env.limit w (q.decl.weight + binders q.decl.args + least_total t.env.limit t.least e.tails)
+      sum : IsCapped t.env.limit w (q.decl.weight + binders_weight t.env (binders q.decl.args) + least_total t.env.limit t.least e.tails)
       sum = subst (λ n. IsCapped t.env.limit w (n + least_total t.env.limit t.least e.tails)) q.weighs (totals.each m e there).capped
 
-      turned : (row : ℕ) → row_under t.env p.row q.number ≡ row → has_room left q.decl.args ≡ true → Opened t (places (rows_at t.env p.row) left q.decl.args) (numbered_under row e.tails) (least_total t.env.limit t.least e.tails) → Turns t p extra q.number w (numbered_under (row_under t.env p.row q.number) e.tails)
-      turned row is room o = record {
+      turned : (around : Lambdas) → lambdas_under t.env p.lambdas q.number ≡ around → has_room left q.decl.args ≡ true → Opened t (places (rows_at t.env p.lambdas) left q.decl.args) (numbered_under around e.tails) (least_total t.env.limit t.least e.tails) → Turns t p extra q.number w (numbered_under (lambdas_under t.env p.lambdas q.number) e.tails)
+      turned around is room o = record {
         number = small-number q.number q.decl q.is;
         small = small-weight w (totals.each m e there).small;
-        head = subst (λ r. IsTurn t (tabled.place_of t p) (2 * q.number + 1) (w + extra) (numbered_under r e.tails)) (sym is) (subst (λ y. IsTurn t y (2 * q.number + 1) (w + extra) (numbered_under row e.tails)) (sym (numbered-place p s))
-            (opened-turn i p.row left s.state.goal goal q.number w extra e.tails (numbered_under row e.tails) q.decl q.is (q.gives ∙ same) sum room o below weighs));
+        head = subst (λ r. IsTurn t (tabled.place_of t p) (2 * q.number + 1) (w + extra) (numbered_under r e.tails)) (sym is) (subst (λ y. IsTurn t y (2 * q.number + 1) (w + extra) (numbered_under around e.tails)) (sym (numbered-place p s))
+            (opened-turn i p.lambdas left s.state.goal goal q.number w extra e.tails (numbered_under around e.tails) q.decl q.is (q.gives ∙ same) sum room o below weighs));
       }
 
-      go : (are_plain q.decl.args ≡ true) ⊎ ((ps : List ℕ) × (r : ℕ) × (q.decl.args ≡ Fun ps r ∷ [])) → Turns t p extra q.number w (numbered_under (row_under t.env p.row q.number) e.tails)
-      go (inl plain) = turned p.row (ap (λ o. row_by (args_wanted o) p.row q.number) q.is ∙ plain-row q.decl.args p.row q.number plain) (plain-room left q.decl.args plain) (plain-opened i p.row left goal at q.decl.args e.tails plain q.tails)
+      go : (are_plain q.decl.args ≡ true) ⊎ ((ps : List ℕ) × (r : ℕ) × (q.decl.args ≡ Fun ps r ∷ [])) → Turns t p extra q.number w (numbered_under (lambdas_under t.env p.lambdas q.number) e.tails)
+      go (inl plain) = turned p.lambdas (ap (λ o. lambdas_by (args_wanted o) p.lambdas q.number) q.is ∙ plain-row q.decl.args p.lambdas q.number plain) (plain-room left q.decl.args plain) (plain-opened i p.lambdas left goal at q.decl.args e.tails plain q.tails)
       go (inr fun) =
           let one = single e.tails (q.tails.as_many ∙ ap length fun.2) in
           let tails : AreTails c t.patterns i q.decl.args (one.0 ∷ []) = subst (AreTails c t.patterns i q.decl.args) one.1 q.tails in
-          let o = lambda-opened i p.row left goal q.number one.0 q.decl fun.0 fun.1 at q.is fun.2 tails in
-          turned (q.number + 1) (ap (λ o. row_by (args_wanted o) p.row q.number) q.is ∙ ap (λ l. row_by l p.row q.number) fun.2) o.room (subst (λ l. Opened t (places (rows_at t.env p.row) left q.decl.args) (numbered_under (q.number + 1) l) (least_total t.env.limit t.least l)) (sym one.1) o.opened)
+          let o = lambda-opened i p.lambdas left goal q.number one.0 q.decl fun.0 fun.1 at q.is fun.2 tails in
+          turned (with_lambda p.lambdas q.number) (ap (λ o. lambdas_by (args_wanted o) p.lambdas q.number) q.is ∙ ap (λ l. lambdas_by l p.lambdas q.number) fun.2) o.room (subst (λ l. Opened t (places (rows_at t.env p.lambdas) left q.decl.args) (numbered_under (with_lambda p.lambdas q.number) l) (least_total t.env.limit t.least l)) (sym one.1) o.opened)
 
   -- the edge of a state is a head where its type may stand
-  pub head-of : (totals : AreTotals t.env.limit t.least t.edges t.totals) (p : NumberedPlace) (s : IsNumbered t.env t.patterns p) (i goal extra m : ℕ) (e : Edge) (x : State) → slice_get t.edges m ≡ Some e → IsAt t.patterns t.env.depth i (rows_at t.env p.row) (left_at t.patterns.space s.state.set) goal → is_below t.env goal s.state.goal ≡ true → step_in t.env (Some goal) s.state.goal ≡ extra → x.goal ≡ goal → EdgeCase t.env c t.patterns i x e → IsHeadOf t p extra m e
+  pub head-of : (totals : AreTotals t.env.limit t.least t.edges t.totals) (p : NumberedPlace) (s : IsNumbered t.env t.patterns p) (i goal extra m : ℕ) (e : Edge) (x : State) → slice_get t.edges m ≡ Some e → IsAt t.patterns t.env.depth i (rows_at t.env p.lambdas) (left_at t.patterns.space s.state.set) goal → is_below t.env goal s.state.goal ≡ true → step_in t.env (Some goal) s.state.goal ≡ extra → x.goal ≡ goal → EdgeCase t.env c t.patterns i x e → IsHeadOf t p extra m e
   head-of totals p s i goal extra m e x there at below weighs same (inl v) = subst (λ o. IsHeadBy t p extra o (get_or t.totals m 0) e.tails) (sym v.declared) tt
   head-of totals p s i goal extra m e x there at below weighs same (inr (inl q)) = subst (λ o. IsHeadBy t p extra o (get_or t.totals m 0) e.tails) (sym q.declared) (decl-turn totals p s i goal extra m e x there at below weighs same q)
   head-of totals p s i goal extra m e x there at below weighs same (inr (inr q)) = subst (λ o. IsHeadBy t p extra o (get_or t.totals m 0) e.tails) (sym q.declared) tt
@@ -244,8 +241,8 @@ module _ (t : Tables) (c : Compression) (valid : IsValid t.env) (lengths : HasLe
       go (inr (inl q)) = subst (IsWayBy t p m e) (sym q.lower) (own (inr (inl q)))
       go (inr (inr q)) =
           let left = left_at t.patterns.space s.state.set in
-          let at = plain-at c t.patterns t.env.depth made.wanted made.steps p.state q.below (rows_at t.env p.row) left s.state.goal q.low (numbered-at p s) q.tail in
+          let at = plain-at c t.patterns t.env.depth made.wanted made.steps p.state q.below (rows_at t.env p.lambdas) left s.state.goal q.low (numbered-at p s) q.tail in
           let x = value-state t.env c t.patterns made p.state s.state q.low q.below s.is q.tail in
           let pair : is_pair t.env.pairs q.low s.state.goal ≡ true = pair-get t.env.pairs q.place (q.low, s.state.goal) q.is in
           let apart = (valid-pair t.env valid q.low s.state.goal pair).2 in
-          subst (IsWayBy t p m e) (sym q.lower) (λ n f at_f here_f. head-of totals p s q.below q.low 10 n f (record { set = s.state.set; goal = q.low }) at_f at (pair-below q.low s.state.goal pair) (step-apart t.env q.low s.state.goal apart) refl (cases q.below n (record { set = s.state.set; goal = q.low }) f x at_f here_f))
+          subst (IsWayBy t p m e) (sym q.lower) (λ n f at_f here_f. head-of totals p s q.below q.low (coercion_weight t.env) n f (record { set = s.state.set; goal = q.low }) at_f at (pair-below q.low s.state.goal pair) (step-apart t.env q.low s.state.goal apart) refl (cases q.below n (record { set = s.state.set; goal = q.low }) f x at_f here_f))

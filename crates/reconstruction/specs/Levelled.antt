@@ -7,7 +7,7 @@ use Rattle.terms.specs.Reading.{Reading, turn}
 use Rattle.least_weights.specs.LeastWeight.{AreLeastWeights}
 use Rattle.partial_terms.specs.Leasts.{AreLeast}
 use Rattle.partial_terms.specs.Search.{IsSearch}
-use Rattle.reconstruction.specs.NumberedPlaces.{IsNumbered, IsKept}
+use Rattle.reconstruction.specs.NumberedPlaces.{no_lambdas, IsNumbered, IsKept}
 use Rattle.reconstruction.specs.Tabled.{place_of, least_of, front_of, AreHeld, seen}
 use Rattle.reconstruction.specs.Totals.{AreTotals}
 use Rattle.reconstruction.specs.Usable.{AreFloors, AreUsable}
@@ -26,8 +26,8 @@ pub record AreComplete (t : Tables) : Type 0 where
   pub weights : AreLeastWeights t.env t.patterns t.least
   pub least : AreLeast t.env t.env.limit (IsKept t.env t.patterns) (least_of t)
   pub root : IsKept t.env t.patterns (goal_place t.env)
-  pub start : IsNumbered t.env t.patterns (record { row = 0; state = 0 })
-  pub start_is : place_of t (record { row = 0; state = 0 }) ≡ goal_place t.env
+  pub start : IsNumbered t.env t.patterns (record { lambdas = no_lambdas; state = 0 })
+  pub start_is : place_of t (record { lambdas = no_lambdas; state = 0 }) ≡ goal_place t.env
   pub ways : (p : NumberedPlace) → IsNumbered t.env t.patterns p → AreWaysAt t p p.state
   pub once : (p : NumberedPlace) → IsNumbered t.env t.patterns p → (n : ℕ) → count (λ m. m == n) (numbers_at t p) ≤ 1
   pub totals : AreTotals t.env.limit t.least t.edges t.totals

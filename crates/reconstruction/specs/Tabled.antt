@@ -11,6 +11,7 @@ use Rattle.reconstruction.specs.Totals.{IsCapped}
 use Rattle.reconstruction.specs.declared.item.Item.{Item}
 use Rattle.reconstruction.specs.declared.item.Arena.{Arena}
 use Rattle.reconstruction.specs.declared.item.Parent.{Parent}
+use Rattle.reconstruction.specs.declared.numbered_place.Lambdas.{Lambdas}
 use Rattle.reconstruction.specs.declared.numbered_place.NumberedPlace.{NumberedPlace}
 use Rattle.reconstruction.specs.declared.tables.Tables.{Tables}
 
@@ -74,10 +75,10 @@ pub record IsTurn (t : Tables) (p : Place) (n w : ℕ) (numbered : List Numbered
   pub opened : AreNumbered t numbered
   pub capped : IsCapped t.env.limit w (weight + total (least_of t) (places_of t numbered))
 
--- the numbered places of these states under one row
-abbrev pub numbered_under : ℕ → List ℕ → List NumberedPlace
-numbered_under row [] = []
-numbered_under row (s ∷ more) = record { row = row; state = s } ∷ numbered_under row more
+-- the numbered places of these states under the same lambdas
+abbrev pub numbered_under : Lambdas → List ℕ → List NumberedPlace
+numbered_under l [] = []
+numbered_under l (s ∷ more) = record { lambdas = l; state = s } ∷ numbered_under l more
 
 -- what follows a front by one number
 abbrev pub child : Tables → List ℕ → ℕ → Option Reading

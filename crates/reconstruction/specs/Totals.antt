@@ -6,7 +6,8 @@ use Rattle.terms.specs.declared.parts.Arg.{Arg}
 use Rattle.terms.specs.declared.parts.Arg.TheVariants.{Fun}
 use Rattle.terms.specs.declared.parts.Parts.{Parts}
 use Rattle.edges.specs.Edges.{Edge}
-use Rattle.reconstruction.specs.NumberedPlaces.{number}
+use Rattle.reconstruction.specs.NumberedPlaces.{number, with_lambda}
+use Rattle.reconstruction.specs.declared.numbered_place.Lambdas.{Lambdas}
 
 -- the least weight at a state, above the limit where there is none
 abbrev pub number_of : ℕ → List (Option ℕ) → ℕ → ℕ
@@ -52,10 +53,10 @@ IsLightest g edges totals start end least = (m k : ℕ) (e : Edge) → start ≤
 abbrev pub AreLightest : Parts → List Edge → List ℕ → List ℕ → Type 0
 AreLightest g edges totals lightest = (m k : ℕ) (e : Edge) → slice_get edges m ≡ Some e → declared_in g e.source ≡ Some k → slice_index_or lightest e.state 0 ≤ slice_index_or totals m 0
 
--- the row of the places that a declaration opens: its own where it wants just a lambda
-abbrev pub row_by : List Arg → ℕ → ℕ → ℕ
-row_by (Fun ps r ∷ []) row k = k + 1
-row_by _ row k = row
+-- the lambdas around the places that a declaration opens: one more where it wants just a lambda
+abbrev pub lambdas_by : List Arg → Lambdas → ℕ → Lambdas
+lambdas_by (Fun ps r ∷ []) l k = with_lambda l k
+lambdas_by _ l k = l
 
-abbrev pub row_under : Parts → ℕ → ℕ → ℕ
-row_under g row k = row_by (args_wanted (slice_get g.decls k)) row k
+abbrev pub lambdas_under : Parts → Lambdas → ℕ → Lambdas
+lambdas_under g l k = lambdas_by (args_wanted (slice_get g.decls k)) l k

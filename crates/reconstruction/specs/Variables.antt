@@ -13,7 +13,7 @@ variables (suc n) = variables n ++ (2 * n) ∷ []
 
 -- how many variables are bound at a numbered place
 abbrev pub bound_at : Tables → NumberedPlace → ℕ
-bound_at t p = length (joined (rows_at t.env p.row))
+bound_at t p = length (joined (rows_at t.env p.lambdas))
 
 -- the variables, and then the declarations
 abbrev pub numbers_at : Tables → NumberedPlace → List ℕ

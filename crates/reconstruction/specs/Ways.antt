@@ -5,7 +5,7 @@ use Rattle.terms.specs.Weights.{coercion_weight}
 use Rattle.terms.specs.declared.parts.Parts.{Parts}
 use Rattle.edges.specs.Edges.{Edge}
 use Rattle.reconstruction.specs.Tabled.{IsTurn, numbered_under, place_of}
-use Rattle.reconstruction.specs.Totals.{declared_in, lower_in, row_under}
+use Rattle.reconstruction.specs.Totals.{declared_in, lower_in, lambdas_under}
 use Rattle.reconstruction.specs.declared.numbered_place.NumberedPlace.{NumberedPlace}
 use Rattle.reconstruction.specs.declared.tables.Tables.{Tables}
 
@@ -53,7 +53,7 @@ pub record Turns (t : Tables) (p : NumberedPlace) (step k w : ℕ) (numbered : L
 -- the declaration of an edge is a turn at the numbered place
 abbrev pub IsHeadBy : Tables → NumberedPlace → ℕ → Option ℕ → ℕ → List ℕ → Type 0
 IsHeadBy t p step None w tails = Unit {0}
-IsHeadBy t p step (Some k) w tails = Turns t p step k w (numbered_under (row_under t.env p.row k) tails)
+IsHeadBy t p step (Some k) w tails = Turns t p step k w (numbered_under (lambdas_under t.env p.lambdas k) tails)
 
 abbrev pub IsHeadOf : Tables → NumberedPlace → ℕ → ℕ → Edge → Type 0
 IsHeadOf t p step m e = IsHeadBy t p step (declared_in t.env e.source) (slice_index_or t.totals m 0) e.tails

@@ -5,20 +5,20 @@ ghost use Rattle.partial_terms.specs.Chained.{IsGrown};
 ghost use Rattle.reconstruction.specs.Tabled.{numbered_under, place_of, front_of, IsParent, IsTurn, AreGrown, Pushes};
 
 use crate::item::{Arena, Head, Item, Parent};
-use crate::numbered_place::NumberedPlace;
+use crate::numbered_place::{Lambdas, NumberedPlace};
 use crate::tables::Tables;
 use partial_terms::Chains;
 use std::alloc::AllocError;
 
-/// Keeps the numbered places of these states under one row before a list of such places.
+/// Keeps the numbered places of these states under the same lambdas before a list of such places.
 fn keep_places(
     stacks: &mut Chains<NumberedPlace>,
-    row: u32,
+    lambdas: Lambdas,
     states: &[u32],
     rest: u32,
 ) -> Result<u32, AllocError>
     requires rest { rest < length stacks.old }
-    ensures kept { IfOk result (λ i. get_or stacks.new i [] ≡ numbered_under row states.now ++ get_or stacks.old rest []) }
+    ensures kept { IfOk result (λ i. get_or stacks.new i [] ≡ numbered_under lambdas states.now ++ get_or stacks.old rest []) }
     ensures within { IfOk result (λ i. i < length stacks.new) }
     ensures grown { IsGrown stacks.old stacks.new }
 {
@@ -27,7 +27,7 @@ fn keep_places(
     while i > 0 {
         i -= 1;
         let state = states[i];
-        at = stacks.cons(NumberedPlace { row, state }, at)?;
+        at = stacks.cons(NumberedPlace { lambdas, state }, at)?;
     }
     Ok(at)
 }
@@ -42,7 +42,7 @@ pub fn grow_by(
     states: &[u32],
 ) -> Result<(), AllocError>
     requires parent { IsParent tables.now arena.old parent }
-    requires head { IsTurn tables.now (place_of tables.now parent.place) head.number head.total (numbered_under head.row states.now) }
+    requires head { IsTurn tables.now (place_of tables.now parent.place) head.number head.total (numbered_under head.lambdas states.now) }
     ensures pushes { OnOk result (Pushes tables.now arena.new (front_of arena.old parent.front) head.number children.old.items children.new.items) }
     ensures grown { AreGrown arena.old arena.new }
 {
@@ -54,7 +54,7 @@ pub fn grow_by(
         return Ok(());
     }
     let key = parent.base + head.total;
-    let stack = keep_places(&mut arena.stacks, head.row, states, parent.rest)?;
+    let stack = keep_places(&mut arena.stacks, head.lambdas, states, parent.rest)?;
     let front = arena.fronts.cons(head.number, parent.front)?;
     children.push((key, Item { front, stack }))?;
     Ok(())

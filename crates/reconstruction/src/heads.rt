@@ -4,13 +4,14 @@ ghost use Rattle.std.specs.Prelude.{◌≡◌, ◌+◌, ◌*◌, ◌<◌, ◌≤
 ghost use Rattle.terms.specs.Faults.{IsValid};
 ghost use Rattle.terms.specs.Weights.{coercion_weight};
 ghost use Rattle.reconstruction.specs.Tabled.{front_of, place_of, numbered_under, IsParent, IsTurn, AreHeld, AreGrown, Grew};
-ghost use Rattle.reconstruction.specs.Totals.{lower_in, row_by, row_under, AreTotals};
+ghost use Rattle.reconstruction.specs.Totals.{lower_in, lambdas_by, lambdas_under, AreTotals};
 ghost use Rattle.reconstruction.specs.Usable.{AreFloors, AreUsable, IsWithin};
 ghost use Rattle.reconstruction.specs.Ways.{edge_at, head_numbers, heads_at, way_numbers, ways_at, IsHeadOf, AreHeadsAt, IsWayOf, AreWaysAt};
 
 use crate::building::wanted_by;
 use crate::growing::grow_by;
 use crate::item::{Arena, Head, Item, Parent};
+use crate::numbered_place::Lambdas;
 use crate::tables::Tables;
 use crate::totals::{declared, number_at};
 use crate::usable::{lower, within};
@@ -33,26 +34,26 @@ fn usable_at(tables: &Tables, state: u32, room: u32) -> &[u32]
     within(tables.floors.as_slice(), tables.usable.row(state), room)
 }
 
-/// The row of the places that a declaration of these wants opens.
-fn row_by(args: &[Arg], row: u32, decl: u32) -> u32
+/// The lambdas around the places that a declaration of these wants opens.
+fn lambdas_by(args: &[Arg], lambdas: Lambdas, decl: u32) -> Lambdas
     requires number { decl < 2147483648 }
-    ensures value { result ≡ row_by args.now row decl }
+    ensures value { result ≡ lambdas_by args.now lambdas decl }
 {
     if args.len() != 1 {
-        return row;
+        return lambdas;
     }
     match &args[0] {
-        Arg::Fun(_, _) => decl + 1,
-        Arg::Plain(_) => row,
+        Arg::Fun(_, _) => lambdas.with_lambda(decl),
+        Arg::Plain(_) => lambdas,
     }
 }
 
-/// The row of the places that a declaration opens: its own where it wants a lambda, else that around it.
-fn row_under(parts: &Parts, row: u32, decl: u32) -> u32
+/// The lambdas around the places that a declaration opens: one more where it wants a lambda.
+fn lambdas_under(parts: &Parts, lambdas: Lambdas, decl: u32) -> Lambdas
     requires number { decl < 2147483648 }
-    ensures value { result ≡ row_under parts.now row decl }
+    ensures value { result ≡ lambdas_under parts.now lambdas decl }
 {
-    row_by(wanted_by(parts, decl), row, decl)
+    lambdas_by(wanted_by(parts, decl), lambdas, decl)
 }
 
 /// The state of the lower type, where an edge is a coercion.
@@ -87,14 +88,14 @@ fn grow_decl(
     requires parent { IsParent tables.now arena.old parent }
     requires children { AreHeld tables.now arena.old children.old.items }
     requires number { decl < 2147483648 }
-    requires turn { IsTurn tables.now (place_of tables.now parent.place) (2 * decl + 1) total (numbered_under (row_under tables.now.env parent.place.row decl) tails.now) }
+    requires turn { IsTurn tables.now (place_of tables.now parent.place) (2 * decl + 1) total (numbered_under (lambdas_under tables.now.env parent.place.lambdas decl) tails.now) }
     ensures grew { OnOk result (Grew tables.now arena.old arena.new (front_of arena.old parent.front) ((2 * decl + 1) ∷ []) children.old.items children.new.items) }
     ensures grown { AreGrown arena.old arena.new }
 {
     let head = Head {
         number: 2 * decl + 1,
         total,
-        row: row_under(tables.env.parts(), parent.place.row, decl),
+        lambdas: lambdas_under(tables.env.parts(), parent.place.lambdas, decl),
     };
     grow_by(tables, arena, children, parent, head, tails)
 }

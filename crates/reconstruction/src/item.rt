@@ -1,4 +1,4 @@
-use crate::numbered_place::NumberedPlace;
+use crate::numbered_place::{Lambdas, NumberedPlace};
 use partial_terms::Chains;
 
 /// A partial term: the list of its front, the last number first, and the list of its open places.
@@ -26,10 +26,10 @@ pub struct Parent {
 }
 
 /// A head that may fill an open place: its number in a front, what it totals there with the least weights of the
-/// places that it opens, and the row of those.
+/// places that it opens, and the lambdas around those.
 #[derive(Clone, Copy, Debug)]
 pub struct Head {
     pub number: u32,
     pub total: u32,
-    pub row: u32,
+    pub lambdas: Lambdas,
 }

@@ -6,7 +6,6 @@
 
 mod agenda;
 mod building;
-mod derived;
 mod growing;
 mod heads;
 mod item;

@@ -7,10 +7,9 @@ ghost use Rattle.partial_terms.specs.Search.{fronts};
 
 use crate::agenda::Agenda;
 use crate::building::terms_of;
-use crate::derived::tables_of;
 use crate::item::{Arena, Item, Parent};
 use crate::starting::{begin, least_at};
-use crate::tables::Tables;
+use crate::tables::{Tables, tables_of};
 use crate::variables::grow;
 use partial_terms::Chains;
 use std::alloc::{AllocError, Global};

@@ -6,7 +6,7 @@ ghost use Rattle.reconstruction.specs.NumberedPlaces.{IsNumbered};
 ghost use Rattle.reconstruction.specs.Tabled.{place_of, least_of};
 
 use crate::item::{Arena, Item};
-use crate::numbered_place::NumberedPlace;
+use crate::numbered_place::{NO_LAMBDAS, NumberedPlace};
 use crate::tables::Tables;
 use std::alloc::AllocError;
 use weight_queue::WeightQueue;
@@ -37,7 +37,10 @@ pub fn begin(
     ensures at { OnOk result (IsAt tables.now arena.new 0 queue.new.items []) }
     ensures pops { queue.new.pops ≡ queue.old.pops }
 {
-    let place = NumberedPlace { row: 0, state: 0 };
+    let place = NumberedPlace {
+        lambdas: NO_LAMBDAS,
+        state: 0,
+    };
     let key = least_at(tables, place);
     if key > tables.env.parts().limit {
         return Ok(());

@@ -2,9 +2,9 @@
 
 ghost use Rattle.std.specs.Prelude.{◌≡◌, ◌+◌, ◌*◌, ◌<◌, ◌≤◌, [], ◌∷◌, All, OnOk, slice_get, Some};
 ghost use Rattle.terms.specs.Faults.{IsValid};
-ghost use Rattle.terms.specs.Typing.{joined};
+ghost use Rattle.terms.specs.Typing.{joined, most_rows, rows};
 ghost use Rattle.terms.specs.Weights.{variable_weight, step_in};
-ghost use Rattle.reconstruction.specs.NumberedPlaces.{row_of_args, rows_at};
+ghost use Rattle.reconstruction.specs.NumberedPlaces.{row_of_args, rows_at, types_of};
 ghost use Rattle.reconstruction.specs.Tabled.{place_of, front_of, IsParent, AreHeld, AreGrown, Grew};
 ghost use Rattle.reconstruction.specs.Totals.{AreTotals};
 ghost use Rattle.reconstruction.specs.Usable.{AreFloors, AreUsable};
@@ -14,14 +14,14 @@ ghost use Rattle.reconstruction.specs.Variables.{variables, bound_at, numbers_at
 use crate::growing::grow_by;
 use crate::heads::grow_edges;
 use crate::item::{Arena, Head, Item, Parent};
-use crate::numbered_place::NumberedPlace;
+use crate::numbered_place::{Lambdas, NO_LAMBDAS, NumberedPlace};
 use crate::tables::Tables;
 use std::alloc::AllocError;
-use terms::{Arg, Env};
+use terms::{Arg, Ctx, Env};
 
 /// The parameters of the lambda that is the only argument.
 fn only_row(args: &[Arg]) -> &[u32]
-    ensures value { result.now ≡ joined (row_of_args args.now) }
+    ensures value { result.now ≡ row_of_args args.now }
 {
     if args.len() != 1 {
         return &[];
@@ -32,18 +32,38 @@ fn only_row(args: &[Arg]) -> &[u32]
     }
 }
 
-/// The types of the variables that are bound at a row.
-fn types_at(tables: &Tables, row: u32) -> &[u32]
-    ensures value { result.now ≡ joined (rows_at tables.now.env row) }
+/// The types that the lambda binds which declaration n - 1 wants.
+fn types_of(tables: &Tables, number: u32) -> &[u32]
+    ensures value { result.now ≡ types_of tables.now.env number }
 {
     let decls = tables.env.parts().decls.as_slice();
-    if row == 0 {
+    if number == 0 {
         return &[];
     }
-    match decls.get(row as usize - 1) {
+    match decls.get(number as usize - 1) {
         Some(decl) => only_row(decl.args.as_slice()),
         None => &[],
     }
+}
+
+/// The context under some lambdas.
+fn context(tables: &Tables, lambdas: Lambdas) -> Ctx<'_>
+    ensures rows { rows result ≡ rows_at tables.now.env lambdas }
+    ensures used { result.used ≤ most_rows }
+{
+    let none = Ctx::empty();
+    if lambdas.first == 0 {
+        return none;
+    }
+    let one = none.with(types_of(tables, lambdas.first));
+    if lambdas.second == 0 {
+        return one;
+    }
+    let two = one.with(types_of(tables, lambdas.second));
+    if lambdas.third == 0 {
+        return two;
+    }
+    two.with(types_of(tables, lambdas.third))
 }
 
 /// The type that is wanted at a numbered place.
@@ -75,7 +95,7 @@ fn grow_variable(
     requires parent { IsParent tables.now arena.old parent }
     requires children { AreHeld tables.now arena.old children.old.items }
     requires small { number < 2147483648 }
-    requires bound { slice_get (joined (rows_at tables.now.env parent.place.row)) number ≡ Some bound }
+    requires bound { slice_get (joined (rows_at tables.now.env parent.place.lambdas)) number ≡ Some bound }
     ensures grew { OnOk result (Grew tables.now arena.old arena.new (front_of arena.old parent.front) ((2 * number) ∷ []) children.old.items children.new.items) }
     ensures grown { AreGrown arena.old arena.new }
 {
@@ -87,7 +107,7 @@ fn grow_variable(
     let head = Head {
         number: 2 * number,
         total,
-        row: 0,
+        lambdas: NO_LAMBDAS,
     };
     grow_by(tables, arena, children, parent, head, &[])
 }
@@ -104,15 +124,14 @@ fn grow_variables(
     ensures grew { OnOk result (Grew tables.now arena.old arena.new (front_of arena.old parent.front) (variables (bound_at tables.now parent.place)) children.old.items children.new.items) }
     ensures grown { AreGrown arena.old arena.new }
 {
-    let types = types_at(tables, parent.place.row);
-    if types.len() > 2_147_483_647 {
-        return Err(AllocError);
+    let context = context(tables, parent.place.lambdas);
+    for number in 0..2_147_483_648u32 {
+        let Some(bound) = context.variable(number) else {
+            return Ok(());
+        };
+        grow_variable(tables, arena, children, parent, number, bound)?;
     }
-    for number in 0..types.len() {
-        let bound = types[number];
-        grow_variable(tables, arena, children, parent, number as u32, bound)?;
-    }
-    Ok(())
+    Err(AllocError)
 }
 
 /// Adds all partial terms that grow from one by a number more.

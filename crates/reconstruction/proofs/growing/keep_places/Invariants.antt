@@ -7,7 +7,7 @@ abbrev pub invariant-loop-i : goal.invariant-loop-i
 invariant-loop-i l = record {
   inside : l.i ≤ length l.states;
   within : l.at < length l.stacks;
-  kept : get_or l.stacks l.at [] ≡ numbered_under l.row (drop l.i l.states) ++ get_or l.fn.stacks l.rest [];
+  kept : get_or l.stacks l.at [] ≡ numbered_under l.lambdas (drop l.i l.states) ++ get_or l.fn.stacks l.rest [];
   grown : IsGrown l.fn.stacks l.stacks;
 }
 

@@ -1,4 +1,0 @@
-use Rattle.reconstruction.proofs.derived.least_for.Goals as goal
-
-pub derive-requires-clause-patterns : goal.derive-requires-clause-patterns
-derive-requires-clause-patterns c = (c.args.env.now.goal, c.requires.patterns)
