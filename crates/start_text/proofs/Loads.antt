@@ -1,6 +1,6 @@
 -- What a load says of the text or the file held under its name.
-use Rattle.std.proofs.Common.{◌≡◌, ◌∙◌, ap, sym, subst, refl, arith, rules, tests, inl, inr, ℕ, ◌<◌, ◌≤◌, ◌⊎◌, Bool, true, false, List, [], ◌∷◌, length, Option, Some, None, Result, Ok, Err}
-use Rattle.std.specs.Prelude.{◌≢◌, IsErrOf, nat_le, if◌then◌else◌, IfSome, option_map}
+use Rattle.std.proofs.Common.{◌≡◌, ◌∙◌, ap, sym, subst, refl, rules, inl, inr, ℕ, ◌≤◌, ◌⊎◌, Bool, true, false, List, length, Option, Some, None, Result, Err}
+use Rattle.std.specs.Prelude.{◌≢◌, IsErrOf, nat_le, if◌then◌else◌, IfSome}
 use Rattle.std.specs.Str.{is_utf8, IsUtf8}
 use Rattle.std.proofs.lemmas.Str.{IsUtf8-from_is_utf8, is_utf8-from_IsUtf8}
 use Rattle.outside.specs.Held.{held_under, longest_load, answer_for, Gives}
@@ -13,8 +13,7 @@ use Rattle.class_pool.specs.declared.fault.ClassCause.{ClassCause}
 use Rattle.class_pool.specs.declared.fault.ClassCause.TheVariants as class
 use Rattle.decl_index.specs.declared.change.ChangeFault.{ChangeFault}
 use Rattle.decl_index.specs.declared.change.ChangeFault.TheVariants as change
-use Rattle.start_text.specs.Faults.{IsOutside, LeavesShelf, of_class, of_change}
-use Rattle.outside.specs.Causes.{Rose}
+use Rattle.start_text.specs.Faults.{IsOutside, of_class, of_change}
 use Rattle.start_text.specs.Starts.{text_fault, file_fault}
 use Rattle.start_text.specs.declared.fault.StartFault.{StartFault}
 use Rattle.start_text.specs.declared.fault.StartFault.TheVariants.{NoText, LongText, NotUtf8, NoFile, LongFile, NotClass, Failed}
@@ -111,17 +110,6 @@ class-inside line why class.Extra r is e = cc
 class-inside line why class.Descriptor r is e = cc
 class-inside line why class.Name r is e = cc
 class-inside line why class.Attribute r is e = cc
-
-rises : (n0 n1 n2 : ℕ) → n0 ≤ n1 → Rose n1 n2 → Rose n0 n2
-rises n0 n1 n2 up rose = omega (arith, rose)
-
--- A call on a shelf after calls that left it as it was.
-pub leaves-then : {T : Type 0} (h0 h1 h2 : Option (List HeldFile)) (n0 n1 n2 : ℕ) (r : Result T StartFault) → h1 ≡ h0 → n0 ≤ n1 → LeavesShelf h1 h2 n1 n2 r → LeavesShelf h0 h2 n0 n2 r
-leaves-then h0 h1 h2 n0 n1 n2 r same up l = record {
-  unchanged = l.unchanged ∙ same;
-  later = omega (arith, l.later);
-  cause = λ e. rises n0 n1 n2 up (l.cause e);
-}
 
 -- A change's refusal is no failure of the shelf.
 pub change-inside : {T : Type 0} (fault : ChangeFault) (r : Result T StartFault) → r ≡ Err (of_change fault) → IsErrOf r Failed → ⊥

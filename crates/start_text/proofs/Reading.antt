@@ -1,6 +1,6 @@
 -- The files of a text's lines, one after the other.
-use Rattle.std.proofs.Common.{◌≡◌, ◌∙◌, ap, sym, subst, refl, arith, rules, inl, inr, Bool, true, false, ℕ, ◌+◌, ◌<◌, ◌≤◌, ◌⊎◌, List, [], ◌∷◌, ◌++◌, length, get_or, drop, Option, Some, None, Result, Ok, Err}
-use Rattle.std.specs.List.{filter, filter_map, enumerate_from, AllZip, slice_get, slice_split}
+use Rattle.std.proofs.Common.{◌≡◌, ◌∙◌, ap, sym, subst, refl, arith, inl, inr, Bool, true, false, ℕ, ◌+◌, ◌<◌, ◌≤◌, ◌⊎◌, List, [], ◌∷◌, ◌++◌, length, get_or, drop, Some, None}
+use Rattle.std.specs.List.{filter_map, enumerate_from, AllZip, slice_get, slice_split}
 use Rattle.std.specs.Prelude.{if◌then◌else◌, ◌==◌}
 use Rattle.std.specs.Str.Lines.{lines, lines_of_parts}
 use Rattle.std.proofs.lemmas.List.{append_assoc, at_drop_more, at_drop_all, append-nil}
@@ -11,7 +11,7 @@ use Rattle.outside.specs.Held.{held_under}
 use Rattle.outside.specs.declared.shelf.HeldFile.{HeldFile}
 use Rattle.known_classes.specs.declared.summary.ClassSummary.{ClassSummary}
 use Rattle.start_text.specs.Lines.{is_path, paths_among, paths_in}
-use Rattle.start_text.specs.Faults.{IsOutside, Meets}
+use Rattle.start_text.specs.Faults.{IsOutside}
 use Rattle.start_text.specs.Starts.{file_fault, first_file_fault, IsClassOf, AreClassesOf}
 use Rattle.start_text.specs.declared.fault.StartFault.{StartFault}
 

@@ -1,6 +1,5 @@
 -- A start has one list of classes, and one fault.
-use Rattle.std.proofs.Common.{◌≡◌, ◌∙◌, ap, sym, subst, refl, rules, inl, inr, ℕ, ◌⊎◌, List, [], ◌∷◌, Option, Some, None, Result, Ok, Err}
-use Rattle.std.specs.List.{AllZip}
+use Rattle.std.proofs.Common.{◌≡◌, ◌∙◌, ap, sym, subst, refl, inl, inr, ℕ, ◌⊎◌, List, [], ◌∷◌, Option, Some, None, Result, Ok, Err}
 use Rattle.std.specs.Prelude.{MatchResult, IfOk, IfErr}
 use Rattle.outside.specs.Held.{held_under}
 use Rattle.outside.specs.declared.shelf.HeldFile.{HeldFile}
@@ -18,7 +17,7 @@ use Rattle.decl_index.proofs.HistoryLaws.{one_refusal}
 use Rattle.version_board.specs.declared.snapshot.Snapshot.{Snapshot}
 use Rattle.start_text.specs.Lines.{paths_in, paths_of}
 use Rattle.start_text.specs.Faults.{IsOutside, Meets, of_change}
-use Rattle.start_text.specs.Starts.{text_fault, first_file_fault, first_fault, IsClassOf, AreClassesOf, IsStart, IsRefused, IsFaultOf, publication}
+use Rattle.start_text.specs.Starts.{text_fault, first_file_fault, first_fault, IsClassOf, AreClassesOf, IsStart, IsFaultOf, publication}
 use Rattle.start_text.specs.declared.fault.StartFault.{StartFault}
 use Rattle.start_text.specs.declared.fault.StartFault.TheVariants.{Refused}
 

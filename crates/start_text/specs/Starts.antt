@@ -1,5 +1,5 @@
 -- What a start text and its class files give: the classes of the first change, or the first fault.
-use Rattle.std.specs.Prelude.{◌≡◌, ◌⊎◌, ℕ, nat_le, List, [], ◌∷◌, length, if◌then◌else◌, Option, Some, None, option_map, slice_get}
+use Rattle.std.specs.Prelude.{◌≡◌, ◌⊎◌, ℕ, nat_le, List, [], length, if◌then◌else◌, Option, Some, None, option_map, slice_get}
 use Rattle.std.specs.List.{filter_map, AllZip}
 use Rattle.std.specs.Str.{is_utf8}
 use Rattle.outside.specs.Held.{held_under, longest_load}

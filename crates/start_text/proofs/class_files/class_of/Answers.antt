@@ -1,4 +1,4 @@
-use Rattle.std.proofs.Common.{◌≡◌, ◌∙◌, ap, sym, subst, refl, ◌⊎◌, Err, Some}
+use Rattle.std.proofs.Common.{◌≡◌, ap, sym, subst, ◌⊎◌, Err, Some}
 use Rattle.start_text.specs.Faults.{IsOutside}
 use Rattle.start_text.specs.Starts.{file_fault}
 use Rattle.start_text.specs.declared.fault.StartFault.{StartFault}

@@ -1,9 +1,9 @@
-use Rattle.std.proofs.Common.{◌≡◌, ◌∙◌, ap, sym, ℕ, ◌<◌, ◌≤◌, ◌+◌, List, length, get_or, arith, Some}
+use Rattle.std.proofs.Common.{◌≡◌, ◌∙◌, ap, sym, ◌<◌, length, get_or, arith}
 use Rattle.std.specs.Str.Lines.{lines}
 use Rattle.std.proofs.lemmas.List.{length_push}
 use Rattle.std.proofs.lemmas.Iterator.Splits.{YieldsList-from_lines}
 use Rattle.std.proofs.lemmas.Iterator.Consumers.{YieldsList-turn, YieldsList-end}
-use Rattle.start_text.proofs.Reading.{lines-few, read-none, read-more, read-fault, read-all-sound, read-all}
+use Rattle.start_text.proofs.Reading.{lines-few, read-more, read-fault, read-all-sound, read-all}
 use Rattle.start_text.proofs.class_files.read_classes.Goals as goal
 
 pub overflow_add-line : goal.overflow_add-line

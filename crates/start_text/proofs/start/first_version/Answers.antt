@@ -1,10 +1,9 @@
-use Rattle.std.proofs.Common.{◌≡◌, ◌⊎◌, ap, Err, sym, subst, List, [], ◌∷◌}
+use Rattle.std.proofs.Common.{◌≡◌, ◌⊎◌, ap, Err, sym, subst, [], ◌∷◌}
 use Rattle.decl_index.specs.Refusals.{Refuses}
 use Rattle.decl_index.specs.declared.change.Change.{Change}
 use Rattle.decl_index.specs.declared.change.ChangeFault.{ChangeFault}
 use Rattle.version_board.specs.Versions.{IsVersion}
 use Rattle.start_text.specs.Faults.{IsOutside}
-use Rattle.start_text.specs.Starts.{publication}
 use Rattle.start_text.specs.declared.fault.StartFault.{StartFault}
 use Rattle.start_text.specs.declared.fault.StartFault.TheVariants.{Refused}
 use Rattle.start_text.proofs.Loads.{change-inside}

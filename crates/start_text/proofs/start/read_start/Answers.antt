@@ -1,4 +1,4 @@
-use Rattle.start_text.proofs.StartLaws.{versioned, answers-of, answered-fault, answered-refused, answered-whole, met-fault}
+use Rattle.start_text.proofs.StartLaws.{versioned, answers-of, answered-fault, answered-refused, answered-whole}
 use Rattle.start_text.proofs.start.read_start.Goals as goal
 
 pub returns-in-Ok-clause-version : goal.returns-in-Ok-clause-version
