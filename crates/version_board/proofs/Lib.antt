@@ -1,3 +1,6 @@
 pub mod Journals
 pub mod WithdrawalLaws
 pub mod VersionLaws
+pub mod Prefixes
+pub mod Adding
+pub mod Keeps

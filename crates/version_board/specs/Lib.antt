@@ -1,3 +1,6 @@
 pub mod Withdrawals
 pub mod Versions
 pub mod Laws
+pub mod Logs
+pub mod Views
+pub mod Publications
