@@ -10,5 +10,11 @@ pub mod ToldPairs
 pub mod ToldTerms
 pub mod RunWords
 pub mod RunForms
+pub mod RunNames
 pub mod Runs
 pub mod TextTold
+pub mod Ends
+pub mod Sound
+pub mod WordSteps
+pub mod Steps
+pub mod Begun

@@ -48,13 +48,13 @@ pub record NoSign (k : ℕ) : Type 0 where
   pub n32 : (k == 32) ≡ false
   pub n91 : (k == 91) ≡ false
 
-differ : (k s : ℕ) → is_word_part s ≡ false → is_word_part k ≡ true → (k == s) ≡ false
+pub differ : (k s : ℕ) → is_word_part s ≡ false → is_word_part k ≡ true → (k == s) ≡ false
 differ k s outside h = ne_eqb k s (λ e. both_ways (is_word_part k) (ap is_word_part e ∙ outside) h)
 
 pub no_sign : (k : ℕ) → is_word_part k ≡ true → NoSign k
 no_sign k h = record { n40 = differ k 40 no_part40 h; n41 = differ k 41 no_part41 h; n44 = differ k 44 no_part44 h; n46 = differ k 46 no_part46 h; n32 = differ k 32 no_part32 h; n91 = differ k 91 no_part91 h }
 
-or_none : (a b : Bool) → a ≡ false → b ≡ false → (a || b) ≡ false
+pub or_none : (a b : Bool) → a ≡ false → b ≡ false → (a || b) ≡ false
 or_none a b e f = rw (e, f) refl
 
 pub sign_false : (k : ℕ) → NoSign k → is_sign k ≡ false
@@ -87,18 +87,18 @@ pub same_step : (p : List ℕ) (q r : Part) (k : ℕ) (ks : List ℕ) → step p
 unfolding run
 same_step p q r k ks e = ap (λ x. on x (λ s. run p s ks)) e
 
-and_false : (a b : Bool) → b ≡ false → not (a && b) ≡ true
+pub and_false : (a b : Bool) → b ≡ false → not (a && b) ≡ true
 and_false true b e = ap not e
 and_false false b e = refl
 
 -- a step in a word
-first_more : (p : List ℕ) (a : Around) (c : Option (List ℕ)) (v : List ℕ) (k : ℕ) → is_barred a c ≡ false → is_sign k ≡ false → begins_first (v ++ k ∷ []) ≡ true → step p (first a c v) k ≡ Some (first a c (v ++ k ∷ []))
+pub first_more : (p : List ℕ) (a : Around) (c : Option (List ℕ)) (v : List ℕ) (k : ℕ) → is_barred a c ≡ false → is_sign k ≡ false → begins_first (v ++ k ∷ []) ≡ true → step p (first a c v) k ≡ Some (first a c (v ++ k ∷ []))
 unfolding step
 first_more p a c v k bar n h =
     ap (λ b. if b then first_sign a c v k else when (not (is_empty v && is_barred a c) && begins_first (v ++ k ∷ [])) (first a c (v ++ k ∷ []))) n
     ∙ ap (λ b. when b (first a c (v ++ k ∷ []))) (and_both (not (is_empty v && is_barred a c)) (begins_first (v ++ k ∷ [])) (and_false (is_empty v) (is_barred a c) bar) h)
 
-word_begins : (w : List ℕ) → is_word w ≡ true → begins_first w ≡ true
+pub word_begins : (w : List ℕ) → is_word w ≡ true → begins_first w ≡ true
 unfolding begins_first
 word_begins w h = or_left (is_word w) (has (codes "0" ∷ (34 ∷ []) ∷ (34 ∷ 34 ∷ []) ∷ []) w) h
 
@@ -109,7 +109,7 @@ first_word p a c (k ∷ w) v ks bar h =
     ∙ first_word p a c w (v ++ k ∷ []) ks bar (ap is_word (append_assoc v (k ∷ []) w) ∙ h)
     ∙ ap (λ x. run p (first a c x) ks) (append_assoc v (k ∷ []) w)
 
-later_more : (p : List ℕ) (a : Around) (c : Option (List ℕ)) (b : Before) (done v : List ℕ) (k : ℕ) → NoSign k → is_word (v ++ k ∷ []) ≡ true → step p (later a c b done v) k ≡ Some (later a c b done (v ++ k ∷ []))
+pub later_more : (p : List ℕ) (a : Around) (c : Option (List ℕ)) (b : Before) (done v : List ℕ) (k : ℕ) → NoSign k → is_word (v ++ k ∷ []) ≡ true → step p (later a c b done v) k ≡ Some (later a c b done (v ++ k ∷ []))
 unfolding step
 later_more p a c b done v k n h =
     ap (λ x. if x then when (spells_identifier v && not (is_this_dot b done)) (call_opened a c b (done ++ v)) else (if k == 46 then when (spells_identifier v) (later a c b (done ++ (v ++ 46 ∷ [])) []) else (if is_sign k then (if spells_identifier v && not (is_fresh b) then close a c (named b (done ++ v)) k else None) else when (is_word (v ++ k ∷ [])) (later a c b done (v ++ k ∷ []))))) n.n40
@@ -124,7 +124,7 @@ later_word p a c b done (k ∷ w) v ks h =
     ∙ later_word p a c b done w (v ++ k ∷ []) ks (ap is_word (append_assoc v (k ∷ []) w) ∙ h)
     ∙ ap (λ x. run p (later a c b done x) ks) (append_assoc v (k ∷ []) w)
 
-typing_more : (p : List ℕ) (a : Around) (c : Option (List ℕ)) (done v : List ℕ) (k : ℕ) → NoSign k → is_word (v ++ k ∷ []) ≡ true → step p (typing a c done v) k ≡ Some (typing a c done (v ++ k ∷ []))
+pub typing_more : (p : List ℕ) (a : Around) (c : Option (List ℕ)) (done v : List ℕ) (k : ℕ) → NoSign k → is_word (v ++ k ∷ []) ≡ true → step p (typing a c done v) k ≡ Some (typing a c done (v ++ k ∷ []))
 unfolding step
 typing_more p a c done v k n h = rw (n.n46, n.n91, n.n41, h) refl
 
@@ -135,7 +135,7 @@ typing_word p a c done (k ∷ w) v ks h =
     ∙ typing_word p a c done w (v ++ k ∷ []) ks (ap is_word (append_assoc v (k ∷ []) w) ∙ h)
     ∙ ap (λ x. run p (typing a c done x) ks) (append_assoc v (k ∷ []) w)
 
-either_more : (p : List ℕ) (a : Around) (s v : List ℕ) (k : ℕ) → NoSign k → is_word (v ++ k ∷ []) ≡ true → step p (either_word a s v) k ≡ Some (either_word a s (v ++ k ∷ []))
+pub either_more : (p : List ℕ) (a : Around) (s v : List ℕ) (k : ℕ) → NoSign k → is_word (v ++ k ∷ []) ≡ true → step p (either_word a s v) k ≡ Some (either_word a s (v ++ k ∷ []))
 unfolding step
 either_more p a s v k n h = rw (n.n46, n.n44, n.n41, h) refl
 
@@ -166,11 +166,11 @@ unfolding last_of
 last_spells m [] h k = h
 last_spells m (n ∷ rest) h k = let b = and_parts (spells_identifier n) (list_all spells_identifier rest) k in last_spells n rest b.0 b.1
 
-later_dot : (p : List ℕ) (a : Around) (c : Option (List ℕ)) (b : Before) (done w : List ℕ) → spells_identifier w ≡ true → step p (later a c b done w) 46 ≡ Some (later a c b (done ++ (w ++ 46 ∷ [])) [])
+pub later_dot : (p : List ℕ) (a : Around) (c : Option (List ℕ)) (b : Before) (done w : List ℕ) → spells_identifier w ≡ true → step p (later a c b done w) 46 ≡ Some (later a c b (done ++ (w ++ 46 ∷ [])) [])
 unfolding step
 later_dot p a c b done w h = ap (λ x. when x (later a c b (done ++ (w ++ 46 ∷ [])) [])) h
 
-typing_dot : (p : List ℕ) (a : Around) (c : Option (List ℕ)) (done w : List ℕ) → spells_identifier w ≡ true → step p (typing a c done w) 46 ≡ Some (typing a c (done ++ (w ++ 46 ∷ [])) [])
+pub typing_dot : (p : List ℕ) (a : Around) (c : Option (List ℕ)) (done w : List ℕ) → spells_identifier w ≡ true → step p (typing a c done w) 46 ≡ Some (typing a c (done ++ (w ++ 46 ∷ [])) [])
 unfolding step
 typing_dot p a c done w h = ap (λ x. when x (typing a c (done ++ (w ++ 46 ∷ [])) [])) h
 
@@ -198,7 +198,7 @@ typing_path p a c done m (n ∷ rest) ks h k =
     ∙ typing_path p a c (done ++ (m ++ 46 ∷ [])) n rest ks r.0 r.1
 
 -- words of ASCII characters
-ascii_word : (w : List ℕ) → chars w ≡ w → list_all is_ascii w ≡ true → is_ascii_word w ≡ true → is_word w ≡ true
+pub ascii_word : (w : List ℕ) → chars w ≡ w → list_all is_ascii w ≡ true → is_ascii_word w ≡ true → is_word w ≡ true
 ascii_word w same ascii h = sym (ap is_word same) ∙ word_laws.ascii w ascii ∙ h
 
 pub word_this : is_word (codes "this") ≡ true
@@ -209,11 +209,11 @@ pub word_new : is_word (codes "new") ≡ true
 unfolding chars
 word_new = ascii_word (codes "new") refl refl refl
 
-word_true : is_word (codes "true") ≡ true
+pub word_true : is_word (codes "true") ≡ true
 unfolding chars
 word_true = ascii_word (codes "true") refl refl refl
 
-word_false : is_word (codes "false") ≡ true
+pub word_false : is_word (codes "false") ≡ true
 unfolding chars
 word_false = ascii_word (codes "false") refl refl refl
 
@@ -221,15 +221,15 @@ word_false = ascii_word (codes "false") refl refl refl
 pub record StartsWords (p : List ℕ) (q : Part) (a : Around) (c : Option (List ℕ)) : Type 0 where
   pub words : (k : ℕ) → (k == 40) ≡ false → (k == 41) ≡ false → step p q k ≡ step p (start a c) k
 
-zero_begins : begins_first (48 ∷ []) ≡ true
+pub zero_begins : begins_first (48 ∷ []) ≡ true
 unfolding begins_first has
 zero_begins = or_right (is_word (48 ∷ [])) (has (codes "0" ∷ (34 ∷ []) ∷ (34 ∷ 34 ∷ []) ∷ []) (48 ∷ [])) refl
 
-quote_begins : begins_first (34 ∷ []) ≡ true
+pub quote_begins : begins_first (34 ∷ []) ≡ true
 unfolding begins_first has
 quote_begins = or_right (is_word (34 ∷ [])) (has (codes "0" ∷ (34 ∷ []) ∷ (34 ∷ 34 ∷ []) ∷ []) (34 ∷ [])) refl
 
-quotes_begin : begins_first (34 ∷ 34 ∷ []) ≡ true
+pub quotes_begin : begins_first (34 ∷ 34 ∷ []) ≡ true
 unfolding begins_first has
 quotes_begin = or_right (is_word (34 ∷ 34 ∷ [])) (has (codes "0" ∷ (34 ∷ []) ∷ (34 ∷ 34 ∷ []) ∷ []) (34 ∷ 34 ∷ [])) refl
 
@@ -243,10 +243,10 @@ first_by_word p q a c s bar (k ∷ w) ks h =
     let n = no_sign k (word_part_at [] k w h) in
     same_step p q (start a c) k (w ++ ks) (s.words k n.n40 n.n41) ∙ first_word p a c (k ∷ w) [] ks bar h
 
-first_zero : (p : List ℕ) (q : Part) (a : Around) (c : Option (List ℕ)) → StartsWords p q a c → is_barred a c ≡ false → (ks : List ℕ) → run p q (codes "0" ++ ks) ≡ run p (first a c (codes "0")) ks
+pub first_zero : (p : List ℕ) (q : Part) (a : Around) (c : Option (List ℕ)) → StartsWords p q a c → is_barred a c ≡ false → (ks : List ℕ) → run p q (codes "0" ++ ks) ≡ run p (first a c (codes "0")) ks
 first_zero p q a c s bar ks = same_step p q (start a c) 48 ks (s.words 48 refl refl) ∙ step_runs p (start a c) (first a c (48 ∷ [])) 48 ks (first_more p a c [] 48 bar refl zero_begins)
 
-first_quotes : (p : List ℕ) (q : Part) (a : Around) (c : Option (List ℕ)) → StartsWords p q a c → is_barred a c ≡ false → (ks : List ℕ) → run p q ((34 ∷ 34 ∷ []) ++ ks) ≡ run p (first a c (34 ∷ 34 ∷ [])) ks
+pub first_quotes : (p : List ℕ) (q : Part) (a : Around) (c : Option (List ℕ)) → StartsWords p q a c → is_barred a c ≡ false → (ks : List ℕ) → run p q ((34 ∷ 34 ∷ []) ++ ks) ≡ run p (first a c (34 ∷ 34 ∷ [])) ks
 first_quotes p q a c s bar ks =
     same_step p q (start a c) 34 (34 ∷ ks) (s.words 34 refl refl)
     ∙ step_runs p (start a c) (first a c (34 ∷ [])) 34 (34 ∷ ks) (first_more p a c [] 34 bar refl quote_begins)

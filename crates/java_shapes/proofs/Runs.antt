@@ -1,234 +1,16 @@
 -- The reader reads the text of each expression to its end; so one text is the text of one expression.
-use Rattle.std.proofs.Common.{◌≡◌, ◌∙◌, ◌⊎◌, inl, inr, ap, sym, subst, refl, ℕ, zero, suc, ◌&&◌, not, Bool, true, false, List, [], ◌∷◌, ◌++◌, Option, Some, None, codes, append_assoc, append-nil, if◌then◌else◌}
-use Rattle.std.specs.List.{list_all}
-use Rattle.std.proofs.lemmas.Bool.{false≢true, and_parts, or_left, or_right}
-use Rattle.std.proofs.lemmas.List.{append_cancel_right}
+use Rattle.std.proofs.Common.{◌≡◌, ◌∙◌, ◌⊎◌, inl, inr, ap, sym, subst, refl, ℕ, zero, suc, ◌&&◌, Bool, true, false, List, [], ◌∷◌, ◌++◌, Option, Some, None, codes, append_assoc, append-nil, if◌then◌else◌}
+use Rattle.std.proofs.lemmas.Bool.{false≢true, or_left, or_right}
 use Rattle.java_units.specs.Signs.{has}
 use Rattle.java_units.specs.Forms.{primitives}
 use Rattle.terms.specs.Text.{listed, bracketed, with_cast}
-use Rattle.java_shapes.specs.Words.{spells_identifier, begins_name, dotted, is_binder, IsQualified, IsNamePath, IsCallPath, may_call}
+use Rattle.java_shapes.specs.Words.{spells_identifier, IsQualified}
 use Rattle.java_shapes.specs.Shape.{Shape, named, called, lambda, Before, nothing, fresh, behind, in_brackets, Shapes, no_shapes, shapes, shown, shown_before, argument_texts}
 use Rattle.java_shapes.specs.Grammar.{dimensions, IsType, IsCast, IsNameBehind, IsCallBehind, NeedsBrackets, IsShape, IsBefore, AreShapes}
-use Rattle.java_shapes.specs.Reader.{Around, top, in_call, in_body, in_group, with_last, Part, first, later, opened, sized, either, either_opened, binders_opened, call_opened, call_closed, due, start, is_barred, may_cast, close, is_empty, is_fresh, is_this_dot, when, first_step, step, run, unwrapped, ended}
-use Rattle.java_shapes.proofs.WordFacts.{and_both, cut_same, identifier_word, has_cases, has_none}
-use Rattle.java_shapes.proofs.RunWords.{step_runs, later_word, last_of, front_of, front_last, last_spells, later_path, StartsWords, first_by_word, first_runs, begins_dotless, word_new, no_empty_word}
-use Rattle.java_shapes.proofs.RunForms.{due_runs, opened_runs, opened_path, named_runs, head_rest, lambda_opened, cast_lambda, path_whole, type_left, sized_more, primitive_right, primitive_word}
-
--- a place before an expression: how it goes on
-pub record Starts (p : List ℕ) (q : Part) (a : Around) (c : Option (List ℕ)) : Type 0 where
-  pub words : StartsWords p q a c
-  pub group : is_barred a c ≡ false → (ks : List ℕ) → run p q (40 ∷ 40 ∷ ks) ≡ run p (opened (in_group a c) None) ks
-  pub to_lambda : (n : List ℕ) (bs : List (List ℕ)) (ks : List ℕ) → IsQualified n → list_all (is_binder p) bs ≡ true → run p q (40 ∷ head_rest n bs ks) ≡ run p (start (in_body a c n bs) None) ks
-
--- the same where a cast may stand
-pub record Begins (p : List ℕ) (q : Part) (a : Around) : Type 0 where
-  pub words : StartsWords p q a None
-  pub left : step p q 40 ≡ Some (opened a None)
-
-group_opened : (p : List ℕ) (a : Around) (c : Option (List ℕ)) → is_barred a c ≡ false → step p (opened a c) 40 ≡ Some (opened (in_group a c) None)
-unfolding step
-group_opened p a c h = ap (λ x. when (not x) (opened (in_group a c) None)) h
-
-start_left : (p : List ℕ) (a : Around) (c : Option (List ℕ)) → step p (start a c) 40 ≡ Some (opened a c)
-unfolding step
-start_left p a c = refl
-
-starts_by : (p : List ℕ) → spells_identifier p ≡ true → (q : Part) (a : Around) (c : Option (List ℕ)) → StartsWords p q a c → step p q 40 ≡ Some (opened a c) → Starts p q a c
-starts_by p id q a c words left = record {
-  words = words;
-  group = λ h ks. step_runs p q (opened a c) 40 (40 ∷ ks) left ∙ step_runs p (opened a c) (opened (in_group a c) None) 40 ks (group_opened p a c h);
-  to_lambda = λ n bs ks s all. step_runs p q (opened a c) 40 (head_rest n bs ks) left ∙ lambda_opened p id a c n bs ks s all;
-}
-
-plain_words : (p : List ℕ) (a : Around) (c : Option (List ℕ)) → StartsWords p (start a c) a c
-plain_words p a c = record { words = λ k n m. refl }
-
-plain_starts : (p : List ℕ) → spells_identifier p ≡ true → (a : Around) (c : Option (List ℕ)) → Starts p (start a c) a c
-plain_starts p id a c = starts_by p id (start a c) a c (plain_words p a c) (start_left p a c)
-
-begins_starts : (p : List ℕ) → spells_identifier p ≡ true → (q : Part) (a : Around) → Begins p q a → Starts p q a None
-begins_starts p id q a b = starts_by p id q a None b.words b.left
-
-plain_begins : (p : List ℕ) (a : Around) → Begins p (start a None) a
-plain_begins p a = record { words = plain_words p a None; left = start_left p a None }
-
-call_begins : (p : List ℕ) (a : Around) (c : Option (List ℕ)) (b : Before) (t : List ℕ) → Begins p (call_opened a c b t) (in_call a c b t no_shapes)
-unfolding step
-call_begins p a c b t = record {
-  words = record { words = λ k n m. ap (λ x. if x then Some (call_closed a c b t no_shapes) else first_step (in_call a c b t no_shapes) None [] k) m };
-  left = refl;
-}
-
-either_words : (p : List ℕ) (a : Around) (s : List ℕ) → StartsWords p (either a s) a (Some s)
-unfolding step
-either_words p a s = record { words = λ k n m. ap (λ x. if x then Some (either_opened a s) else first_step a (Some s) [] k) n }
-
-either_group : (p : List ℕ) (a : Around) (s ks : List ℕ) → run p (either a s) (40 ∷ 40 ∷ ks) ≡ run p (opened (in_group a (Some s)) None) ks
-unfolding step
-either_group p a s ks = step_runs p (either a s) (either_opened a s) 40 (40 ∷ ks) refl ∙ step_runs p (either_opened a s) (opened (in_group a (Some s)) None) 40 ks refl
-
-either_starts : (p : List ℕ) → spells_identifier p ≡ true → (a : Around) (s : List ℕ) → Starts p (either a s) a (Some s)
-either_starts p id a s = record { words = either_words p a s; group = λ h ks. either_group p a s ks; to_lambda = λ n bs ks q all. cast_lambda p id a s n bs ks q all }
-
--- a place behind a whole expression
-pub record Behind (p : List ℕ) (r : Part) (a : Around) (c : Option (List ℕ)) (e : Shape) : Type 0 where
-  pub right : step p r 41 ≡ close a c e 41
-  pub comma : step p r 44 ≡ close a c e 44
-  pub over : ended r ≡ unwrapped a c e
-
--- a text that is read to such a place
-pub record Read (p : List ℕ) (q : Part) (a : Around) (c : Option (List ℕ)) (text : List ℕ) (e : Shape) : Type 0 where
-  pub state : Part
-  pub runs : (ks : List ℕ) → run p q (text ++ ks) ≡ run p state ks
-  pub behind : Behind p state a c e
-
-first_behind : (p : List ℕ) (a : Around) (c : Option (List ℕ)) (w : List ℕ) → begins_name w ≡ true → Behind p (first a c w) a c (named nothing w)
-unfolding step
-first_behind p a c w h = record {
-  right = ap (λ x. if x then close a c (named nothing w) 41 else None) h;
-  comma = ap (λ x. if x then close a c (named nothing w) 44 else None) h;
-  over = ap (λ x. if x then unwrapped a c (named nothing w) else None) h;
-}
-
-later_behind : (p : List ℕ) (a : Around) (c : Option (List ℕ)) (b : Before) (done w : List ℕ) → spells_identifier w ≡ true → is_fresh b ≡ false → Behind p (later a c b done w) a c (named b (done ++ w))
-unfolding step
-later_behind p a c b done w h f =
-    let both = and_both (spells_identifier w) (not (is_fresh b)) h (ap not f) in
-    record {
-      right = ap (λ x. if x then close a c (named b (done ++ w)) 41 else None) both;
-      comma = ap (λ x. if x then close a c (named b (done ++ w)) 44 else None) both;
-      over = ap (λ x. if x then unwrapped a c (named b (done ++ w)) else None) both;
-    }
-
-closed_behind : (p : List ℕ) (a : Around) (c : Option (List ℕ)) (b : Before) (t : List ℕ) (args : Shapes) → Behind p (call_closed a c b t args) a c (called b t args)
-unfolding step
-closed_behind p a c b t args = record { right = refl; comma = refl; over = refl }
-
-body_behind : (p : List ℕ) (r : Part) (a : Around) (c d : Option (List ℕ)) (s : List ℕ) (bs : List (List ℕ)) (e : Shape) → Behind p r (in_body a c s bs) d e → Behind p r a c (lambda s bs d e)
-unfolding close unwrapped
-body_behind p r a c d s bs e h = record { right = h.right; comma = h.comma; over = h.over }
-
--- names
-first_dot : (p : List ℕ) (a : Around) (c : Option (List ℕ)) (w : List ℕ) → begins_name w ≡ true → step p (first a c w) 46 ≡ Some (later a c nothing (w ++ 46 ∷ []) [])
-unfolding step
-first_dot p a c w h = ap (λ x. when x (later a c nothing (w ++ 46 ∷ []) [])) h
-
-later_full : (p : List ℕ) (a : Around) (c : Option (List ℕ)) (b : Before) (done m : List ℕ) (rest : List (List ℕ)) (ks : List ℕ) → spells_identifier m ≡ true → list_all spells_identifier rest ≡ true → run p (later a c b done []) ((m ++ dotted rest) ++ ks) ≡ run p (later a c b (front_of done m rest) (last_of m rest)) ks
-later_full p a c b done m rest ks h k =
-    ap (run p (later a c b done [])) (append_assoc m (dotted rest) ks) ∙ later_word p a c b done m [] (dotted rest ++ ks) (identifier_word m h) ∙ later_path p a c b done m rest ks h k
-
-dotted_runs : (p : List ℕ) (q : Part) (a : Around) (c : Option (List ℕ)) → StartsWords p q a c → is_barred a c ≡ false → (w m : List ℕ) (ms : List (List ℕ)) (ks : List ℕ) → begins_name w ≡ true → list_all spells_identifier (m ∷ ms) ≡ true
-    → run p q ((w ++ dotted (m ∷ ms)) ++ ks) ≡ run p (later a c nothing (front_of (w ++ 46 ∷ []) m ms) (last_of m ms)) ks
-unfolding dotted
-dotted_runs p q a c s bar w m ms ks h all =
-    let r = and_parts (spells_identifier m) (list_all spells_identifier ms) all in
-    ap (run p q) (append_assoc w (46 ∷ (m ++ dotted ms)) ks)
-    ∙ first_runs p q a c s bar w (46 ∷ ((m ++ dotted ms) ++ ks)) h
-    ∙ step_runs p (first a c w) (later a c nothing (w ++ 46 ∷ []) []) 46 ((m ++ dotted ms) ++ ks) (first_dot p a c w h)
-    ∙ later_full p a c nothing (w ++ 46 ∷ []) m ms ks r.0 r.1
-
-dotted_whole : (w m : List ℕ) (ms : List (List ℕ)) → front_of (w ++ 46 ∷ []) m ms ++ last_of m ms ≡ w ++ dotted (m ∷ ms)
-unfolding dotted
-dotted_whole w m ms = front_last (w ++ 46 ∷ []) m ms ∙ append_assoc w (46 ∷ []) (m ++ dotted ms)
-
-name_by : (p : List ℕ) (q : Part) (a : Around) (c : Option (List ℕ)) → StartsWords p q a c → is_barred a c ≡ false → (w : List ℕ) (rest : List (List ℕ)) → begins_name w ≡ true → list_all spells_identifier rest ≡ true → Read p q a c (w ++ dotted rest) (named nothing (w ++ dotted rest))
-unfolding dotted
-name_by p q a c s bar w [] h all = record {
-  state = first a c w;
-  runs = λ ks. ap (λ x. run p q (x ++ ks)) (append-nil w) ∙ first_runs p q a c s bar w ks h;
-  behind = subst (λ x. Behind p (first a c w) a c (named nothing x)) (sym (append-nil w)) (first_behind p a c w h);
-}
-name_by p q a c s bar w (m ∷ ms) h all =
-    let r = and_parts (spells_identifier m) (list_all spells_identifier ms) all in
-    record {
-      state = later a c nothing (front_of (w ++ 46 ∷ []) m ms) (last_of m ms);
-      runs = λ ks. dotted_runs p q a c s bar w m ms ks h all;
-      behind = subst (λ x. Behind p (later a c nothing (front_of (w ++ 46 ∷ []) m ms) (last_of m ms)) a c (named nothing x)) (dotted_whole w m ms)
-          (later_behind p a c nothing (front_of (w ++ 46 ∷ []) m ms) (last_of m ms) (last_spells m ms r.0 r.1) refl);
-    }
-
-name_first : (p : List ℕ) (q : Part) (a : Around) (c : Option (List ℕ)) → StartsWords p q a c → is_barred a c ≡ false → (t : List ℕ) → IsNamePath t → Read p q a c t (named nothing t)
-name_first p q a c s bar t n = subst (λ x. Read p q a c x (named nothing x)) (sym n.is) (name_by p q a c s bar n.first n.rest n.first_is n.rest_are)
-
-name_after : (p : List ℕ) (a : Around) (c : Option (List ℕ)) (b : Before) → is_fresh b ≡ false → (t : List ℕ) → IsQualified t → Read p (later a c b [] []) a c t (named b t)
-name_after p a c b f t n = record {
-  state = later a c b (front_of [] n.first n.rest) (last_of n.first n.rest);
-  runs = λ ks. ap (λ x. run p (later a c b [] []) (x ++ ks)) n.is ∙ later_full p a c b [] n.first n.rest ks n.first_is n.rest_are;
-  behind = subst (λ x. Behind p (later a c b (front_of [] n.first n.rest) (last_of n.first n.rest)) a c (named b x)) (path_whole t n)
-      (later_behind p a c b (front_of [] n.first n.rest) (last_of n.first n.rest) (last_spells n.first n.rest n.first_is n.rest_are) f);
-}
-
--- the name of a call, up to its `(`
-pub record CallNamed (p : List ℕ) (q : Part) (a : Around) (c : Option (List ℕ)) (b : Before) (text t : List ℕ) : Type 0 where
-  pub state : Part
-  pub runs : (ks : List ℕ) → run p q (text ++ ks) ≡ run p state ks
-  pub opens : step p state 40 ≡ Some (call_opened a c b t)
-
-first_call : (p : List ℕ) (a : Around) (c : Option (List ℕ)) (w : List ℕ) → spells_identifier w ≡ true → step p (first a c w) 40 ≡ Some (call_opened a c nothing w)
-unfolding step
-first_call p a c [] h = absurd (no_empty_word (identifier_word [] h))
-first_call p a c (k ∷ w) h = ap (λ x. when x (call_opened a c nothing (k ∷ w))) h
-
-later_call : (p : List ℕ) (a : Around) (c : Option (List ℕ)) (b : Before) (done w : List ℕ) → spells_identifier w ≡ true → is_this_dot b done ≡ false → step p (later a c b done w) 40 ≡ Some (call_opened a c b (done ++ w))
-unfolding step
-later_call p a c b done w h d = ap (λ x. when x (call_opened a c b (done ++ w))) (and_both (spells_identifier w) (not (is_this_dot b done)) h (ap not d))
-
-no_has : (k w : List ℕ) → (k ≡ w → ⊥) → has (k ∷ []) w ≡ false
-no_has k w h = no_has_by k w h (has (k ∷ []) w) refl
-  where
-    no_has_by : (k w : List ℕ) → (k ≡ w → ⊥) → (x : Bool) → has (k ∷ []) w ≡ x → x ≡ false
-    no_has_by k w h true e = elim (has_cases k [] w e) [ inl same ↦ absurd (h same) | inr none ↦ absurd (has_none w none) ]
-    no_has_by k w h false e = refl
-
-front_begins : (done m : List ℕ) (rest : List (List ℕ)) → (x : List ℕ) × (front_of done m rest ≡ done ++ x)
-unfolding front_of
-front_begins done m [] = ([], sym (append-nil done))
-front_begins done m (n ∷ rest) = let h = front_begins (done ++ (m ++ 46 ∷ [])) n rest in ((m ++ 46 ∷ []) ++ h.0, h.1 ∙ append_assoc done (m ++ 46 ∷ []) h.0)
-
-has_this : has (codes "this" ∷ []) (codes "this") ≡ true
-unfolding has
-has_this = refl
-
-not_empty : (m x : List ℕ) → [] ≡ (m ++ 46 ∷ []) ++ x → ⊥
-not_empty [] x e = cc
-not_empty (c ∷ m) x e = cc
-
-no_this_dot : (w m : List ℕ) (ms : List (List ℕ)) → begins_name w ≡ true → may_call w (m ∷ ms) ≡ true → codes "this." ≡ front_of (w ++ 46 ∷ []) m ms → ⊥
-unfolding front_of
-no_this_dot w m [] h may e =
-    let same : codes "this" ≡ w = append_cancel_right (codes "this") w (46 ∷ []) e in
-    false≢true (sym (ap (λ x. not (has (codes "this" ∷ []) x)) (sym same) ∙ ap not has_this) ∙ may)
-no_this_dot w m (n ∷ ms) h may e =
-    let f = front_begins ((w ++ 46 ∷ []) ++ (m ++ 46 ∷ [])) n ms in
-    let is = e ∙ f.1 ∙ append_assoc (w ++ 46 ∷ []) (m ++ 46 ∷ []) f.0 ∙ append_assoc w (46 ∷ []) ((m ++ 46 ∷ []) ++ f.0) in
-    not_empty m f.0 (cut_same 46 (codes "this") w [] ((m ++ 46 ∷ []) ++ f.0) refl (begins_dotless w h) is).1
-
-call_by_path : (p : List ℕ) (q : Part) (a : Around) (c : Option (List ℕ)) → StartsWords p q a c → is_barred a c ≡ false → (w : List ℕ) (rest : List (List ℕ)) → begins_name w ≡ true → list_all spells_identifier rest ≡ true → may_call w rest ≡ true → CallNamed p q a c nothing (w ++ dotted rest) (w ++ dotted rest)
-unfolding dotted
-call_by_path p q a c s bar w [] h all may = record {
-  state = first a c w;
-  runs = λ ks. ap (λ x. run p q (x ++ ks)) (append-nil w) ∙ first_runs p q a c s bar w ks h;
-  opens = first_call p a c w may ∙ ap (λ x. Some (call_opened a c nothing x)) (sym (append-nil w));
-}
-call_by_path p q a c s bar w (m ∷ ms) h all may =
-    let r = and_parts (spells_identifier m) (list_all spells_identifier ms) all in
-    record {
-      state = later a c nothing (front_of (w ++ 46 ∷ []) m ms) (last_of m ms);
-      runs = λ ks. dotted_runs p q a c s bar w m ms ks h all;
-      opens = later_call p a c nothing (front_of (w ++ 46 ∷ []) m ms) (last_of m ms) (last_spells m ms r.0 r.1) (no_has (codes "this.") (front_of (w ++ 46 ∷ []) m ms) (no_this_dot w m ms h may))
-          ∙ ap (λ x. Some (call_opened a c nothing x)) (dotted_whole w m ms);
-    }
-
-call_first : (p : List ℕ) (q : Part) (a : Around) (c : Option (List ℕ)) → StartsWords p q a c → is_barred a c ≡ false → (t : List ℕ) → IsCallPath t → CallNamed p q a c nothing t t
-call_first p q a c s bar t n = subst (λ x. CallNamed p q a c nothing x x) (sym n.path.is) (call_by_path p q a c s bar n.path.first n.path.rest n.path.first_is n.path.rest_are n.last)
-
-call_after : (p : List ℕ) (a : Around) (c : Option (List ℕ)) (b : Before) → ((done : List ℕ) → is_this_dot b done ≡ false) → (t : List ℕ) → IsQualified t → CallNamed p (later a c b [] []) a c b t t
-call_after p a c b d t n = record {
-  state = later a c b (front_of [] n.first n.rest) (last_of n.first n.rest);
-  runs = λ ks. ap (λ x. run p (later a c b [] []) (x ++ ks)) n.is ∙ later_full p a c b [] n.first n.rest ks n.first_is n.rest_are;
-  opens = later_call p a c b (front_of [] n.first n.rest) (last_of n.first n.rest) (last_spells n.first n.rest n.first_is n.rest_are) (d (front_of [] n.first n.rest))
-      ∙ ap (λ x. Some (call_opened a c b x)) (path_whole t n);
-}
+use Rattle.java_shapes.specs.Reader.{Around, top, in_call, in_body, in_group, with_last, Part, first, later, opened, sized, either, binders_opened, call_opened, call_closed, due, start, is_barred, may_cast, close, is_empty, step, run, unwrapped, ended}
+use Rattle.java_shapes.proofs.RunWords.{step_runs, last_of, front_of, last_spells, StartsWords, first_by_word, word_new}
+use Rattle.java_shapes.proofs.RunForms.{due_runs, opened_runs, opened_path, named_runs, head_rest, path_whole, type_left, sized_more, primitive_right, primitive_word}
+use Rattle.java_shapes.proofs.RunNames.{Starts, Begins, start_left, plain_starts, begins_starts, plain_begins, call_begins, either_starts, Behind, Read, closed_behind, body_behind, name_first, name_after, CallNamed, call_first, call_after}
 
 -- casts
 pub record CastRead (p : List ℕ) (q : Part) (a : Around) (t : List ℕ) : Type 0 where
@@ -236,20 +18,20 @@ pub record CastRead (p : List ℕ) (q : Part) (a : Around) (t : List ℕ) : Type
   pub runs : (ks : List ℕ) → run p q (bracketed t ++ (codes " " ++ ks)) ≡ run p state ks
   pub starts : Starts p state a (Some t)
 
-bracketed_text : (t ks : List ℕ) → bracketed t ++ (codes " " ++ ks) ≡ 40 ∷ (t ++ 41 ∷ 32 ∷ ks)
+pub bracketed_text : (t ks : List ℕ) → bracketed t ++ (codes " " ++ ks) ≡ 40 ∷ (t ++ 41 ∷ 32 ∷ ks)
 bracketed_text t ks = ap (λ x. 40 ∷ x) (append_assoc t (41 ∷ []) (32 ∷ ks))
 
-cast_opened : (p : List ℕ) (q : Part) (a : Around) → Begins p q a → (t ks : List ℕ) → run p q (bracketed t ++ (codes " " ++ ks)) ≡ run p (opened a None) (t ++ 41 ∷ 32 ∷ ks)
+pub cast_opened : (p : List ℕ) (q : Part) (a : Around) → Begins p q a → (t ks : List ℕ) → run p q (bracketed t ++ (codes " " ++ ks)) ≡ run p (opened a None) (t ++ 41 ∷ 32 ∷ ks)
 cast_opened p q a b t ks = ap (run p q) (bracketed_text t ks) ∙ step_runs p q (opened a None) 40 (t ++ 41 ∷ 32 ∷ ks) b.left
 
-named_cast : (p : List ℕ) → spells_identifier p ≡ true → (q : Part) (a : Around) → Begins p q a → may_cast a None ≡ true → (t : List ℕ) → IsQualified t → CastRead p q a t
+pub named_cast : (p : List ℕ) → spells_identifier p ≡ true → (q : Part) (a : Around) → Begins p q a → may_cast a None ≡ true → (t : List ℕ) → IsQualified t → CastRead p q a t
 named_cast p id q a b m t s = record {
   state = either a t;
   runs = λ ks. cast_opened p q a b t ks ∙ named_runs p a None t s ks ∙ ap (λ x. run p (if x then either a t else due 40 (binders_opened a None t)) ks) m;
   starts = either_starts p id a t;
 }
 
-sized_cast : (p : List ℕ) → spells_identifier p ≡ true → (q : Part) (a : Around) → Begins p q a → (base : List ℕ) (n : ℕ) → ((ks : List ℕ) → run p (opened a None) (base ++ 91 ∷ ks) ≡ run p (due 93 (sized a (base ++ 91 ∷ 93 ∷ []))) ks) → CastRead p q a (base ++ dimensions (suc n))
+pub sized_cast : (p : List ℕ) → spells_identifier p ≡ true → (q : Part) (a : Around) → Begins p q a → (base : List ℕ) (n : ℕ) → ((ks : List ℕ) → run p (opened a None) (base ++ 91 ∷ ks) ≡ run p (due 93 (sized a (base ++ 91 ∷ 93 ∷ []))) ks) → CastRead p q a (base ++ dimensions (suc n))
 unfolding dimensions
 sized_cast p id q a b base n left = record {
   state = start a (Some (base ++ dimensions (suc n)));
@@ -262,7 +44,7 @@ sized_cast p id q a b base n left = record {
   starts = plain_starts p id a (Some (base ++ dimensions (suc n)));
 }
 
-named_left : (p : List ℕ) (a : Around) → may_cast a None ≡ true → (t : List ℕ) (s : IsQualified t) (ks : List ℕ) → run p (opened a None) (t ++ 91 ∷ ks) ≡ run p (due 93 (sized a (t ++ 91 ∷ 93 ∷ []))) ks
+pub named_left : (p : List ℕ) (a : Around) → may_cast a None ≡ true → (t : List ℕ) (s : IsQualified t) (ks : List ℕ) → run p (opened a None) (t ++ 91 ∷ ks) ≡ run p (due 93 (sized a (t ++ 91 ∷ 93 ∷ []))) ks
 named_left p a m t s ks =
     let done = front_of [] s.first s.rest in
     let w = last_of s.first s.rest in
@@ -270,10 +52,10 @@ named_left p a m t s ks =
     ∙ type_left p a done w ks m (or_left (spells_identifier w) (is_empty done && has primitives w) (last_spells s.first s.rest s.first_is s.rest_are))
     ∙ ap (λ x. run p (due 93 (sized a (x ++ 91 ∷ 93 ∷ []))) ks) (path_whole t s)
 
-primitive_left : (p : List ℕ) (a : Around) → may_cast a None ≡ true → (t : List ℕ) → has primitives t ≡ true → (ks : List ℕ) → run p (opened a None) (t ++ 91 ∷ ks) ≡ run p (due 93 (sized a (t ++ 91 ∷ 93 ∷ []))) ks
+pub primitive_left : (p : List ℕ) (a : Around) → may_cast a None ≡ true → (t : List ℕ) → has primitives t ≡ true → (ks : List ℕ) → run p (opened a None) (t ++ 91 ∷ ks) ≡ run p (due 93 (sized a (t ++ 91 ∷ 93 ∷ []))) ks
 primitive_left p a m t h ks = opened_runs p a None t (91 ∷ ks) (primitive_word t h).word ∙ type_left p a [] t ks m (or_right (spells_identifier t) (has primitives t) h)
 
-cast_by : (p : List ℕ) → spells_identifier p ≡ true → (q : Part) (a : Around) → Begins p q a → may_cast a None ≡ true → (base : List ℕ) (n : ℕ) → IsQualified base ⊎ (has primitives base ≡ true) → CastRead p q a (base ++ dimensions n)
+pub cast_by : (p : List ℕ) → spells_identifier p ≡ true → (q : Part) (a : Around) → Begins p q a → may_cast a None ≡ true → (base : List ℕ) (n : ℕ) → IsQualified base ⊎ (has primitives base ≡ true) → CastRead p q a (base ++ dimensions n)
 unfolding dimensions
 cast_by p id q a b m base zero (inl s) = subst (CastRead p q a) (sym (append-nil base)) (named_cast p id q a b m base s)
 cast_by p id q a b m base zero (inr h) = subst (CastRead p q a) (sym (append-nil base)) (record {
@@ -284,7 +66,7 @@ cast_by p id q a b m base zero (inr h) = subst (CastRead p q a) (sym (append-nil
 cast_by p id q a b m base (suc n) (inl s) = sized_cast p id q a b base n (λ ks. named_left p a m base s ks)
 cast_by p id q a b m base (suc n) (inr h) = sized_cast p id q a b base n (λ ks. primitive_left p a m base h ks)
 
-cast_read : (p : List ℕ) → spells_identifier p ≡ true → (q : Part) (a : Around) → Begins p q a → may_cast a None ≡ true → (t : List ℕ) → IsType t → CastRead p q a t
+pub cast_read : (p : List ℕ) → spells_identifier p ≡ true → (q : Part) (a : Around) → Begins p q a → may_cast a None ≡ true → (t : List ℕ) → IsType t → CastRead p q a t
 cast_read p id q a b m t s = subst (CastRead p q a) (sym s.is) (cast_by p id q a b m s.base s.count s.base_is)
 
 -- an expression with its cast, where the expression alone is read
@@ -296,13 +78,13 @@ IsLambda (lambda s bs c e) = Unit {0}
 abbrev pub Reads : List ℕ → Shape → Type 0
 Reads p e = (q : Part) (a : Around) (c : Option (List ℕ)) → Starts p q a c → (is_barred a c ≡ true → IsLambda e) → Read p q a c (shown e) e
 
-no_bar : (a : Around) (t : List ℕ) → is_barred a (Some t) ≡ true → ⊥
+pub no_bar : (a : Around) (t : List ℕ) → is_barred a (Some t) ≡ true → ⊥
 no_bar top t h = false≢true h
 no_bar (in_call a d b n args) t h = false≢true h
 no_bar (in_body a d n bs) t h = false≢true h
 no_bar (in_group a d) t h = false≢true h
 
-argument_read : (p : List ℕ) → spells_identifier p ≡ true → (c : Option (List ℕ)) (e : Shape) → IsCast c → Reads p e → (q : Part) (a : Around) → Begins p q a → may_cast a None ≡ true → (is_barred a None ≡ true → c ≡ None → IsLambda e) → Read p q a c (with_cast c (shown e)) e
+pub argument_read : (p : List ℕ) → spells_identifier p ≡ true → (c : Option (List ℕ)) (e : Shape) → IsCast c → Reads p e → (q : Part) (a : Around) → Begins p q a → may_cast a None ≡ true → (is_barred a None ≡ true → c ≡ None → IsLambda e) → Read p q a c (with_cast c (shown e)) e
 argument_read p id None e cast reads q a b m bar = reads q a None (begins_starts p id q a b) (λ h. bar h refl)
 argument_read p id (Some t) e cast reads q a b m bar =
     let k = cast_read p id q a b m t cast in
@@ -314,38 +96,38 @@ argument_read p id (Some t) e cast reads q a b m bar =
     }
 
 -- lists of arguments
-unfoldable tail_text : Shapes → List ℕ
+unfoldable pub tail_text : Shapes → List ℕ
 tail_text no_shapes = []
 tail_text (shapes c e rest) = codes ", " ++ (with_cast c (shown e) ++ tail_text rest)
 
-tail_is : (c : Option (List ℕ)) (e : Shape) (rest : Shapes) → listed (argument_texts (shapes c e rest)) ≡ with_cast c (shown e) ++ tail_text rest
+pub tail_is : (c : Option (List ℕ)) (e : Shape) (rest : Shapes) → listed (argument_texts (shapes c e rest)) ≡ with_cast c (shown e) ++ tail_text rest
 unfolding listed tail_text argument_texts
 tail_is c e no_shapes = sym (append-nil (with_cast c (shown e)))
 tail_is c e (shapes d f rest) = append_assoc (with_cast c (shown e)) (codes ", ") (listed (argument_texts (shapes d f rest))) ∙ ap (λ x. with_cast c (shown e) ++ (codes ", " ++ x)) (tail_is d f rest)
 
-unfoldable with_all : Shapes → Shapes → Shapes
+unfoldable pub with_all : Shapes → Shapes → Shapes
 with_all done no_shapes = done
 with_all done (shapes c e rest) = with_all (with_last done c e) rest
 
-with_all-first : (d : Option (List ℕ)) (f : Shape) (done xs : Shapes) → with_all (shapes d f done) xs ≡ shapes d f (with_all done xs)
+pub with_all-first : (d : Option (List ℕ)) (f : Shape) (done xs : Shapes) → with_all (shapes d f done) xs ≡ shapes d f (with_all done xs)
 unfolding with_all with_last
 with_all-first d f done no_shapes = refl
 with_all-first d f done (shapes c e rest) = with_all-first d f (with_last done c e) rest
 
-with_all-none : (xs : Shapes) → with_all no_shapes xs ≡ xs
+pub with_all-none : (xs : Shapes) → with_all no_shapes xs ≡ xs
 unfolding with_all with_last
 with_all-none no_shapes = refl
 with_all-none (shapes c e rest) = with_all-first c e no_shapes rest ∙ ap (shapes c e) (with_all-none rest)
 
-close_right : (a : Around) (d : Option (List ℕ)) (b : Before) (t : List ℕ) (args : Shapes) (c : Option (List ℕ)) (e : Shape) → close (in_call a d b t args) c e 41 ≡ Some (call_closed a d b t (with_last args c e))
+pub close_right : (a : Around) (d : Option (List ℕ)) (b : Before) (t : List ℕ) (args : Shapes) (c : Option (List ℕ)) (e : Shape) → close (in_call a d b t args) c e 41 ≡ Some (call_closed a d b t (with_last args c e))
 unfolding close
 close_right a d b t args c e = refl
 
-close_comma : (a : Around) (d : Option (List ℕ)) (b : Before) (t : List ℕ) (args : Shapes) (c : Option (List ℕ)) (e : Shape) → close (in_call a d b t args) c e 44 ≡ Some (due 32 (start (in_call a d b t (with_last args c e)) None))
+pub close_comma : (a : Around) (d : Option (List ℕ)) (b : Before) (t : List ℕ) (args : Shapes) (c : Option (List ℕ)) (e : Shape) → close (in_call a d b t args) c e 44 ≡ Some (due 32 (start (in_call a d b t (with_last args c e)) None))
 unfolding close
 close_comma a d b t args c e = refl
 
-call_right : (p : List ℕ) (a : Around) (c : Option (List ℕ)) (b : Before) (t : List ℕ) → step p (call_opened a c b t) 41 ≡ Some (call_closed a c b t no_shapes)
+pub call_right : (p : List ℕ) (a : Around) (c : Option (List ℕ)) (b : Before) (t : List ℕ) → step p (call_opened a c b t) 41 ≡ Some (call_closed a c b t no_shapes)
 unfolding step
 call_right p a c b t = refl
 
@@ -359,20 +141,20 @@ BeforeGives p q a c fresh = BeforeRead p q a c fresh
 BeforeGives p q a c (behind b t args) = BeforeRead p q a c (behind b t args)
 BeforeGives p q a c (in_brackets d e) = BeforeRead p q a c (in_brackets d e)
 
-behind_runs : (p : List ℕ) (q : Part) (a : Around) (c : Option (List ℕ)) (b : Before) (t : List ℕ) → BeforeRead p q a c b → (e : Shape) → Read p (later a c b [] []) a c t e → Read p q a c (shown_before b ++ t) e
+pub behind_runs : (p : List ℕ) (q : Part) (a : Around) (c : Option (List ℕ)) (b : Before) (t : List ℕ) → BeforeRead p q a c b → (e : Shape) → Read p (later a c b [] []) a c t e → Read p q a c (shown_before b ++ t) e
 behind_runs p q a c b t h e r = record { state = r.state; runs = λ ks. ap (run p q) (append_assoc (shown_before b) t ks) ∙ h.runs (t ++ ks) ∙ r.runs ks; behind = r.behind }
 
-name_read : (p : List ℕ) (q : Part) (a : Around) (c : Option (List ℕ)) → StartsWords p q a c → is_barred a c ≡ false → (b : Before) (t : List ℕ) → IsNameBehind b t → BeforeGives p q a c b → Read p q a c (shown_before b ++ t) (named b t)
+pub name_read : (p : List ℕ) (q : Part) (a : Around) (c : Option (List ℕ)) → StartsWords p q a c → is_barred a c ≡ false → (b : Before) (t : List ℕ) → IsNameBehind b t → BeforeGives p q a c b → Read p q a c (shown_before b ++ t) (named b t)
 unfolding shown_before
 name_read p q a c s bar nothing t n h = name_first p q a c s bar t n
 name_read p q a c s bar fresh t n h = absurd n
 name_read p q a c s bar (behind b m args) t n h = behind_runs p q a c (behind b m args) t h (named (behind b m args) t) (name_after p a c (behind b m args) refl t n)
 name_read p q a c s bar (in_brackets d e) t n h = behind_runs p q a c (in_brackets d e) t h (named (in_brackets d e) t) (name_after p a c (in_brackets d e) refl t n)
 
-behind_call : (p : List ℕ) (q : Part) (a : Around) (c : Option (List ℕ)) (b : Before) (t : List ℕ) → BeforeRead p q a c b → CallNamed p (later a c b [] []) a c b t t → CallNamed p q a c b (shown_before b ++ t) t
+pub behind_call : (p : List ℕ) (q : Part) (a : Around) (c : Option (List ℕ)) (b : Before) (t : List ℕ) → BeforeRead p q a c b → CallNamed p (later a c b [] []) a c b t t → CallNamed p q a c b (shown_before b ++ t) t
 behind_call p q a c b t h r = record { state = r.state; runs = λ ks. ap (run p q) (append_assoc (shown_before b) t ks) ∙ h.runs (t ++ ks) ∙ r.runs ks; opens = r.opens }
 
-call_named : (p : List ℕ) (q : Part) (a : Around) (c : Option (List ℕ)) → StartsWords p q a c → is_barred a c ≡ false → (b : Before) (t : List ℕ) → IsCallBehind b t → BeforeGives p q a c b → CallNamed p q a c b (shown_before b ++ t) t
+pub call_named : (p : List ℕ) (q : Part) (a : Around) (c : Option (List ℕ)) → StartsWords p q a c → is_barred a c ≡ false → (b : Before) (t : List ℕ) → IsCallBehind b t → BeforeGives p q a c b → CallNamed p q a c b (shown_before b ++ t) t
 unfolding shown_before
 call_named p q a c s bar nothing t n h = call_first p q a c s bar t n
 call_named p q a c s bar fresh t n h = behind_call p q a c fresh t h (call_after p a c fresh (λ done. refl) t n)
@@ -380,55 +162,55 @@ call_named p q a c s bar (behind b m args) t n h = behind_call p q a c (behind b
 call_named p q a c s bar (in_brackets d e) t n h = behind_call p q a c (in_brackets d e) t h (call_after p a c (in_brackets d e) (λ done. refl) t n)
 
 -- a call, read up to its `)`
-call_text : Before → List ℕ → Shapes → List ℕ
+pub call_text : Before → List ℕ → Shapes → List ℕ
 call_text b t args = shown_before b ++ (t ++ bracketed (listed (argument_texts args)))
 
 abbrev pub ArgsRead : List ℕ → Shapes → Type 0
 ArgsRead p args = (a : Around) (c : Option (List ℕ)) (b : Before) (t ks : List ℕ) → run p (call_opened a c b t) (listed (argument_texts args) ++ 41 ∷ ks) ≡ run p (call_closed a c b t args) ks
 
-regroup : (x t l ks : List ℕ) → (x ++ (t ++ bracketed l)) ++ ks ≡ (x ++ t) ++ (40 ∷ (l ++ 41 ∷ ks))
+pub regroup : (x t l ks : List ℕ) → (x ++ (t ++ bracketed l)) ++ ks ≡ (x ++ t) ++ (40 ∷ (l ++ 41 ∷ ks))
 regroup x t l ks = ap (λ y. y ++ ks) (sym (append_assoc x t (bracketed l))) ∙ append_assoc (x ++ t) (bracketed l) ks ∙ ap (λ y. (x ++ t) ++ (40 ∷ y)) (append_assoc l (41 ∷ []) ks)
 
-call_whole : (p : List ℕ) (q : Part) (a : Around) (c : Option (List ℕ)) (b : Before) (t : List ℕ) (args : Shapes) → CallNamed p q a c b (shown_before b ++ t) t → ArgsRead p args → (ks : List ℕ) → run p q ((shown_before b ++ (t ++ bracketed (listed (argument_texts args)))) ++ ks) ≡ run p (call_closed a c b t args) ks
+pub call_whole : (p : List ℕ) (q : Part) (a : Around) (c : Option (List ℕ)) (b : Before) (t : List ℕ) (args : Shapes) → CallNamed p q a c b (shown_before b ++ t) t → ArgsRead p args → (ks : List ℕ) → run p q ((shown_before b ++ (t ++ bracketed (listed (argument_texts args)))) ++ ks) ≡ run p (call_closed a c b t args) ks
 call_whole p q a c b t args n r ks =
     let inside = listed (argument_texts args) ++ 41 ∷ ks in
     ap (run p q) (regroup (shown_before b) t (listed (argument_texts args)) ks) ∙ n.runs (40 ∷ inside) ∙ step_runs p n.state (call_opened a c b t) 40 inside n.opens ∙ r a c b t ks
 
-new_step : (p : List ℕ) (a : Around) (c : Option (List ℕ)) → step p (first a c (codes "new")) 32 ≡ Some (later a c fresh [] [])
+pub new_step : (p : List ℕ) (a : Around) (c : Option (List ℕ)) → step p (first a c (codes "new")) 32 ≡ Some (later a c fresh [] [])
 unfolding step has
 new_step p a c = refl
 
-dot_step : (p : List ℕ) (a : Around) (c : Option (List ℕ)) (b : Before) (t : List ℕ) (args : Shapes) → step p (call_closed a c b t args) 46 ≡ Some (later a c (behind b t args) [] [])
+pub dot_step : (p : List ℕ) (a : Around) (c : Option (List ℕ)) (b : Before) (t : List ℕ) (args : Shapes) → step p (call_closed a c b t args) 46 ≡ Some (later a c (behind b t args) [] [])
 unfolding step
 dot_step p a c b t args = refl
 
-not_barred : (b : Bool) → (b ≡ true → ⊥) → b ≡ false
+pub not_barred : (b : Bool) → (b ≡ true → ⊥) → b ≡ false
 not_barred true h = absurd (h refl)
 not_barred false h = refl
 
 -- an expression in brackets
-group_right : (a : Around) (d : Option (List ℕ)) (c : Option (List ℕ)) (e : Shape) → NeedsBrackets c e → close (in_group a d) c e 41 ≡ Some (due 46 (later a d (in_brackets c e) [] []))
+pub group_right : (a : Around) (d : Option (List ℕ)) (c : Option (List ℕ)) (e : Shape) → NeedsBrackets c e → close (in_group a d) c e 41 ≡ Some (due 46 (later a d (in_brackets c e) [] []))
 unfolding close
 group_right a d (Some t) e h = refl
 group_right a d None (named b t) h = absurd h
 group_right a d None (called b t args) h = absurd h
 group_right a d None (lambda s bs c e) h = refl
 
-needs_lambda : (c : Option (List ℕ)) (e : Shape) → NeedsBrackets c e → c ≡ None → IsLambda e
+pub needs_lambda : (c : Option (List ℕ)) (e : Shape) → NeedsBrackets c e → c ≡ None → IsLambda e
 needs_lambda (Some t) e h n = cc
 needs_lambda None (named b t) h n = h
 needs_lambda None (called b t args) h n = h
 needs_lambda None (lambda s bs c e) h n = tt
 
 -- such a text begins with `(`
-inside_left : (c : Option (List ℕ)) (e : Shape) → NeedsBrackets c e → (x : List ℕ) × (with_cast c (shown e) ≡ 40 ∷ x)
+pub inside_left : (c : Option (List ℕ)) (e : Shape) → NeedsBrackets c e → (x : List ℕ) × (with_cast c (shown e) ≡ 40 ∷ x)
 unfolding shown
 inside_left (Some t) e h = ((t ++ codes ")") ++ (codes " " ++ shown e), refl)
 inside_left None (named b t) h = absurd h
 inside_left None (called b t args) h = absurd h
 inside_left None (lambda s bs c e) h = (((s ++ codes ")") ++ (codes " " ++ bracketed (listed bs))) ++ (codes " -> " ++ with_cast c (shown e)), refl)
 
-group_read : (p : List ℕ) (q : Part) (a : Around) (c : Option (List ℕ)) → Starts p q a c → is_barred a c ≡ false → (d : Option (List ℕ)) (e : Shape) → NeedsBrackets d e → Read p (start (in_group a c) None) (in_group a c) d (with_cast d (shown e)) e → (ks : List ℕ) → run p q ((bracketed (with_cast d (shown e)) ++ codes ".") ++ ks) ≡ run p (later a c (in_brackets d e) [] []) ks
+pub group_read : (p : List ℕ) (q : Part) (a : Around) (c : Option (List ℕ)) → Starts p q a c → is_barred a c ≡ false → (d : Option (List ℕ)) (e : Shape) → NeedsBrackets d e → Read p (start (in_group a c) None) (in_group a c) d (with_cast d (shown e)) e → (ks : List ℕ) → run p q ((bracketed (with_cast d (shown e)) ++ codes ".") ++ ks) ≡ run p (later a c (in_brackets d e) [] []) ks
 group_read p q a c s bar d e h r ks =
     let text = with_cast d (shown e) in
     let left = inside_left d e h in
@@ -442,7 +224,7 @@ group_read p q a c s bar d e h r ks =
     ∙ step_runs p r.state (due 46 (later a c (in_brackets d e) [] [])) 41 (46 ∷ ks) (r.behind.right ∙ group_right a c d e h)
     ∙ due_runs p 46 (later a c (in_brackets d e) [] []) ks
 
-head_text : (s : List ℕ) (bs : List (List ℕ)) (t ks : List ℕ) → ((bracketed s ++ (codes " " ++ bracketed (listed bs))) ++ (codes " -> " ++ t)) ++ ks ≡ 40 ∷ head_rest s bs (t ++ ks)
+pub head_text : (s : List ℕ) (bs : List (List ℕ)) (t ks : List ℕ) → ((bracketed s ++ (codes " " ++ bracketed (listed bs))) ++ (codes " -> " ++ t)) ++ ks ≡ 40 ∷ head_rest s bs (t ++ ks)
 head_text s bs t ks =
     append_assoc (bracketed s ++ (codes " " ++ bracketed (listed bs))) (codes " -> " ++ t) ks
     ∙ append_assoc (bracketed s) (codes " " ++ bracketed (listed bs)) ((codes " -> " ++ t) ++ ks)
@@ -511,21 +293,21 @@ mutual
 pub whole_read : (p : List ℕ) → spells_identifier p ≡ true → (e : Shape) → IsShape p e → Read p (start top None) top None (shown e) e
 whole_read p id e h = shape_read p id e h (start top None) top None (plain_starts p id top None) (λ z. absurd (false≢true z))
 
-run_none : (p : List ℕ) (q : Part) → run p q [] ≡ Some q
+pub run_none : (p : List ℕ) (q : Part) → run p q [] ≡ Some q
 unfolding run
 run_none p q = refl
 
-some_part : (q r : Part) → Some q ≡ Some r → q ≡ r
+pub some_part : (q r : Part) → Some q ≡ Some r → q ≡ r
 some_part q r e = cc
 
-some_shape : (e f : Shape) → Some e ≡ Some f → e ≡ f
+pub some_shape : (e f : Shape) → Some e ≡ Some f → e ≡ f
 some_shape e f z = cc
 
-over_whole : (e : Shape) → unwrapped top None e ≡ Some e
+pub over_whole : (e : Shape) → unwrapped top None e ≡ Some e
 unfolding unwrapped
 over_whole e = refl
 
-read_to : (p : List ℕ) (e : Shape) (r : Read p (start top None) top None (shown e) e) → run p (start top None) (shown e) ≡ Some r.state
+pub read_to : (p : List ℕ) (e : Shape) (r : Read p (start top None) top None (shown e) e) → run p (start top None) (shown e) ≡ Some r.state
 read_to p e r = ap (run p (start top None)) (sym (append-nil (shown e))) ∙ r.runs [] ∙ run_none p r.state
 
 pub one_shape : (p : List ℕ) → spells_identifier p ≡ true → (e f : Shape) → IsShape p e → IsShape p f → shown e ≡ shown f → e ≡ f

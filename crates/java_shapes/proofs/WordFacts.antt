@@ -68,10 +68,10 @@ pub no_part-dot : is_word_part 46 ≡ false
 unfolding is_word_part
 no_part-dot = ap (λ b. b || 46 == 36) (is_xid_continue-ascii 46 (lit< tt))
 
-underscore : (is_xid_continue 95 || 95 == 36) ≡ true
+pub underscore : (is_xid_continue 95 || 95 == 36) ≡ true
 underscore = ap (λ b. b || 95 == 36) (is_xid_continue-ascii 95 (lit< tt))
 
-start_part : (c : ℕ) → is_word_start c ≡ true → is_word_part c ≡ true
+pub start_part : (c : ℕ) → is_word_start c ≡ true → is_word_part c ≡ true
 unfolding is_word_start is_word_part
 start_part c e = elim (or_cases (is_xid_start c || c == 95) (c == 36) e) [
   | inl a ↦ (elim (or_cases (is_xid_start c) (c == 95) a) [
@@ -121,12 +121,12 @@ all_weaker p q weaker [] h = refl
 all_weaker p q weaker (w ∷ ws) h = let k = and_parts (p w) (list_all p ws) h in and_both (q w) (list_all q ws) (weaker w k.0) (all_weaker p q weaker ws k.1)
 
 -- paths
-first_by : (first a : List ℕ) (rest : List (List ℕ)) (r : List ℕ) → Lacks 46 first → Lacks 46 a → first ++ dotted rest ≡ a ++ 46 ∷ r → first ≡ a
+pub first_by : (first a : List ℕ) (rest : List (List ℕ)) (r : List ℕ) → Lacks 46 first → Lacks 46 a → first ++ dotted rest ≡ a ++ 46 ∷ r → first ≡ a
 unfolding dotted
 first_by first a [] r lf la e = absurd (lacks_not 46 first a r lf (sym (append-nil first) ∙ e))
 first_by first a (w ∷ ws) r lf la e = (cut_same 46 first a (w ++ dotted ws) r lf la e).0
 
-whole_by : (first t : List ℕ) (rest : List (List ℕ)) → Lacks 46 t → t ≡ first ++ dotted rest → first ≡ t
+pub whole_by : (first t : List ℕ) (rest : List (List ℕ)) → Lacks 46 t → t ≡ first ++ dotted rest → first ≡ t
 unfolding dotted
 whole_by first t [] lt e = sym (append-nil first) ∙ sym e
 whole_by first t (w ∷ ws) lt e = absurd (lacks_not 46 t first (w ++ dotted ws) lt e)
@@ -143,7 +143,7 @@ first_whole b t s lt = whole_by s.first t s.rest lt s.is
 abbrev pub HasNoDigits : List ℕ → Type 0
 HasNoDigits w = list_all (λ c. not (is_digit c)) w ≡ true
 
-ends_not : (w a ds : List ℕ) → HasNoDigits w → are_digits ds ≡ true → w ≡ a ++ ds → ⊥
+pub ends_not : (w a ds : List ℕ) → HasNoDigits w → are_digits ds ≡ true → w ≡ a ++ ds → ⊥
 unfolding are_digits
 ends_not w a [] h d e = false≢true d
 ends_not w a (c ∷ ds) h d e =
@@ -152,15 +152,15 @@ ends_not w a (c ∷ ds) h d e =
     let digit = and_parts (is_digit c) (list_all is_digit ds) d in
     false≢true (sym (ap not digit.0) ∙ one.0)
 
-digit_of : (n : ℕ) → n < 10 → is_digit (48 + n) ≡ true
+pub digit_of : (n : ℕ) → n < 10 → is_digit (48 + n) ≡ true
 unfolding is_digit
 digit_of n l = and_both (nat_le 48 (48 + n)) (nat_le (48 + n) 57) (le-leb 48 (48 + n) (omega arith)) (le-leb (48 + n) 57 (omega arith))
 
-one_digit : (n : ℕ) → n < 10 → are_digits ((48 + n) ∷ []) ≡ true
+pub one_digit : (n : ℕ) → n < 10 → are_digits ((48 + n) ∷ []) ≡ true
 unfolding are_digits
 one_digit n l = and_both (is_digit (48 + n)) true (digit_of n l) refl
 
-more_digits : (n : ℕ) (ds : List ℕ) → are_digits ds ≡ true → are_digits (ds ++ ((48 + n % 10) ∷ [])) ≡ true
+pub more_digits : (n : ℕ) (ds : List ℕ) → are_digits ds ≡ true → are_digits (ds ++ ((48 + n % 10) ∷ [])) ≡ true
 unfolding are_digits
 more_digits n [] h = absurd (false≢true h)
 more_digits n (c ∷ ds) h =
@@ -171,17 +171,17 @@ more_digits n (c ∷ ds) h =
 pub decimal_digits : (n : ℕ) → n < 10 ^ 64 → are_digits (decimal n) ≡ true
 decimal_digits n l = decimal_by_steps_wide (λ m ds. are_digits ds ≡ true) one_digit (λ m ds low h. more_digits m ds h) n l
 
-digit_not_dot : is_digit 46 ≡ false
+pub digit_not_dot : is_digit 46 ≡ false
 unfolding is_digit
 digit_not_dot = refl
 
-digits_dotless : (ds : List ℕ) → list_all is_digit ds ≡ true → Lacks 46 ds
+pub digits_dotless : (ds : List ℕ) → list_all is_digit ds ≡ true → Lacks 46 ds
 digits_dotless [] h = refl
 digits_dotless (c ∷ ds) h =
     let p = and_parts (is_digit c) (list_all is_digit ds) h in
     and_both (not (c == 46)) (list_all (λ x. not (x == 46)) ds) (ap not (ne_eqb c 46 (λ e. both_ways (is_digit c) (ap is_digit e ∙ digit_not_dot) p.0))) (digits_dotless ds p.1)
 
-number_dotless : (ds : List ℕ) → are_digits ds ≡ true → Lacks 46 ds
+pub number_dotless : (ds : List ℕ) → are_digits ds ≡ true → Lacks 46 ds
 unfolding are_digits
 number_dotless [] h = refl
 number_dotless (c ∷ ds) h = digits_dotless (c ∷ ds) h
@@ -190,7 +190,7 @@ number_dotless (c ∷ ds) h = digits_dotless (c ∷ ds) h
 pub variable_chars : (g : Parts) (n : ℕ) → IsReadable g → n < 10 ^ 64 → chars (variable_text g n) ≡ chars g.binder ++ decimal n
 variable_chars g n r l = chars-append g.binder (decimal n) r.binder_text ∙ ap (λ x. chars g.binder ++ x) (chars-IsAscii (decimal n) (IsAscii-decimal_wide n l))
 
-binder_append : (b ds : List ℕ) → is_binder b (b ++ ds) ≡ are_digits ds
+pub binder_append : (b ds : List ℕ) → is_binder b (b ++ ds) ≡ are_digits ds
 unfolding is_binder
 binder_append [] ds = refl
 binder_append (c ∷ b) ds = rw (eq-eqb c c refl) (binder_append b ds)
@@ -201,7 +201,7 @@ variable_binder g n r l = ap (is_binder (chars g.binder)) (variable_chars g n r 
 pub variable_dotless : (g : Parts) (n : ℕ) → IsReadable g → n < 10 ^ 64 → Lacks 46 (chars (variable_text g n))
 variable_dotless g n r l = subst (λ x. Lacks 46 x) (sym (variable_chars g n r l)) (lacks-append 46 (chars g.binder) (decimal n) (identifier_dotless (chars g.binder) r.binder) (number_dotless (decimal n) (decimal_digits n l)))
 
-this_digitless : HasNoDigits (codes "this")
+pub this_digitless : HasNoDigits (codes "this")
 unfolding is_digit
 this_digitless = refl
 
@@ -211,7 +211,7 @@ variable_not_this g n r l e = ends_not (codes "this") (chars g.binder) (decimal 
 pub variable_not_free : (g : Parts) (n : ℕ) (w : List ℕ) → IsReadable g → n < 10 ^ 64 → is_free (chars g.binder) w ≡ true → chars (variable_text g n) ≡ w → ⊥
 variable_not_free g n w r l h e = free_not_binder (chars g.binder) w h (subst (λ x. is_binder (chars g.binder) x ≡ true) e (variable_binder g n r l))
 
-same_decimal : (m n : ℕ) → m < 10 ^ 64 → n < 10 ^ 64 → decimal m ≡ decimal n → m ≡ n
+pub same_decimal : (m n : ℕ) → m < 10 ^ 64 → n < 10 ^ 64 → decimal m ≡ decimal n → m ≡ n
 same_decimal m n k l e = sym (decimal_is_IsNumeral_wide m k).1 ∙ ap (digits_value 10) e ∙ (decimal_is_IsNumeral_wide n l).1
 
 pub same_variable : (g : Parts) (m n : ℕ) → IsReadable g → m < 10 ^ 64 → n < 10 ^ 64 → chars (variable_text g m) ≡ chars (variable_text g n) → m ≡ n
@@ -223,18 +223,18 @@ pub record IsLiteralWord (w : List ℕ) : Type 0 where
   pub not_this : w ≡ codes "this" → ⊥
   pub digits : (w ≡ codes "0") ⊎ HasNoDigits w
 
-literal_zero : IsLiteralWord (codes "0")
+pub literal_zero : IsLiteralWord (codes "0")
 literal_zero = record { dotless = refl; not_this = λ e. false≢true ((bytes_eq-Decides (codes "0") (codes "this")).1 e); digits = inl refl }
 
-literal_true : IsLiteralWord (codes "true")
+pub literal_true : IsLiteralWord (codes "true")
 unfolding is_digit
 literal_true = record { dotless = refl; not_this = λ e. false≢true ((bytes_eq-Decides (codes "true") (codes "this")).1 e); digits = inr refl }
 
-literal_false : IsLiteralWord (codes "false")
+pub literal_false : IsLiteralWord (codes "false")
 unfolding is_digit
 literal_false = record { dotless = refl; not_this = λ e. false≢true ((bytes_eq-Decides (codes "false") (codes "this")).1 e); digits = inr refl }
 
-literal_empty : IsLiteralWord (34 ∷ 34 ∷ [])
+pub literal_empty : IsLiteralWord (34 ∷ 34 ∷ [])
 unfolding is_digit
 literal_empty = record { dotless = refl; not_this = λ e. false≢true ((bytes_eq-Decides (34 ∷ 34 ∷ []) (codes "this")).1 e); digits = inr refl }
 
@@ -261,7 +261,7 @@ literal_word w h = elim (has_cases (codes "0") (codes "true" ∷ codes "false" �
   ])
 ]
 
-not_zero : (b ds : List ℕ) → is_word b ≡ true → are_digits ds ≡ true → codes "0" ≡ b ++ ds → ⊥
+pub not_zero : (b ds : List ℕ) → is_word b ≡ true → are_digits ds ≡ true → codes "0" ≡ b ++ ds → ⊥
 unfolding is_word are_digits
 not_zero [] ds w d e = false≢true w
 not_zero (c ∷ []) [] w d e = false≢true d
@@ -284,11 +284,11 @@ has_passes p (x ∷ xs) w h e =
     let k = and_parts (p x) (list_all p xs) h in
     elim (has_cases x xs w e) [ inl same ↦ subst (λ v. p v ≡ true) same k.0 | inr more ↦ has_passes p xs w k.1 more ]
 
-reserved_digitless : list_all (λ w. list_all (λ c. not (is_digit c)) w) reserved ≡ true
+pub reserved_digitless : list_all (λ w. list_all (λ c. not (is_digit c)) w) reserved ≡ true
 unfolding reserved is_digit
 reserved_digitless = refl
 
-digit_part : (c : ℕ) → is_digit c ≡ true → is_word_part c ≡ true
+pub digit_part : (c : ℕ) → is_digit c ≡ true → is_word_part c ≡ true
 unfolding is_digit is_word_part
 digit_part c h =
     let k = and_parts (nat_le 48 c) (nat_le c 57) h in
@@ -296,29 +296,32 @@ digit_part c h =
     let digit : is_ascii_alphanumeric c ≡ true = or_left (is_ascii_digit c || is_ascii_uppercase c) (is_ascii_lowercase c) (or_left (is_ascii_digit c) (is_ascii_uppercase c) h) in
     or_left (is_xid_continue c) (c == 36) (is_xid_continue-ascii c (omega arith) ∙ or_left (is_ascii_alphanumeric c) (c == 95) digit)
 
-digit_parts : (ds : List ℕ) → list_all is_digit ds ≡ true → list_all is_word_part ds ≡ true
+pub digit_parts : (ds : List ℕ) → list_all is_digit ds ≡ true → list_all is_word_part ds ≡ true
 digit_parts [] h = refl
 digit_parts (c ∷ ds) h = let k = and_parts (is_digit c) (list_all is_digit ds) h in and_both (is_word_part c) (list_all is_word_part ds) (digit_part c k.0) (digit_parts ds k.1)
 
-number_parts : (ds : List ℕ) → are_digits ds ≡ true → list_all is_word_part ds ≡ true
+pub number_parts : (ds : List ℕ) → are_digits ds ≡ true → list_all is_word_part ds ≡ true
 unfolding are_digits
 number_parts [] h = refl
 number_parts (c ∷ ds) h = digit_parts (c ∷ ds) h
 
-word_more : (b ds : List ℕ) → is_word b ≡ true → list_all is_word_part ds ≡ true → is_word (b ++ ds) ≡ true
+pub word_more : (b ds : List ℕ) → is_word b ≡ true → list_all is_word_part ds ≡ true → is_word (b ++ ds) ≡ true
 unfolding is_word
 word_more [] ds w h = absurd (false≢true w)
 word_more (c ∷ b) ds w h = let k = and_parts (is_word_start c) (list_all is_word_part b) w in and_both (is_word_start c) (list_all is_word_part (b ++ ds)) k.0 (list_all-append is_word_part b ds ∙ and_both (list_all is_word_part b) (list_all is_word_part ds) k.1 h)
 
-not_true : (b : Bool) → (b ≡ true → ⊥) → not b ≡ true
+pub not_true : (b : Bool) → (b ≡ true → ⊥) → not b ≡ true
 not_true true h = absurd (h refl)
 not_true false h = refl
 
-pub numbered_identifier : (b ds : List ℕ) → spells_identifier b ≡ true → are_digits ds ≡ true → spells_identifier (b ++ ds) ≡ true
+pub numbered_word : (b ds : List ℕ) → is_word b ≡ true → are_digits ds ≡ true → spells_identifier (b ++ ds) ≡ true
 unfolding spells_identifier
-numbered_identifier b ds h d =
-    and_both (is_word (b ++ ds)) (not (has reserved (b ++ ds))) (word_more b ds (and_parts (is_word b) (not (has reserved b)) h).0 (number_parts ds d))
+numbered_word b ds h d =
+    and_both (is_word (b ++ ds)) (not (has reserved (b ++ ds))) (word_more b ds h (number_parts ds d))
     (not_true (has reserved (b ++ ds)) (λ e. ends_not (b ++ ds) b ds (has_passes (λ w. list_all (λ c. not (is_digit c)) w) reserved (b ++ ds) reserved_digitless e) d refl))
+
+pub numbered_identifier : (b ds : List ℕ) → spells_identifier b ≡ true → are_digits ds ≡ true → spells_identifier (b ++ ds) ≡ true
+numbered_identifier b ds h d = numbered_word b ds (identifier_word b h) d
 
 pub variable_identifier : (g : Parts) (n : ℕ) → IsReadable g → n < 10 ^ 64 → spells_identifier (chars (variable_text g n)) ≡ true
 variable_identifier g n r l = ap spells_identifier (variable_chars g n r l) ∙ numbered_identifier (chars g.binder) (decimal n) r.binder (decimal_digits n l)

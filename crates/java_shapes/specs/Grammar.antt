@@ -68,3 +68,10 @@ pub record IsExpression (p : List ℕ) (t : List ℕ) : Type 0 where
   pub shape : Shape
   pub well_formed : IsShape p shape
   pub is : t ≡ shown shape
+
+-- an expression begins so
+pub record IsBegun (p : List ℕ) (t : List ℕ) : Type 0 where
+  pub shape : Shape
+  pub well_formed : IsShape p shape
+  pub rest : List ℕ
+  pub is : shown shape ≡ t ++ rest

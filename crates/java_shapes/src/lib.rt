@@ -6,4 +6,7 @@
 
 mod laws;
 
-pub use laws::{apart_laws, shape_laws};
+pub use laws::{apart_laws, reader_laws, shape_laws};
+
+#[cfg(test)]
+mod tests;
