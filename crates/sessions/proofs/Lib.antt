@@ -1,1 +1,10 @@
 pub mod PagesTold
+pub mod Cases
+pub mod KeptCursors
+pub mod OpenDocs
+pub mod Changes
+pub mod Written
+pub mod WorldReads
+pub mod Prefixes
+pub mod Sited
+pub mod Asked

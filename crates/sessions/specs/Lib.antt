@@ -1,1 +1,10 @@
--- No definitions yet.
+pub mod Ranges
+pub mod Kept
+pub mod Failing
+pub mod Edited
+pub mod Texts
+pub mod Options
+pub mod Worlds
+pub mod Spots
+pub mod Opened
+pub mod Questions
