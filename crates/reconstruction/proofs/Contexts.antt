@@ -1,5 +1,5 @@
 -- The rows of the lambdas around a place, and one lambda more.
-use Rattle.std.proofs.Common.{◌≡◌, ◌≢◌, ℕ, zero, suc, ◌+◌, ◌≤◌, List, [], ◌∷◌, ◌++◌, length, slice_get, refl, sym, ap, ◌∙◌, arith}
+use Rattle.std.proofs.Common.{◌≡◌, ◌≢◌, ℕ, zero, suc, ◌+◌, ◌≤◌, [], ◌∷◌, ◌++◌, length, slice_get, refl, ap, ◌∙◌, arith}
 use Rattle.terms.specs.Faults.{IsValid}
 use Rattle.terms.specs.Typing.{most_rows}
 use Rattle.terms.specs.declared.parts.Parts.{Parts}
