@@ -18,3 +18,5 @@ pub mod Sound
 pub mod WordSteps
 pub mod Steps
 pub mod Begun
+pub mod Worked
+pub mod Identifiers

@@ -63,12 +63,6 @@ unfoldable mutual
   AreShapes p no_shapes = Unit {0}
   AreShapes p (shapes c e rest) = IsCast c × IsShape p e × AreShapes p rest
 
--- a text of the grammar: the text of an expression
-pub record IsExpression (p : List ℕ) (t : List ℕ) : Type 0 where
-  pub shape : Shape
-  pub well_formed : IsShape p shape
-  pub is : t ≡ shown shape
-
 -- an expression begins so
 pub record IsBegun (p : List ℕ) (t : List ℕ) : Type 0 where
   pub shape : Shape

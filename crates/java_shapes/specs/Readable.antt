@@ -18,9 +18,13 @@ use Rattle.java_shapes.specs.Grammar.{dimensions}
 abbrev pub is_free : List ℕ → List ℕ → Bool
 is_free binder w = spells_identifier w && not (is_binder binder w)
 
--- such identifiers joined by dots
+-- such identifiers joined by dots, as characters
+abbrev pub AreFreeWords : Parts → List ℕ → Type 0
+AreFreeWords g t = IsPath (is_free (chars g.binder)) (is_free (chars g.binder)) t
+
+-- the same of a text in UTF-8
 abbrev pub IsFreePath : Parts → List ℕ → Type 0
-IsFreePath g s = IsUtf8 s × IsPath (is_free (chars g.binder)) (is_free (chars g.binder)) (chars s)
+IsFreePath g s = IsUtf8 s × AreFreeWords g (chars s)
 
 -- one such identifier
 abbrev pub IsFreeWord : Parts → List ℕ → Type 0
@@ -28,7 +32,7 @@ IsFreeWord g s = IsUtf8 s × (is_free (chars g.binder) (chars s) ≡ true)
 
 -- the text of a form: identifiers joined by dots, for a name also a literal, and one identifier for a method or a field
 abbrev pub IsFormText : Parts → Form → Type 0
-IsFormText g (Name s) = IsUtf8 s × (IsPath (is_free (chars g.binder)) (is_free (chars g.binder)) (chars s) ⊎ (has literals (chars s) ≡ true))
+IsFormText g (Name s) = IsUtf8 s × (AreFreeWords g (chars s) ⊎ (has literals (chars s) ≡ true))
 IsFormText g This = Unit {0}
 IsFormText g (Call s) = IsFreePath g s
 IsFormText g (New s) = IsFreePath g s
@@ -41,7 +45,7 @@ pub record IsTypeText (g : Parts) (s : List ℕ) : Type 0 where
   pub utf8 : IsUtf8 s
   pub base : List ℕ
   pub count : ℕ
-  pub base_is : IsPath (is_free (chars g.binder)) (is_free (chars g.binder)) base ⊎ (has primitives base ≡ true)
+  pub base_is : AreFreeWords g base ⊎ (has primitives base ≡ true)
   pub is : chars s ≡ base ++ dimensions count
 
 -- the texts of the forms, and of the types that crowded declarations want, can be read; the binder is an identifier,
