@@ -51,6 +51,7 @@ fn prepare<J: Naming>(
     ensures lawful { IfOk result (λ _. MayFollow shown.now change) }
     ensures refused { IfErr result (λ e. IsRefusal shown.now change e.change e.cause) }
     ensures told { IfErr result (λ e. MatchOption e.seen (e.cause ≡ OutOfMemory) (λ r. J.first ++ r.prefix ≡ shown.now)) }
+    ensures full { most_changes ≤ length shown.now → MatchResult result (λ _. ⊥) (λ e. e.cause ≡ JournalFull) }
 {
     let next = match shown.snapshot().after(alloc, &change) {
         Ok(next) => next,
@@ -102,6 +103,7 @@ impl<J: Naming, R: Wait + Drop> Publisher<J, R> {
         ensures lawful { IfOk result (λ _. MayFollow self.old change) }
         ensures refused { IfErr result (λ e. (self.new ≡ self.old) × IsRefusal self.old change e.change e.cause) }
         ensures told { IfErr result (λ e. MatchOption e.seen (e.cause ≡ OutOfMemory) (λ r. J.first ++ r.prefix ≡ self.old)) }
+        ensures full { most_changes ≤ length self.old → MatchResult result (λ _. ⊥) (λ e. e.cause ≡ JournalFull) }
     {
         let shown = self.writer.published();
         let (snapshot, mut prefix, change) = match prepare(shown, alloc, change) {
