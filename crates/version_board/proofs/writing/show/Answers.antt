@@ -1,4 +1,4 @@
-use Rattle.std.proofs.Common.{◌≡◌, ℕ, List, ap, sym, ◌∙◌, subst, fold, drop}
+use Rattle.std.proofs.Common.{◌≡◌, List, sym, ◌∙◌, subst, fold, drop}
 use mathlib.Core.List.{IsPrefix}
 use Rattle.decl_index.specs.declared.change.Change.{Change}
 use Rattle.version_board.proofs.Keeps.{publish_keeps}

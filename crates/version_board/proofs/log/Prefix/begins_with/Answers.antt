@@ -1,4 +1,4 @@
-use Rattle.std.proofs.Common.{◌≤◌, ◌<◌, ℕ, ap, subst, arith, length, List}
+use Rattle.std.proofs.Common.{◌≤◌, ◌<◌, ap, subst, arith, length, List}
 use mathlib.Core.List.{IsPrefix}
 use Rattle.decl_index.specs.declared.change.Change.{Change}
 use Rattle.version_board.proofs.Prefixes.{prefix_shorter}
