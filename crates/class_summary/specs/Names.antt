@@ -1,6 +1,7 @@
 -- What the name of a type denotes in a source text (JLS 4.6, 6.4.1, 6.5.5).
 use Rattle.std.specs.Prelude.{ℕ, zero, suc, ◌-◌, ◌&&◌, ◌||◌, ◌==◌, not, if◌then◌else◌, Bool, true, false, List, [], ◌∷◌, ◌++◌, length, slice_get, codes, bytes_eq, Option, Some, None, unwrap_or}
 use Rattle.std.specs.Option.{option_or}
+use Rattle.type_names.specs.Names.{object_name}
 use Rattle.type_names.specs.declared.kinds.Base.{Base}
 use Rattle.type_names.specs.declared.kinds.Base.TheVariants.{Byte, Char, Double, Float, Int, Long, Short, Boolean, Class}
 use Rattle.type_names.specs.declared.kinds.Erased.{Erased}
@@ -177,7 +178,7 @@ primitive_of (p ∷ q ∷ ps) = None
 
 -- The erased type of a name that is no type variable, without its dimensions.
 unfoldable pub base_of : unit.Unit → ℕ → List ClassSummary → Option (List (List ℕ)) → Base
-base_of u i known None = Class (codes "java/lang/Object")
+base_of u i known None = Class object_name
 base_of u i known (Some parts) = unwrap_or (primitive_of parts) (Class (internal_of u (class_of_name u i known parts)))
 
 abbrev pub erased_end : unit.Unit → List ClassSummary → End → Erased

@@ -1,6 +1,7 @@
 -- What is kept of a class that a source text declares (JLS 8, 9).
 use Rattle.std.specs.Prelude.{◌≡◌, ℕ, suc, ◌==◌, ◌&&◌, if◌then◌else◌, Bool, List, [], ◌∷◌, ◌++◌, map, drop, slice_get, codes, Option, Some, None, unwrap_or}
 use Rattle.std.specs.List.{filter_map}
+use Rattle.type_names.specs.Names.{object_name}
 use Rattle.type_names.specs.declared.kinds.Base.{Base}
 use Rattle.type_names.specs.declared.kinds.Base.TheVariants.{Byte, Char, Double, Float, Int, Long, Short, Boolean, Class}
 use Rattle.type_names.specs.declared.kinds.Erased.{Erased}
@@ -42,11 +43,11 @@ super_of u i known type = class_of (denoted_type u i None type known)
 
 -- The first super of a class of this kind that names no superclass.
 abbrev pub parent_of : ClassKind → List ℕ
-parent_of ClassDecl = codes "java/lang/Object"
-parent_of InterfaceDecl = codes "java/lang/Object"
+parent_of ClassDecl = object_name
+parent_of InterfaceDecl = object_name
 parent_of EnumDecl = codes "java/lang/Enum"
 parent_of RecordDecl = codes "java/lang/Record"
-parent_of AnnotationDecl = codes "java/lang/Object"
+parent_of AnnotationDecl = object_name
 
 -- What follows the interfaces.
 abbrev pub last_supers : ClassKind → List (List ℕ)

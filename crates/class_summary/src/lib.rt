@@ -21,7 +21,7 @@ mod variables;
 pub use known_classes::{
     ClassSummary, Classes, FieldSummary, Merged, MethodSummary, Nesting, canonical_names,
 };
-pub use paths::{canonical_name, internal_name};
+pub use paths::{around, canonical_name, internal_name};
 pub use resolver::{Resolver, from_unit, resolve_name};
 pub use shape::from_shape;
 

@@ -14,7 +14,7 @@ use java_units::TypeText;
 use known_classes::{Classes, canonical_named};
 use lists::{Copies, Text};
 use std::alloc::{AllocError, Global};
-use type_names::{Base, Erased};
+use type_names::{Base, Erased, OBJECT};
 
 /// The canonical name of a class.
 fn canonical_of<C: Classes>(
@@ -158,7 +158,7 @@ fn base_of<C: Classes>(
     ensures { IfOk result (λ base. base ≡ base_of unit.now class (C.listed known.now) (option_copied parts.entry)) }
 {
     let Some(parts) = parts else {
-        return Ok(Base::Class(Text::from_str(alloc, "java/lang/Object")?));
+        return Ok(Base::Class(Text::from_str(alloc, OBJECT)?));
     };
     if let Some(base) = primitive_of(parts) {
         return Ok(base);

@@ -62,7 +62,7 @@ pub fn name_at(alloc: Global, classes: &[SourceClass], i: usize) -> Result<Text,
     }
 }
 
-/// The class and the classes around it, from the innermost outwards.
+/// The class and the classes around it, by their numbers in the unit, from the innermost outwards.
 pub fn around(
     alloc: Global,
     classes: &[SourceClass],

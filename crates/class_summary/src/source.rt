@@ -11,7 +11,7 @@ use java_units::{ClassKind, Param, SourceClass, SourceField, SourceMethod, TypeT
 use known_classes::{ClassSummary, Classes, FieldSummary, MethodSummary, Nesting};
 use lists::{Copies, Items, Text};
 use std::alloc::{AllocError, Global};
-use type_names::{Base, Erased};
+use type_names::{Base, Erased, OBJECT};
 
 /// The class that an erased type is: none for a primitive and for an array.
 fn class_of(kind: Erased) -> Option<Text>
@@ -48,11 +48,11 @@ fn parent_of(kind: ClassKind) -> &'static str
     ensures { result.now ≡ parent_of kind }
 {
     match kind {
-        ClassKind::ClassDecl => "java/lang/Object",
-        ClassKind::InterfaceDecl => "java/lang/Object",
+        ClassKind::ClassDecl => OBJECT,
+        ClassKind::InterfaceDecl => OBJECT,
         ClassKind::EnumDecl => "java/lang/Enum",
         ClassKind::RecordDecl => "java/lang/Record",
-        ClassKind::AnnotationDecl => "java/lang/Object",
+        ClassKind::AnnotationDecl => OBJECT,
     }
 }
 

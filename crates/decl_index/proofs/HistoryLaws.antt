@@ -10,7 +10,8 @@ use Rattle.decl_index.specs.declared.change.ChangeFault.{ChangeFault}
 use Rattle.decl_index.specs.declared.change.ChangeFault.TheVariants.{Cyclic, Full, TooHigh, JournalFull, NestCycle, OutOfMemory}
 use Rattle.decl_index.specs.History.{Name, order, Rises, State, AreClasses, AreCounts, Edit, remove, put, decided, edits_of, counts_of, count_at, use_of}
 use Rattle.decl_index.specs.Places.{told_or, Leaves}
-use Rattle.decl_index.specs.Refusals.{supers_of, outers_of, object_name, IsLeastNamedCycle, IsFaultOf, IsTooHigh, RefusesFor}
+use Rattle.type_names.specs.Names.{object_name}
+use Rattle.decl_index.specs.Refusals.{supers_of, outers_of, IsLeastNamedCycle, IsFaultOf, IsTooHigh, RefusesFor}
 use Rattle.decl_index.specs.Laws.{HasState, OneState, OneList, OneRefusal, UsesOfState}
 use Rattle.decl_index.proofs.Names.{exact, greater}
 use Rattle.decl_index.proofs.Sorted.{put_in, cut_out, put_rises, cut_rises}

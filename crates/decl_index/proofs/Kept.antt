@@ -6,7 +6,8 @@ use Rattle.std.specs.Prelude.{bytes_eq}
 use Rattle.known_classes.specs.declared.summary.ClassSummary.{ClassSummary}
 use Rattle.known_classes.specs.Known.{class_named}
 use Rattle.decl_index.specs.History.{Name, put, remove, decided}
-use Rattle.decl_index.specs.Refusals.{supers_of, outers_of, object_name, Steps, ReachesItself, HasNoCycle}
+use Rattle.type_names.specs.Names.{object_name}
+use Rattle.decl_index.specs.Refusals.{supers_of, outers_of, Steps, ReachesItself, HasNoCycle}
 use Rattle.decl_index.specs.Places.{told_or, Leaves}
 use Rattle.decl_index.specs.Changed.{Each, AvoidsItself, IsFree}
 use Rattle.decl_index.proofs.Names.{same-true}

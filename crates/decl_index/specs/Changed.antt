@@ -3,7 +3,8 @@ use Rattle.std.specs.Prelude.{◌≡◌, ℕ, List, ◌++◌, slice_get, Some, N
 use Rattle.known_classes.specs.declared.summary.ClassSummary.{ClassSummary}
 use Rattle.known_classes.specs.Known.{class_named}
 use Rattle.decl_index.specs.History.{Name}
-use Rattle.decl_index.specs.Refusals.{supers_of, outers_of, object_name, ReachesItself, HasNoCycle}
+use Rattle.type_names.specs.Names.{object_name}
+use Rattle.decl_index.specs.Refusals.{supers_of, outers_of, ReachesItself, HasNoCycle}
 
 -- P holds of each element.
 abbrev pub Each : {A : Type 0} → (A → Type 0) → List A → Type 0

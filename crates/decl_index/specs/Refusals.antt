@@ -1,7 +1,8 @@
 -- When a change is refused.
-use Rattle.std.specs.Prelude.{◌≡◌, ◌≢◌, ◌<◌, ◌≤◌, ◌+◌, ◌⊎◌, ℕ, List, [], ◌∷◌, ◌++◌, length, sum_by, codes, Option, Some, None, Contains}
+use Rattle.std.specs.Prelude.{◌≡◌, ◌≢◌, ◌<◌, ◌≤◌, ◌+◌, ◌⊎◌, ℕ, List, [], ◌∷◌, ◌++◌, length, sum_by, Option, Some, None, Contains}
 use Rattle.std.specs.declared.cmp.Ordering.TheVariants.{Less}
 use Rattle.graphs.specs.Paths.{Leads}
+use Rattle.type_names.specs.Names.{object_name}
 use Rattle.known_classes.specs.declared.summary.ClassSummary.{ClassSummary}
 use Rattle.known_classes.specs.declared.summary.MethodSummary.{MethodSummary}
 use Rattle.known_classes.specs.Known.{class_named, outer_in}
@@ -43,10 +44,6 @@ pub record IsLeastNamedCycle (to : ClassSummary → List Name) (but : Option Nam
 -- No name but one reaches itself.
 pub record HasNoCycle (to : ClassSummary → List Name) (but : Option Name) (cs : List ClassSummary) : Type 0 where
   pub none : (n : Name) → Some n ≢ but → ReachesItself to cs n → ⊥
-
--- java/lang/Object
-abbrev pub object_name : Name
-object_name = codes "java/lang/Object"
 
 -- A method counts as 1 and its parameters.
 abbrev pub method_parts : MethodSummary → ℕ

@@ -4,7 +4,8 @@ ghost use Rattle.decl_index.specs.declared.change.ChangeFault.TheVariants.{OutOf
 ghost use Rattle.decl_index.specs.History.{Rises, remove, put};
 ghost use Rattle.decl_index.specs.Places.{Leaves};
 ghost use Rattle.decl_index.specs.Changed.{IsFree};
-ghost use Rattle.decl_index.specs.Refusals.{supers_of, outers_of, object_name, method_parts, parts_of, parts_in, HasNoCycle, IsLeastNamedCycle, IsFaultOf, IsSound};
+ghost use Rattle.type_names.specs.Names.{object_name};
+ghost use Rattle.decl_index.specs.Refusals.{supers_of, outers_of, method_parts, parts_of, parts_in, HasNoCycle, IsLeastNamedCycle, IsFaultOf, IsSound};
 ghost use Rattle.decl_index.specs.Rows.{IsRow, IsGraph};
 
 use crate::change::ChangeFault;
@@ -14,9 +15,7 @@ use graphs::least_cycle;
 use known_classes::{ClassSummary, MethodSummary};
 use lists::{Copies, Items, Text};
 use std::alloc::{AllocError, Global};
-
-/// The class that may reach itself by supers.
-const OBJECT: &str = "java/lang/Object";
+use type_names::OBJECT;
 
 /// The most parts of an index.
 const MOST_PARTS: u64 = 16_777_215;

@@ -3,6 +3,7 @@ use known_classes::{ClassSummary, Classes, Nesting};
 use lists::{Copies, Items, Text};
 use std::alloc::Global;
 use std::process::Abort;
+use type_names::OBJECT;
 
 /// A class: its name, its super, the class around it where that isn't empty, and its simple name there.
 type Row<'a> = (&'a str, &'a str, &'a str, &'a str);
@@ -155,8 +156,6 @@ fn answers(
         wanted,
     )
 }
-
-const OBJECT: &str = "java/lang/Object";
 
 /// Publications on the empty index: classes with their parents, outer classes and simple names.
 const ROWS: [([Row<'static>; 2], Answer); 6] = [

@@ -4,6 +4,7 @@
 // the class around them. It stands on `lists` and `type_names`, and knows neither class files nor Java text.
 #![tactic(auto)]
 
+mod canonical_tables;
 mod canonical_text;
 mod classes;
 mod laws;
@@ -14,8 +15,8 @@ mod nested;
 mod parts;
 mod summary;
 mod tables;
-mod texts;
 
+pub use canonical_tables::{canonical_named, tables_of};
 pub use classes::{ClassList, Classes};
 pub use laws::{canonical_names, merges_of_names};
 pub use merged::Merged;
@@ -23,7 +24,6 @@ pub use name_tables::NameTables;
 pub use nested::same;
 pub use summary::{ClassSummary, FieldSummary, MethodSummary, Nesting, copy_text};
 pub use tables::{put, put_at};
-pub use texts::{canonical_named, tables_of};
 
 #[cfg(test)]
 mod tests;

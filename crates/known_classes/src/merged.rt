@@ -4,12 +4,12 @@ ghost use Rattle.known_classes.specs.Merging.{merged, KeepsName, KeepNames};
 ghost use Rattle.known_classes.specs.Nested.{IsLesserOf};
 ghost use Rattle.known_classes.specs.NameTables.{Extends, AreTablesBeside, table_of};
 
+use crate::canonical_tables::{tables_behind, tables_of};
 use crate::classes::{ClassList, Classes};
 use crate::name_tables::NameTables;
 use crate::nested::{lesser, outer_name, simple_name};
 use crate::parts::Parts;
 use crate::summary::ClassSummary;
-use crate::texts::{tables_behind, tables_of};
 use lists::{Items, Text};
 use std::alloc::{AllocError, Global};
 use std::marker::Model;

@@ -1,8 +1,9 @@
 -- All that stands above a class is known where it is below no missing one.
 use Rattle.std.proofs.Common.{◌≡◌, ◌∙◌, ap, sym, refl, ℕ, Bool, true, false, cond, ◌&&◌, ◌||◌, not, List, [], ◌∷◌, bytes_eq}
-use Rattle.std.specs.Prelude.{codes, is_some}
+use Rattle.std.specs.Prelude.{is_some}
 use Rattle.std.specs.List.{list_all, filter, flat_map}
 use Rattle.std.proofs.lemmas.List.Folds.{list_all-append}
+use Rattle.type_names.specs.Names.{object_name}
 use Rattle.known_classes.specs.declared.summary.ClassSummary.{ClassSummary}
 use Rattle.known_classes.specs.Known.{class_named}
 use Rattle.offers.specs.Scenes.{Scene, of_class}
@@ -19,7 +20,7 @@ step p false false false n fs r e f = f ∙ sym (ap (λ t. t && list_all p fs) e
 
 there : (v : Scene) (c : ClassSummary) (names : List (List ℕ)) → list_all (is_there v c) names ≡ is_apart v c (filter (is_missing v) names)
 there v c [] = refl
-there v c (n ∷ ns) = step (λ name. not (v.below (of_class c.name) (of_class name))) (v.below (of_class c.name) (of_class n)) (bytes_eq n (codes "java/lang/Object")) (is_some (class_named v.known n)) n (filter (is_missing v) ns) (list_all (is_there v c) ns) refl (there v c ns)
+there v c (n ∷ ns) = step (λ name. not (v.below (of_class c.name) (of_class name))) (v.below (of_class c.name) (of_class n)) (bytes_eq n object_name) (is_some (class_named v.known n)) n (filter (is_missing v) ns) (list_all (is_there v c) ns) refl (there v c ns)
 
 all-there : (v : Scene) (c : ClassSummary) (ds : List ClassSummary) → list_all (λ d. list_all (is_there v c) d.supers) ds ≡ is_apart v c (flat_map (missing_in v) ds)
 all-there v c [] = refl

@@ -11,7 +11,8 @@ use Rattle.type_names.specs.Descriptors.{base}
 use Rattle.known_classes.specs.Known.{KnownClasses}
 use Rattle.name_places.specs.Places.{place_of}
 use Rattle.subtyping.specs.Places.{Ancestry, Stands, IsAncestry}
-use Rattle.subtyping.specs.Steps.{object, cloneable, serializable, wider, IsReference, IsStrictSubtype}
+use Rattle.type_names.specs.Names.{object_name}
+use Rattle.subtyping.specs.Steps.{cloneable, serializable, wider, IsReference, IsStrictSubtype}
 use Rattle.subtyping.specs.Asked.{IsBaseBelow, IsArrayBelow, IsBelowAt}
 use Rattle.subtyping.proofs.Laws.{below-mono, below-subtype, subtype-below}
 use Rattle.offers.specs.Order.{is_ancestor_at, is_ancestor, is_one_of, is_base_below, is_above_arrays, is_array_below, is_reference, is_below_at, is_below}
@@ -106,13 +107,13 @@ differ false h = refl
 base-if : (s : Ancestry) (p q : Base) → is_base_below s p q ≡ true → IsBaseBelow (Stands s) p q
 base-if s (Class a) (Class b) e = elim (or-cases (is_ancestor s a b) _ e) [
   | inl h ↦ inl (stands-if s a b h)
-  | inr h ↦ inr (not-equal a object (first _ _ h), same b object (second (not (bytes_eq a object)) _ h))
+  | inr h ↦ inr (not-equal a object_name (first _ _ h), same b object_name (second (not (bytes_eq a object_name)) _ h))
 ]
 base-if s p q e = any-one q (wider p) e
 
 if-base : (s : Ancestry) (p q : Base) → IsBaseBelow (Stands s) p q → is_base_below s p q ≡ true
 if-base s (Class a) (Class b) (inl h) = or-left (is_ancestor s a b) _ (if-stands s a b h)
-if-base s (Class a) (Class b) (inr h) = or-right (is_ancestor s a b) _ (both _ _ (differ (bytes_eq a object) (λ e. h.0 (same a object e))) (equal b object h.1))
+if-base s (Class a) (Class b) (inr h) = or-right (is_ancestor s a b) _ (both _ _ (differ (bytes_eq a object_name) (λ e. h.0 (same a object_name e))) (equal b object_name h.1))
 if-base s p q h = one-any q (wider p) h
 
 above-if : (s : Ancestry) (q : Base) → is_above_arrays s q ≡ true → (b : List ℕ) × (q ≡ Class b) × (Stands s cloneable b ⊎ Stands s serializable b)
@@ -124,14 +125,14 @@ if-above s b (inl h) = or-left (is_ancestor s cloneable b) _ (if-stands s clonea
 if-above s b (inr h) = or-right (is_ancestor s cloneable b) _ (if-stands s serializable b h)
 
 array-if : (s : Ancestry) (q : Base) → is_array_below s q ≡ true → IsArrayBelow (Stands s) q
-array-if s q e = elim (or-cases (is_one_of (Class object ∷ Class cloneable ∷ Class serializable ∷ []) q) _ e) [
+array-if s q e = elim (or-cases (is_one_of (Class object_name ∷ Class cloneable ∷ Class serializable ∷ []) q) _ e) [
   | inl h ↦ inl (any-one q _ h)
   | inr h ↦ inr (above-if s q h)
 ]
 
 if-array : (s : Ancestry) (q : Base) → IsArrayBelow (Stands s) q → is_array_below s q ≡ true
-if-array s q (inl h) = or-left (is_one_of (Class object ∷ Class cloneable ∷ Class serializable ∷ []) q) _ (one-any q _ h)
-if-array s q (inr h) = or-right (is_one_of (Class object ∷ Class cloneable ∷ Class serializable ∷ []) q) _ (subst (λ z. is_above_arrays s z ≡ true) (sym h.1) (if-above s h.0 h.2))
+if-array s q (inl h) = or-left (is_one_of (Class object_name ∷ Class cloneable ∷ Class serializable ∷ []) q) _ (one-any q _ h)
+if-array s q (inr h) = or-right (is_one_of (Class object_name ∷ Class cloneable ∷ Class serializable ∷ []) q) _ (subst (λ z. is_above_arrays s z ≡ true) (sym h.1) (if-above s h.0 h.2))
 
 reference-if : (n : ℕ) (p : Base) → is_reference n p ≡ true → IsReference n p
 reference-if (suc n) p e = tt

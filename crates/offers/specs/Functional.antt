@@ -5,6 +5,7 @@ use Rattle.type_names.specs.declared.kinds.Base.{Base}
 use Rattle.type_names.specs.declared.kinds.Base.TheVariants.{Int, Long}
 use Rattle.type_names.specs.declared.kinds.Erased.{Erased}
 use Rattle.type_names.specs.Descriptors.{outcome}
+use Rattle.type_names.specs.Names.{object_name}
 use Rattle.known_classes.specs.declared.summary.MethodSummary.{MethodSummary}
 use Rattle.known_classes.specs.declared.summary.ClassSummary.{ClassSummary}
 use Rattle.class_summary.specs.Flags.{has_flag}
@@ -28,7 +29,7 @@ faces_above v c = filter (is_face v c) v.known
 
 -- What stands above the class is known, but for Object.
 abbrev pub is_there : Scene → ClassSummary → List ℕ → Bool
-is_there v c name = (not (v.below (of_class c.name) (of_class name)) || bytes_eq name (codes "java/lang/Object")) || is_some (class_named v.known name)
+is_there v c name = (not (v.below (of_class c.name) (of_class name)) || bytes_eq name object_name) || is_some (class_named v.known name)
 
 unfoldable pub is_whole : Scene → ClassSummary → Bool
 is_whole v c = list_all (λ d. list_all (is_there v c) d.supers) v.known
@@ -61,7 +62,7 @@ abbrev pub is_wait : MethodSummary → Bool
 is_wait m = has_call (codes "wait") (of_base Long ∷ []) m || has_call (codes "wait") (of_base Long ∷ of_base Int ∷ []) m
 
 unfoldable pub is_of_object : MethodSummary → Bool
-is_of_object m = has_call (codes "equals") (of_class (codes "java/lang/Object") ∷ []) m || (is_bare m || is_wait m)
+is_of_object m = has_call (codes "equals") (of_class object_name ∷ []) m || (is_bare m || is_wait m)
 
 -- The abstract methods of an interface that no body is given for, and that Object hasn't.
 abbrev pub is_promise : Scene → List ClassSummary → ClassSummary → MethodSummary → Bool

@@ -1,13 +1,14 @@
 -- Names of classes above known ones that aren't known themselves.
-use Rattle.std.specs.Prelude.{ℕ, Bool, ◌||◌, not, List, codes, bytes_eq, is_some}
+use Rattle.std.specs.Prelude.{ℕ, Bool, ◌||◌, not, List, bytes_eq, is_some}
 use Rattle.std.specs.List.{list_all, filter, flat_map}
+use Rattle.type_names.specs.Names.{object_name}
 use Rattle.known_classes.specs.declared.summary.ClassSummary.{ClassSummary}
 use Rattle.known_classes.specs.Known.{class_named}
 use Rattle.offers.specs.Scenes.{Scene, of_class}
 
 -- Neither java/lang/Object nor known.
 abbrev pub is_missing : Scene → List ℕ → Bool
-is_missing v name = not (bytes_eq name (codes "java/lang/Object") || is_some (class_named v.known name))
+is_missing v name = not (bytes_eq name object_name || is_some (class_named v.known name))
 
 abbrev pub missing_in : Scene → ClassSummary → List (List ℕ)
 missing_in v d = filter (is_missing v) d.supers

@@ -8,7 +8,8 @@ use Rattle.type_names.specs.declared.kinds.Erased.{Erased}
 use Rattle.type_names.specs.Descriptors.{base}
 use Rattle.name_places.specs.Places.{place_of}
 use Rattle.subtyping.specs.Places.{Ancestry}
-use Rattle.subtyping.specs.Steps.{object, cloneable, serializable, wider}
+use Rattle.type_names.specs.Names.{object_name}
+use Rattle.subtyping.specs.Steps.{cloneable, serializable, wider}
 
 -- The second name is among the ancestors of the first.
 abbrev pub is_ancestor_at : List (List ℕ) → Option ℕ → Option ℕ → Bool
@@ -25,7 +26,7 @@ is_one_of ps q = list_any (λ p. bytes_eq (base p) (base q)) ps
 
 -- A class other than Object is below its ancestors and Object; a primitive type is below what it widens to.
 abbrev pub is_base_below : Ancestry → Base → Base → Bool
-is_base_below s (Class a) (Class b) = is_ancestor s a b || (not (bytes_eq a object) && bytes_eq b object)
+is_base_below s (Class a) (Class b) = is_ancestor s a b || (not (bytes_eq a object_name) && bytes_eq b object_name)
 is_base_below s p q = is_one_of (wider p) q
 
 -- Arrays are below Object, Cloneable, Serializable and what stands above these.
@@ -34,7 +35,7 @@ is_above_arrays s (Class b) = is_ancestor s cloneable b || is_ancestor s seriali
 is_above_arrays s q = false
 
 abbrev pub is_array_below : Ancestry → Base → Bool
-is_array_below s q = is_one_of (Class object ∷ Class cloneable ∷ Class serializable ∷ []) q || is_above_arrays s q
+is_array_below s q = is_one_of (Class object_name ∷ Class cloneable ∷ Class serializable ∷ []) q || is_above_arrays s q
 
 abbrev pub is_reference : ℕ → Base → Bool
 is_reference (suc n) p = true

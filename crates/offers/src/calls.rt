@@ -1,6 +1,7 @@
 ghost use Rattle.std.specs.Prelude.{◌≡◌, ◌∷◌, [], codes, IfOk};
 ghost use Rattle.std.specs.List.{list_any, list_all};
 ghost use Rattle.type_names.specs.Descriptors.{outcome};
+ghost use Rattle.type_names.specs.Names.{object_name};
 ghost use Rattle.offers.specs.Scenes.{of_class};
 ghost use Rattle.offers.specs.Functional.{has_call, is_body, of_base, is_bare, is_wait, is_of_object, is_same_call};
 
@@ -10,7 +11,7 @@ use crate::view::of_class;
 use known_classes::MethodSummary;
 use lists::{Items, Text};
 use std::alloc::{AllocError, Global};
-use type_names::{Base, Erased, descriptor};
+use type_names::{Base, Erased, OBJECT, descriptor};
 
 /// Whether a method has this name and these parameter types.
 fn has_call(name: &str, params: &[Erased], method: &MethodSummary) -> bool
@@ -74,9 +75,9 @@ fn is_wait(alloc: Global, method: &MethodSummary) -> Result<bool, AllocError>
 
 /// The parameter types of `equals` of java/lang/Object.
 fn object_params(alloc: Global) -> Result<Items<Erased>, AllocError>
-    ensures { IfOk result (λ all. all ≡ of_class (codes "java/lang/Object") ∷ []) }
+    ensures { IfOk result (λ all. all ≡ of_class object_name ∷ []) }
 {
-    let object = Text::from_str(alloc, "java/lang/Object")?;
+    let object = Text::from_str(alloc, OBJECT)?;
     let kind = of_class(alloc, &object)?;
     let mut params = Items::new(alloc);
     params.push(kind)?;
@@ -85,7 +86,7 @@ fn object_params(alloc: Global) -> Result<Items<Erased>, AllocError>
 
 /// Whether a method is `equals` of java/lang/Object.
 fn is_equals(alloc: Global, method: &MethodSummary) -> Result<bool, AllocError>
-    ensures { IfOk result (λ yes. yes ≡ has_call (codes "equals") (of_class (codes "java/lang/Object") ∷ []) method.now) }
+    ensures { IfOk result (λ yes. yes ≡ has_call (codes "equals") (of_class object_name ∷ []) method.now) }
 {
     let params = object_params(alloc)?;
     Ok(has_call("equals", params.as_slice(), method))

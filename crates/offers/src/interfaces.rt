@@ -11,6 +11,7 @@ use crate::view::{View, of_class};
 use known_classes::ClassSummary;
 use lists::{Copies, Items, Text};
 use std::alloc::{AllocError, Global};
+use type_names::OBJECT;
 
 /// Whether a class is an interface.
 pub(crate) fn is_interface(class: &ClassSummary) -> bool
@@ -98,7 +99,7 @@ pub(crate) fn faces_above(
 fn is_missing(view: &View<'_>, name: &str) -> bool
     ensures { result ≡ is_missing (scene view.now) name.now }
 {
-    !(name == "java/lang/Object" || view.class(name).is_some())
+    !(name == OBJECT || view.class(name).is_some())
 }
 
 /// Adds those of these names that are.

@@ -1,53 +1,16 @@
-ghost use Rattle.std.specs.Prelude.{◌≡◌, ◌++◌, map, slice_get, IfOk, OnOk};
+ghost use Rattle.std.specs.Prelude.{◌≡◌, ◌++◌, map, IfOk, OnOk};
 ghost use Rattle.std.specs.List.{flat_map};
-ghost use Rattle.java_units.specs.UnitLaws.{outer_number};
 ghost use Rattle.class_summary.specs.Sources.{around};
 ghost use Rattle.offers.specs.Scenes.{of_class, edited};
 ghost use Rattle.offers.specs.Omissions.{scope_names, field_names, names_around, names_above, taken_names};
 ghost use Rattle.offers.specs.Views.{scene};
 
 use crate::view::{View, of_class};
+use class_summary::around;
 use java_bodies::Local;
-use java_units::SourceClass;
 use known_classes::{ClassSummary, FieldSummary};
-use lists::{Copies, Items, Text, at, copy_all};
+use lists::{Copies, Items, Text, copy_all};
 use std::alloc::{AllocError, Global};
-
-/// The number of the class around a class.
-fn outer_of(class: &SourceClass) -> Option<usize>
-    ensures { result ≡ class.now.outer }
-{
-    match class.outer {
-        Some(outer) => Some(outer as usize),
-        None => None,
-    }
-}
-
-/// The number of the class around the class number i.
-fn outer_at(classes: &[SourceClass], i: usize) -> Option<usize>
-    ensures { result ≡ outer_number (slice_get classes.now i) }
-{
-    match at(classes, i) {
-        Some(class) => outer_of(class),
-        None => None,
-    }
-}
-
-/// The class and the classes around it, from the innermost outwards.
-fn around(alloc: Global, classes: &[SourceClass], class: usize) -> Result<Vec<usize>, AllocError>
-    ensures { IfOk result (λ all. all.items ≡ around classes.now class) }
-{
-    let mut all = Vec::new(alloc);
-    let mut next = Some(class);
-    for _met in 0..classes.len() {
-        let Some(here) = next else {
-            return Ok(all);
-        };
-        all.push(here)?;
-        next = outer_at(classes, here);
-    }
-    Ok(all)
-}
 
 /// The names of variables.
 fn local_names(alloc: Global, locals: &[Local]) -> Result<Items<Text>, AllocError>

@@ -8,7 +8,7 @@ ghost use Rattle.succinct.specs.Compression.{AreDistinct};
 
 use crate::exploring::explore;
 use crate::kinds_by_result::Ends;
-use crate::listing::{all_met, no_marks};
+use crate::met_kinds::{all_met, no_marks};
 use crate::saturate::settle;
 use crate::sets::Sets;
 use crate::state::State;

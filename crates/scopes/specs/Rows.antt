@@ -4,6 +4,7 @@ use Rattle.std.specs.List.{list_any, list_all}
 use Rattle.type_names.specs.declared.kinds.Base.TheVariants.{Int}
 use Rattle.type_names.specs.declared.kinds.Erased.{Erased}
 use Rattle.type_names.specs.Descriptors.{field}
+use Rattle.type_names.specs.Names.{object_name}
 use Rattle.java_units.specs.declared.types.TypeText.{TypeText}
 use Rattle.java_units.specs.declared.types.Param.{Param}
 use Rattle.java_units.specs.declared.types.Import.{Import}
@@ -86,9 +87,6 @@ class_by name flags supers fields methods = record { name = name; flags = flags;
 abbrev pub method_by : ℕ → List ℕ → List Erased → Option Erased → MethodSummary
 method_by flags name params result = record { name = name; flags = flags; params = params; result = result }
 
-abbrev pub object : List ℕ
-object = codes "java/lang/Object"
-
 -- Of the package q: the method, and the class of the text, with a constructor that any class of it may call.
 abbrev pub home : List (List ℕ)
 home = codes "q" ∷ []
@@ -100,7 +98,7 @@ abbrev pub gives_int : ℕ → List Erased → MethodSummary
 gives_int flags params = method_by flags (codes "m") params (Some int)
 
 abbrev pub use_class : List Erased → ClassSummary
-use_class params = class_by (codes "q/Use") 0 (object ∷ []) [] (method_by 8 (codes "go") params None ∷ made 0 ∷ [])
+use_class params = class_by (codes "q/Use") 0 (object_name ∷ []) [] (method_by 8 (codes "go") params None ∷ made 0 ∷ [])
 
 abbrev pub use_unit : List ℕ → List ℕ → unit.Unit
 use_unit name kind = unit_by home [] (codes "Use") (method_in (codes "go") 8 (record { name = name; kind = named kind }))
@@ -132,7 +130,7 @@ literals_by i z s more =
 -- Two static methods of one class that differ in the types of their parameters.
 unfoldable pub overloads : Scene
 overloads = scene_by (use_unit (codes "s") (codes "String")) (site_by true (codes "int") (codes "s") (codes "String") (codes "r"))
-    (class_by (codes "q/T") 1 (object ∷ []) [] (made 1 ∷ gives_int 9 (of_class object ∷ []) ∷ gives_int 9 (of_class (codes "java/lang/String") ∷ []) ∷ []) ∷ [])
+    (class_by (codes "q/T") 1 (object_name ∷ []) [] (made 1 ∷ gives_int 9 (of_class object_name ∷ []) ∷ gives_int 9 (of_class (codes "java/lang/String") ∷ []) ∷ []) ∷ [])
     (use_class (of_class (codes "java/lang/String") ∷ []))
     ((codes "Ljava/lang/String;", codes "Ljava/lang/Object;") ∷ (codes "Lq/T;", codes "Ljava/lang/Object;") ∷ (codes "Lq/Use;", codes "Ljava/lang/Object;") ∷ [])
 
@@ -152,7 +150,7 @@ of_overloads = record {
 -- A method that a class has again from the class above it.
 unfoldable pub overriding : Scene
 overriding = scene_by (use_unit (codes "b") (codes "B")) (site_by true (codes "int") (codes "b") (codes "B") (codes "r"))
-    (class_by (codes "q/A") 1 (object ∷ []) [] (made 1 ∷ gives_int 1 [] ∷ []) ∷ class_by (codes "q/B") 1 (codes "q/A" ∷ []) [] (made 1 ∷ gives_int 1 [] ∷ []) ∷ [])
+    (class_by (codes "q/A") 1 (object_name ∷ []) [] (made 1 ∷ gives_int 1 [] ∷ []) ∷ class_by (codes "q/B") 1 (codes "q/A" ∷ []) [] (made 1 ∷ gives_int 1 [] ∷ []) ∷ [])
     (use_class (of_class (codes "q/B") ∷ []))
     ((codes "Lq/B;", codes "Lq/A;") ∷ [])
 
@@ -172,8 +170,8 @@ of_overriding = record {
 -- One method of two interfaces of a class; both are functional.
 unfoldable pub two_promises : Scene
 two_promises = scene_by (use_unit (codes "b") (codes "B")) (site_by true (codes "int") (codes "b") (codes "B") (codes "r"))
-    (class_by (codes "q/B") 1 (object ∷ codes "q/I" ∷ codes "q/J" ∷ []) [] (made 1 ∷ [])
-    ∷ class_by (codes "q/I") 1537 (object ∷ []) [] (gives_int 1025 [] ∷ []) ∷ class_by (codes "q/J") 1537 (object ∷ []) [] (gives_int 1025 [] ∷ []) ∷ [])
+    (class_by (codes "q/B") 1 (object_name ∷ codes "q/I" ∷ codes "q/J" ∷ []) [] (made 1 ∷ [])
+    ∷ class_by (codes "q/I") 1537 (object_name ∷ []) [] (gives_int 1025 [] ∷ []) ∷ class_by (codes "q/J") 1537 (object_name ∷ []) [] (gives_int 1025 [] ∷ []) ∷ [])
     (use_class (of_class (codes "q/B") ∷ []))
     ((codes "Lq/B;", codes "Lq/I;") ∷ (codes "Lq/B;", codes "Lq/J;") ∷ [])
 
@@ -203,8 +201,8 @@ readers = scene_by
     (unit_by [] (record { parts = codes "java" ∷ codes "io" ∷ []; star = true } ∷ []) (codes "Demo") (method_in (codes "go") 8 (record { name = codes "name"; kind = named (codes "String") })))
     (site_by true (codes "Reader") (codes "name") (codes "String") (codes "r"))
     (class_by (codes "java/io/BufferedReader") 1 (reader ∷ []) [] (made_of reader ∷ [])
-    ∷ class_by (codes "java/io/FileReader") 1 (reader ∷ []) [] (made_of (codes "java/lang/String") ∷ []) ∷ class_by reader 1025 (object ∷ []) [] [] ∷ [])
-    (class_by (codes "Demo") 0 (object ∷ []) [] (method_by 8 (codes "go") (of_class (codes "java/lang/String") ∷ []) None ∷ made 0 ∷ []))
+    ∷ class_by (codes "java/io/FileReader") 1 (reader ∷ []) [] (made_of (codes "java/lang/String") ∷ []) ∷ class_by reader 1025 (object_name ∷ []) [] [] ∷ [])
+    (class_by (codes "Demo") 0 (object_name ∷ []) [] (method_by 8 (codes "go") (of_class (codes "java/lang/String") ∷ []) None ∷ made 0 ∷ []))
     ((codes "Ljava/io/BufferedReader;", codes "Ljava/io/Reader;") ∷ (codes "Ljava/io/FileReader;", codes "Ljava/io/Reader;") ∷ [])
 
 unfoldable pub of_readers : Parts
@@ -224,7 +222,7 @@ of_readers = record {
 unfoldable pub hidden_field : Scene
 hidden_field = scene_by (unit_by [] [] (codes "P") (method_in (codes "f") 0 (record { name = codes "k"; kind = named (codes "int") })))
     (site_by false (codes "int") (codes "k") (codes "int") (codes "z")) []
-    (class_by (codes "P") 0 (object ∷ []) (record { name = codes "k"; flags = 0; kind = int } ∷ []) (method_by 0 (codes "f") (int ∷ []) None ∷ made 0 ∷ [])) []
+    (class_by (codes "P") 0 (object_name ∷ []) (record { name = codes "k"; flags = 0; kind = int } ∷ []) (method_by 0 (codes "f") (int ∷ []) None ∷ made 0 ∷ [])) []
 
 unfoldable pub of_hidden_field : Parts
 of_hidden_field = record {

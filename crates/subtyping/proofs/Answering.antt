@@ -4,7 +4,8 @@ use Rattle.subtyping.proofs.OfArrays.{OfArrays, of-arrays, arrays-of}
 use Rattle.std.proofs.Common.{◌≡◌, ℕ, zero, suc, ◌<◌, List, refl, sym, ap, subst, ◌∙◌, arith, inl, inr, ◌⊎◌, Option, Some, None, Contains}
 use Rattle.type_names.specs.declared.kinds.Base.{Base}
 use Rattle.type_names.specs.declared.kinds.Base.TheVariants.{Class}
-use Rattle.subtyping.specs.Steps.{object, cloneable, serializable, wider, IsReference, IsOfArrays}
+use Rattle.type_names.specs.Names.{object_name}
+use Rattle.subtyping.specs.Steps.{cloneable, serializable, wider, IsReference, IsOfArrays}
 use Rattle.subtyping.specs.Asked.{class_name, IsClassBelow, IsBaseBelow, IsArrayBelow, IsBelowAt}
 
 abbrev Relation : Type 1
@@ -39,7 +40,7 @@ array-base : (q : Base) (x : List ℕ) → Class x ≡ q → class_name q ≡ So
 array-base q x e = ap class_name (sym e)
 
 arrays-name : (q : Base) → OfArrays q → (x : List ℕ) × (class_name q ≡ Some x)
-arrays-name q (inl e) = (object, array-base q object e)
+arrays-name q (inl e) = (object_name, array-base q object_name e)
 arrays-name q (inr (inl e)) = (cloneable, array-base q cloneable e)
 arrays-name q (inr (inr (inl e))) = (serializable, array-base q serializable e)
 arrays-name q (inr (inr (inr h))) = absurd h
@@ -142,7 +143,7 @@ pub none-below : (R : Relation) (n : ℕ) (p : Base) (m : ℕ) (q : Base) → n 
 none-below R n p m q e z h = subst (λ k. IsBelowAt R n p k q) e (base-same R n p q (λ l. absurd (omega (arith, l, z))) h)
 
 -- the classes of arrays
-pub of-object : (n : List ℕ) → n ≡ object → IsOfArrays (Class n)
+pub of-object : (n : List ℕ) → n ≡ object_name → IsOfArrays (Class n)
 of-object n e = arrays-of (Class n) (inl (ap Class (sym e)))
 
 pub of-cloneable : (n : List ℕ) → n ≡ cloneable → IsOfArrays (Class n)
@@ -154,11 +155,11 @@ of-serializable n e = arrays-of (Class n) (inr (inr (inl (ap Class (sym e)))))
 one-name : (x n : List ℕ) → Class x ≡ Class n → n ≡ x
 one-name x n e = same-some n x (sym (ap class_name e))
 
-last : (n : List ℕ) → (n ≡ object → ⊥) → (n ≡ cloneable → ⊥) → OfArrays (Class n) → n ≡ serializable
-last n f g (inl e) = absurd (f (one-name object n e))
+last : (n : List ℕ) → (n ≡ object_name → ⊥) → (n ≡ cloneable → ⊥) → OfArrays (Class n) → n ≡ serializable
+last n f g (inl e) = absurd (f (one-name object_name n e))
 last n f g (inr (inl e)) = absurd (g (one-name cloneable n e))
 last n f g (inr (inr (inl e))) = one-name serializable n e
 last n f g (inr (inr (inr h))) = absurd h
 
-pub of-last : (n : List ℕ) → (n ≡ object → ⊥) → (n ≡ cloneable → ⊥) → IsOfArrays (Class n) → n ≡ serializable
+pub of-last : (n : List ℕ) → (n ≡ object_name → ⊥) → (n ≡ cloneable → ⊥) → IsOfArrays (Class n) → n ≡ serializable
 of-last n f g h = last n f g (of-arrays (Class n) h)

@@ -8,7 +8,8 @@ use Rattle.type_names.specs.declared.kinds.Base.{Base}
 use Rattle.type_names.specs.declared.kinds.Base.TheVariants.{Class}
 use Rattle.type_names.specs.declared.kinds.Erased.{Erased}
 use Rattle.known_classes.specs.Known.{KnownClasses}
-use Rattle.subtyping.specs.Steps.{object, cloneable, serializable, IsSuper, IsSuperStep, IsClassStep, IsBaseStep, IsReference, IsOfArrays, IsStepAt, IsStep, IsStrictSubtype}
+use Rattle.type_names.specs.Names.{object_name}
+use Rattle.subtyping.specs.Steps.{cloneable, serializable, IsSuper, IsSuperStep, IsClassStep, IsBaseStep, IsReference, IsOfArrays, IsStepAt, IsStep, IsStrictSubtype}
 use Rattle.subtyping.specs.Asked.{IsClassBelow, IsBaseBelow, IsArrayBelow, IsBelowAt, IsBelow}
 use Rattle.subtyping.proofs.Widenings.{wider-more, wider-rank, never-class}
 
@@ -16,7 +17,7 @@ use Rattle.subtyping.proofs.Widenings.{wider-more, wider-rank, never-class}
 abbrev pub Above : KnownClasses → List ℕ → List ℕ → Type 0
 Above known a b = Leads (IsSuperStep known) a b
 
-not-object : (known : KnownClasses) (a b : List ℕ) → Above known a b → a ≢ object
+not-object : (known : KnownClasses) (a b : List ℕ) → Above known a b → a ≢ object_name
 not-object known a b p = (first-step (IsSuperStep known) a p.0 b p.1).1.0
 
 -- one step
@@ -52,14 +53,14 @@ class-below : (known : KnownClasses) (x : List ℕ) (r : Base) → IsBaseBelow (
 class-below known x (Class d) h = (d, refl, h)
 class-below known x r h = none_in r h
 
-array-by : (known : KnownClasses) (r : Base) (d : List ℕ) → r ≡ Class d → d ≡ object → IsArrayBelow (Above known) r
+array-by : (known : KnownClasses) (r : Base) (d : List ℕ) → r ≡ Class d → d ≡ object_name → IsArrayBelow (Above known) r
 array-by known r d e o = inl (arrays-of r (inl (ap Class (sym o) ∙ sym e)))
 
 array-then-of : (known : KnownClasses) (q r : Base) → OfArrays q → IsBaseBelow (Above known) q r → IsArrayBelow (Above known) r
 array-then-of known q r (inl e) s =
-    let c = class-below known object r (subst (λ x. IsBaseBelow (Above known) x r) (sym e) s) in
+    let c = class-below known object_name r (subst (λ x. IsBaseBelow (Above known) x r) (sym e) s) in
     elim c.2 [
-      | inl up ↦ absurd (not-object known object c.0 up refl)
+      | inl up ↦ absurd (not-object known object_name c.0 up refl)
       | inr o ↦ absurd (o.0 refl)
     ]
 array-then-of known q r (inr (inl e)) s =
@@ -152,7 +153,7 @@ class-reference : (q : Base) (x : List ℕ) → Class x ≡ q → IsReference 0 
 class-reference q x e = subst (λ k. IsReference 0 k) e tt
 
 array-reference-of : (q : Base) → OfArrays q → IsReference 0 q
-array-reference-of q (inl e) = class-reference q object e
+array-reference-of q (inl e) = class-reference q object_name e
 array-reference-of q (inr (inl e)) = class-reference q cloneable e
 array-reference-of q (inr (inr (inl e))) = class-reference q serializable e
 array-reference-of q (inr (inr (inr h))) = absurd h

@@ -10,7 +10,8 @@ use Rattle.std.proofs.lemmas.Bool.{cases_eq}
 use Rattle.graphs.specs.Graph.{edges, Reaches, InRange, IsForward, IsEdge}
 use Rattle.known_classes.specs.declared.summary.ClassSummary.{ClassSummary}
 use Rattle.known_classes.specs.Known.{KnownClasses, class_named}
-use Rattle.subtyping.specs.Steps.{object, supers_in, supers_of, IsSuper, IsSuperStep}
+use Rattle.type_names.specs.Names.{object_name}
+use Rattle.subtyping.specs.Steps.{supers_in, supers_of, IsSuper, IsSuperStep}
 use Rattle.name_places.specs.Places.{place_of, IsPlaced}
 use Rattle.subtyping.specs.Places.{Ancestry, Stands, Rises, AllRise, IsAncestry, AreListed, row_of, graph_of, IsWithout, AreRows}
 use Rattle.name_places.proofs.Places.{place-get}
@@ -147,12 +148,12 @@ supers-places known names all a b i at h =
 
 -- without cycles, and without Object's edges
 module _ (known : KnownClasses) (names rows : List (List ℕ)) (all : AreListed known names) (w : IsWithout names (graph_of known names) rows) where
-  others : (i : ℕ) (a : List ℕ) → At names i a → a ≢ object → edges rows i ≡ edges w.kept i
-  others i a at apart = w.others i (λ o. apart (one-name names i a object at o))
+  others : (i : ℕ) (a : List ℕ) → At names i a → a ≢ object_name → edges rows i ≡ edges w.kept i
+  others i a at apart = w.others i (λ o. apart (one-name names i a object_name at o))
 
   steps-names : ToNames names rows (IsSuperStep known)
   steps-names i j a at h =
-      let apart : a ≢ object = λ e. none-in j (edges rows i) (w.none i (subst (At names i) e at)) h in
+      let apart : a ≢ object_name = λ e. none-in j (edges rows i) (w.none i (subst (At names i) e at)) h in
       let f = (w.forward.each i j).0 (subst (λ l. Contains l j) (others i a at apart) h) in
       let s = supers-names known names i j a at f.0 in (
         s.0,
@@ -191,7 +192,7 @@ module _ (known : KnownClasses) (names rows : List (List ℕ)) (all : AreListed 
 kept-range : (known : KnownClasses) (names kept : List (List ℕ)) → IsForward (graph_of known names) kept → InRange kept
 kept-range known names kept f a b h = omega (arith, graph-range known names a b ((f.each a b).0 h).0, f.long)
 
-steps-row : (names graph rows : List (List ℕ)) (w : IsWithout names graph rows) (i : ℕ) (o : Option ℕ) → place_of names object ≡ o → (edges rows i ≡ []) ⊎ (edges rows i ≡ edges w.kept i)
+steps-row : (names graph rows : List (List ℕ)) (w : IsWithout names graph rows) (i : ℕ) (o : Option ℕ) → place_of names object_name ≡ o → (edges rows i ≡ []) ⊎ (edges rows i ≡ edges w.kept i)
 steps-row names graph rows w i None e = inr (w.others i (λ h. never (sym e ∙ h)))
   where
     never : None ≡ Some i → ⊥
@@ -205,12 +206,12 @@ steps-row names graph rows w i (Some k) e = elim (cases_eq k i) [
     same h = cc
 
 pub steps-range : (known : KnownClasses) (names rows : List (List ℕ)) → IsWithout names (graph_of known names) rows → InRange rows
-steps-range known names rows w a b h = elim (steps-row names (graph_of known names) rows w a (place_of names object) refl) [
+steps-range known names rows w a b h = elim (steps-row names (graph_of known names) rows w a (place_of names object_name) refl) [
   | inl e ↦ none-in b (edges rows a) e h
   | inr e ↦ omega (arith, kept-range known names w.kept w.forward a b (subst (λ l. Contains l b) e h), w.long, w.forward.long)
 ]
 
-pub without-none : (names graph kept : List (List ℕ)) → place_of names object ≡ None → IsForward graph kept → IsWithout names graph kept
+pub without-none : (names graph kept : List (List ℕ)) → place_of names object_name ≡ None → IsForward graph kept → IsWithout names graph kept
 without-none names graph kept e f = record {
   kept = kept;
   forward = f;
@@ -222,17 +223,17 @@ without-none names graph kept e f = record {
     never : (i : ℕ) → None ≡ Some i → ⊥
     never i h = cc
 
-pub without-set : (names graph kept rows : List (List ℕ)) (p : ℕ) → place_of names object ≡ Some p → length graph ≡ length names → IsForward graph kept → rows ≡ set kept p [] → IsWithout names graph rows
+pub without-set : (names graph kept rows : List (List ℕ)) (p : ℕ) → place_of names object_name ≡ Some p → length graph ≡ length names → IsForward graph kept → rows ≡ set kept p [] → IsWithout names graph rows
 without-set names graph kept rows p at long f e = record {
   kept = kept;
   forward = f;
   long = ap length e ∙ length-set kept p [] ∙ f.long;
   others = λ i h. ap (λ r. edges r i) e ∙ get_or-set_other kept p i [] [] (λ s. h (at ∙ ap Some (sym s)));
-  none = λ i h. ap (λ r. edges r i) e ∙ ap (λ k. edges (set kept p []) k) (one-place names i p object h at) ∙ get_or-set_same kept p [] [] (omega (arith, (place-get names object p at).0, long, f.long));
+  none = λ i h. ap (λ r. edges r i) e ∙ ap (λ k. edges (set kept p []) k) (one-place names i p object_name h at) ∙ get_or-set_same kept p [] [] (omega (arith, (place-get names object_name p at).0, long, f.long));
 }
 
-pub set-below : (names graph kept : List (List ℕ)) (p : ℕ) → place_of names object ≡ Some p → length graph ≡ length names → IsForward graph kept → p < length kept
-set-below names graph kept p at long f = omega (arith, (place-get names object p at).0, long, f.long)
+pub set-below : (names graph kept : List (List ℕ)) (p : ℕ) → place_of names object_name ≡ Some p → length graph ≡ length names → IsForward graph kept → p < length kept
+set-below names graph kept p at long f = omega (arith, (place-get names object_name p at).0, long, f.long)
 
 pub graph-long : (known : KnownClasses) (names : List (List ℕ)) → length (graph_of known names) ≡ length names
 graph-long known names = length-map names (row_of known names)

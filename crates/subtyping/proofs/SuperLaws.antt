@@ -5,7 +5,8 @@ use Rattle.graphs.specs.Paths.{IsPathBy, Leads}
 use Rattle.std.proofs.Common.{◌≡◌, ◌∙◌, ap, sym, subst, refl, ℕ, Bool, true, false, List, [], ◌∷◌, ◌⊎◌, inl, inr, Contains}
 use Rattle.known_classes.specs.declared.summary.ClassSummary.{ClassSummary}
 use Rattle.known_classes.specs.Merging.{merged}
-use Rattle.subtyping.specs.Steps.{object, supers_in, supers_of, IsSuper, IsSuperStep}
+use Rattle.type_names.specs.Names.{object_name}
+use Rattle.subtyping.specs.Steps.{supers_in, supers_of, IsSuper, IsSuperStep}
 use Rattle.subtyping.specs.Alike.{SupersAlike, Unraised, IsClear, IsRowKept, IsRaisedSet}
 use Rattle.known_classes.proofs.Ways.{no-true}
 use Rattle.known_classes.proofs.Sets.{outside}
@@ -68,7 +69,7 @@ set-supers old new touched n h e c (inr p) = h.same c (up-all old new touched h 
 -- with no cycle, and nothing above Object, each recorded super counts
 step-up : (cs : List ClassSummary) → IsClear cs → (x y : List ℕ) → IsSuper cs x y → IsSuperStep cs x y
 step-up cs h x y s =
-    let o : (x ≡ object → ⊥) = (λ e. none_in y (subst (λ z. Contains z y) (ap (supers_of cs) e ∙ h.top) s)) in
+    let o : (x ≡ object_name → ⊥) = (λ e. none_in y (subst (λ z. Contains z y) (ap (supers_of cs) e ∙ h.top) s)) in
     (o, s, λ p. h.cycles x o (step-then (IsSuper cs) x y x s p))
 
 path-up : (cs : List ClassSummary) → IsClear cs → (a : List ℕ) (via : List (List ℕ)) (b : List ℕ) → IsPathBy (IsSuper cs) a via b → IsPathBy (IsSuperStep cs) a via b

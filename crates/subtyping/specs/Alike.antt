@@ -3,7 +3,8 @@ use Rattle.graphs.specs.Paths.{Leads}
 use Rattle.std.specs.Prelude.{◌≡◌, ℕ, ◌⊎◌, Bool, true, false, List, [], None}
 use Rattle.known_classes.specs.declared.summary.ClassSummary.{ClassSummary}
 use Rattle.known_classes.specs.Merging.{last_named}
-use Rattle.subtyping.specs.Steps.{object, IsSuper, IsSuperStep, supers_of}
+use Rattle.type_names.specs.Names.{object_name}
+use Rattle.subtyping.specs.Steps.{IsSuper, IsSuperStep, supers_of}
 
 -- The class and each name that it reaches by recorded supers, known or not, has the same supers in both lists.
 abbrev pub SupersAlike : List ClassSummary → List ClassSummary → List ℕ → Type 0
@@ -15,8 +16,8 @@ Unraised base extra a = (c : List ℕ) → (c ≡ a) ⊎ Leads (IsSuper base) a 
 
 -- No class but Object reaches itself by supers, and Object has none.
 pub record IsClear (cs : List ClassSummary) : Type 0 where
-  pub cycles : (n : List ℕ) → (n ≡ object → ⊥) → Leads (IsSuper cs) n n → ⊥
-  pub top : supers_of cs object ≡ []
+  pub cycles : (n : List ℕ) → (n ≡ object_name → ⊥) → Leads (IsSuper cs) n n → ⊥
+  pub top : supers_of cs object_name ≡ []
 
 -- No extra class has the name of the class or of one of its ancestors.
 abbrev pub IsRowKept : List ClassSummary → List ClassSummary → List ℕ → Type 0

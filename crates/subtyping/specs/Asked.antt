@@ -3,7 +3,8 @@ use Rattle.std.specs.Prelude.{◌≡◌, ◌≢◌, ℕ, zero, suc, ◌⊎◌, L
 use Rattle.type_names.specs.declared.kinds.Base.{Base}
 use Rattle.type_names.specs.declared.kinds.Base.TheVariants.{Class}
 use Rattle.type_names.specs.declared.kinds.Erased.{Erased}
-use Rattle.subtyping.specs.Steps.{object, cloneable, serializable, wider, IsReference, IsOfArrays}
+use Rattle.type_names.specs.Names.{object_name}
+use Rattle.subtyping.specs.Steps.{cloneable, serializable, wider, IsReference, IsOfArrays}
 
 -- The name of a class.
 abbrev pub class_name : Base → Option (List ℕ)
@@ -12,7 +13,7 @@ class_name p = None
 
 -- A class other than Object is below its ancestors and Object.
 abbrev pub IsClassBelow : (List ℕ → List ℕ → Type 0) → List ℕ → List ℕ → Type 0
-IsClassBelow above a b = above a b ⊎ ((a ≢ object) × (b ≡ object))
+IsClassBelow above a b = above a b ⊎ ((a ≢ object_name) × (b ≡ object_name))
 
 -- Types without dimensions.
 abbrev pub IsBaseBelow : (List ℕ → List ℕ → Type 0) → Base → Base → Type 0

@@ -6,7 +6,8 @@ use Rattle.graphs.specs.Graph.{edges, IsForward, AreAncestors}
 use Rattle.known_classes.specs.Known.{KnownClasses}
 use Rattle.name_places.specs.Places.{place_of, IsPlaced}
 use Rattle.known_classes.specs.declared.summary.ClassSummary.{ClassSummary}
-use Rattle.subtyping.specs.Steps.{object, supers_of, IsSuperStep}
+use Rattle.type_names.specs.Names.{object_name}
+use Rattle.subtyping.specs.Steps.{supers_of, IsSuperStep}
 
 -- Names, and for each the places of its ancestors, in rising order.
 pub record Ancestry : Type 0 where
@@ -57,8 +58,8 @@ pub record IsWithout (names graph rows : List (List ℕ)) : Type 0 where
   pub kept : List (List ℕ)
   pub forward : IsForward graph kept
   pub long : length rows ≡ length graph
-  pub others : (i : ℕ) → (place_of names object ≡ Some i → ⊥) → edges rows i ≡ edges kept i
-  pub none : (i : ℕ) → place_of names object ≡ Some i → edges rows i ≡ []
+  pub others : (i : ℕ) → (place_of names object_name ≡ Some i → ⊥) → edges rows i ≡ edges kept i
+  pub none : (i : ℕ) → place_of names object_name ≡ Some i → edges rows i ≡ []
 
 -- For each node its ancestors, in rising order.
 pub record AreRows (graph rows : List (List ℕ)) : Type 0 where

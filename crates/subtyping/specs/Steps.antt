@@ -5,13 +5,11 @@ use lib.Chars.{codes}
 use Rattle.type_names.specs.declared.kinds.Base.{Base}
 use Rattle.type_names.specs.declared.kinds.Base.TheVariants.{Byte, Char, Double, Float, Int, Long, Short, Boolean, Class}
 use Rattle.type_names.specs.declared.kinds.Erased.{Erased}
+use Rattle.type_names.specs.Names.{object_name}
 use Rattle.known_classes.specs.declared.summary.ClassSummary.{ClassSummary}
 use Rattle.known_classes.specs.Known.{KnownClasses, class_named}
 
--- The class above all others, and those above all arrays (JLS 4.10.3).
-abbrev pub object : List ℕ
-object = codes "java/lang/Object"
-
+-- The interfaces above all arrays (JLS 4.10.3).
 abbrev pub cloneable : List ℕ
 cloneable = codes "java/lang/Cloneable"
 
@@ -33,11 +31,11 @@ IsSuper known a b = Contains (supers_of known a) b
 
 -- A class to one of its supers, except from Object, and except where that super reaches the class again by supers.
 abbrev pub IsSuperStep : KnownClasses → List ℕ → List ℕ → Type 0
-IsSuperStep known a b = (a ≢ object) × IsSuper known a b × (Leads (IsSuper known) b a → ⊥)
+IsSuperStep known a b = (a ≢ object_name) × IsSuper known a b × (Leads (IsSuper known) b a → ⊥)
 
 -- A class other than Object to one of its supers that does not lead back to it, or to Object.
 abbrev pub IsClassStep : KnownClasses → List ℕ → List ℕ → Type 0
-IsClassStep known a b = IsSuperStep known a b ⊎ ((a ≢ object) × (b ≡ object))
+IsClassStep known a b = IsSuperStep known a b ⊎ ((a ≢ object_name) × (b ≡ object_name))
 
 -- The primitive types to which this one widens (JLS 5.1.2).
 abbrev pub wider : Base → List Base
@@ -64,7 +62,7 @@ IsReference zero p = ⊥
 
 -- The classes to which each array steps.
 abbrev pub IsOfArrays : Base → Type 0
-IsOfArrays q = Contains (Class object ∷ Class cloneable ∷ Class serializable ∷ []) q
+IsOfArrays q = Contains (Class object_name ∷ Class cloneable ∷ Class serializable ∷ []) q
 
 -- From n dimensions of p to m dimensions of q: an array to the classes of arrays, and to an array of what its
 -- elements step to, where these are of a reference type.

@@ -16,9 +16,7 @@ use name_places::Names;
 use std::alloc::{AllocError, Global};
 use std::cmp::Ordering;
 use std::marker::Model;
-use type_names::{Base, Erased};
-
-pub(crate) const OBJECT: &str = "java/lang/Object";
+use type_names::{Base, Erased, OBJECT};
 
 const CLONEABLE: &str = "java/lang/Cloneable";
 

@@ -3,14 +3,14 @@ ghost use Rattle.std.specs.List.{filter_map};
 ghost use Rattle.graphs.specs.Graph.{InRange, AreFree, AreAncestors};
 ghost use Rattle.name_places.specs.Places.{place_of, IsPlaced, IsGrown};
 ghost use Rattle.subtyping.specs.Places.{IsListed, AreListed, row_of, graph_of, Rises, IsWithout, AreRows};
-ghost use Rattle.subtyping.specs.Steps.{object};
+ghost use Rattle.type_names.specs.Names.{object_name};
 
-use crate::subtypes::OBJECT;
 use graphs::{ancestors, free_marks, without_cycles};
 use known_classes::{ClassSummary, Classes};
 use lists::{Items, Text};
 use name_places::Names;
 use std::alloc::{AllocError, Global};
+use type_names::OBJECT;
 
 /// The place of a name, as the number of a node.
 pub(crate) fn place_in(names: &Names, name: &str) -> Option<usize>

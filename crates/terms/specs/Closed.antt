@@ -1,7 +1,7 @@
 -- Types above which a table has no gap, and the marks by which they are found.
 use Rattle.std.specs.Prelude.{◌≡◌, ℕ, suc, Bool, true, false, List, get_or}
 use Rattle.terms.specs.Table.{has, row_at}
-use Rattle.terms.specs.declared.closed.Marks.{Marks}
+use Rattle.terms.specs.declared.marks.Marks.{Marks}
 
 -- what stands in the one row stands in the other
 pub record IsWithin (rows : List (List ℕ)) (b a : ℕ) : Type 0 where

@@ -6,8 +6,8 @@ ghost use Rattle.terms.specs.Table.{has, row_at, IsTable, gap_between, gap_from,
 ghost use Rattle.terms.specs.Closed.{AreClosed};
 ghost use Rattle.terms.specs.declared.fault.EnvFault.TheVariants.{OutOfMemory};
 
-use crate::closed::is_told;
 use crate::fault::EnvFault;
+use crate::marks::is_told;
 use lists::Items;
 use std::alloc::{AllocError, Global};
 use std::collections::BTreeSet;

@@ -10,11 +10,11 @@ ghost use Rattle.terms.specs.Closed.{AreClosed};
 ghost use Rattle.terms.specs.declared.fault.EnvFault.TheVariants.{OutOfMemory};
 
 use crate::above;
-use crate::closed::closed_types;
 use crate::context::{Ctx, MOST_ROWS};
 use crate::declarations::decls_fault;
 use crate::depth::is_shallow;
 use crate::fault::EnvFault;
+use crate::marks::closed_types;
 use crate::parts::{GREATEST_DEPTH, Parts};
 use crate::rating::{Rating, told};
 use crate::term::Term;

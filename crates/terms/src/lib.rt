@@ -5,7 +5,6 @@
 #![tactic(auto)]
 
 mod above;
-mod closed;
 mod context;
 mod declarations;
 mod depth;
@@ -13,6 +12,7 @@ mod env;
 mod fault;
 mod laws;
 mod levels;
+mod marks;
 mod parts;
 mod rating;
 mod term;

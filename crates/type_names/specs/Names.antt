@@ -1,5 +1,10 @@
 -- Internal names of classes (JVMS 4.2.1).
 use Rattle.std.specs.Prelude.{ℕ, ◌==◌, ◌||◌, not, Bool, true, false, if◌then◌else◌, List, [], ◌∷◌, Option, Some, None}
+use lib.Chars.{codes}
+
+-- The name of the class above all others (JLS 4.3.2).
+abbrev pub object_name : List ℕ
+object_name = codes "java/lang/Object"
 
 -- After a byte of a name: whether a part begins, or None where the byte can't stand there. A `/` ends a
 -- part that isn't empty; `.`, `;` and `[` stand nowhere.

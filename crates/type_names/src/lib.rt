@@ -14,7 +14,7 @@ mod printing;
 pub use fields::read_field;
 pub use kinds::{Base, Erased, MethodKind};
 pub use methods::read_method;
-pub use names::is_internal_name;
+pub use names::{OBJECT, is_internal_name};
 pub use printing::{descriptor, method_descriptor};
 
 #[cfg(test)]

@@ -1,6 +1,9 @@
 ghost use Rattle.std.specs.Prelude.{◌≡◌, true};
 ghost use Rattle.type_names.specs.Names.{part_step, is_internal};
 
+/// The internal name of the class above all others (JLS 4.3.2).
+pub const OBJECT: &str = "java/lang/Object";
+
 /// Whether a part of a name begins after `c`, and `None` where `c` can't stand there. `start` says that
 /// a part begins at `c`.
 fn part_step(start: bool, c: u8) -> Option<bool>

@@ -1,5 +1,6 @@
 -- No entry of a written pool stands twice.
 use Rattle.std.proofs.Common.{◌≡◌, ◌≢◌, ℕ, zero, suc, arith, AllPairs, Bool, true, false, ◌||◌, cond, List, [], ◌∷◌, ◌++◌, map, fold, length, ◌<◌, refl, sym, ap, ◌∙◌, Option, Some, None}
+use Rattle.std.specs.Set.{is_member}
 use Rattle.std.specs.List.{flat_map, AllByRecursion}
 use Rattle.std.proofs.lemmas.List.Elements.{All-from_recursion}
 use Rattle.byteorder.specs.Endian.{big_number}
@@ -14,7 +15,7 @@ use Rattle.workload.specs.Modified.{modified}
 use Rattle.workload.specs.Needs.{Needed, class, text, same, add, once, needs, place, optional, class_needs, text_needs, member_needs, row_needs, inner_needs}
 use Rattle.workload.specs.Layout.{entry_in, entries_in, pool_of}
 use Rattle.workload.specs.Spelled.{IsSpelled}
-use Rattle.workload.proofs.PoolLaws.{has, has_all, same_self, text_stands, place_short, number_again}
+use Rattle.workload.proofs.PoolLaws.{has_all, same_self, text_stands, place_short, number_again}
 use Rattle.workload.proofs.FileLaws.{Holds, IsGood, split, spells}
 
 -- ---- needed entries, each once
@@ -36,14 +37,14 @@ other n x e is = go (sym (same_self n) ∙ ap (same n) (sym is) ∙ e)
     go : true ≡ false → ⊥
     go e = cc
 
-apart_last : (n : Needed) (pool : List Needed) → has pool n ≡ false → Apart pool → Apart (pool ++ n ∷ [])
+apart_last : (n : Needed) (pool : List Needed) → is_member same pool n ≡ false → Apart pool → Apart (pool ++ n ∷ [])
 apart_last n [] e apart = (tt, tt)
-apart_last n (x ∷ xs) e apart = let p = either (same n x) (has xs n) e in (all_last (λ y. x ≢ y) xs n apart.0 (other n x p.0), apart_last n xs p.1 apart.1)
+apart_last n (x ∷ xs) e apart = let p = either (same n x) (is_member same xs n) e in (all_last (λ y. x ≢ y) xs n apart.0 (other n x p.0), apart_last n xs p.1 apart.1)
 
 apart_add : (n : Needed) (pool : List Needed) → Apart pool → Apart (add pool n)
-apart_add n pool apart = go (has pool n) refl
+apart_add n pool apart = go (is_member same pool n) refl
   where
-    go : (b : Bool) → has pool n ≡ b → Apart (cond b pool (pool ++ n ∷ []))
+    go : (b : Bool) → is_member same pool n ≡ b → Apart (cond b pool (pool ++ n ∷ []))
     go true e = apart
     go false e = apart_last n pool e apart
 
@@ -61,7 +62,7 @@ name_of (class n) = text n
 name_of (text t) = text t
 
 abbrev Named : List Needed → List Needed → Type 0
-Named pool ns = AllByRecursion (λ n. has pool (name_of n) ≡ true) ns
+Named pool ns = AllByRecursion (λ n. is_member same pool (name_of n) ≡ true) ns
 
 join : (pool xs ys : List Needed) → Named pool xs → Named pool ys → Named pool (xs ++ ys)
 join pool [] ys a b = b
@@ -109,7 +110,7 @@ needs_named s =
     (both_named (flat_map member_needs s.methods) (inner_needs s.inner) (each_named member_needs member_named s.methods) (inner_named s.inner)))))
 
 all_add : (P : Needed → Type 0) (n : Needed) (pool : List Needed) → AllByRecursion P pool → P n → AllByRecursion P (add pool n)
-all_add P n pool all p = go (has pool n)
+all_add P n pool all p = go (is_member same pool n)
   where
     go : (b : Bool) → AllByRecursion P (cond b pool (pool ++ n ∷ []))
     go true = all
@@ -127,7 +128,7 @@ all_once P ns all = all_later P ns [] tt all
 some_same : (a b : List ℕ) (o p : Option (List ℕ)) → o ≡ Some a → p ≡ Some b → o ≡ p → a ≡ b
 some_same a b o p x y e = cc
 
-text_same : (pool : List Needed) (a b : List ℕ) → IsGood pool → has pool (text a) ≡ true → has pool (text b) ≡ true → modified a ≡ modified b → a ≡ b
+text_same : (pool : List Needed) (a b : List ℕ) → IsGood pool → is_member same pool (text a) ≡ true → is_member same pool (text b) ≡ true → modified a ≡ modified b → a ≡ b
 text_same pool a b good p q e =
     some_same a b (text_of (modified a)) (text_of (modified b)) (text_again (modified a) a (spells pool a good p)) (text_again (modified b) b (spells pool b good q)) (ap text_of e)
 
@@ -140,19 +141,19 @@ fixed_is x y e = cc
 no_text : (x y : List ℕ) → fixed 7 x ≡ utf8 y → ⊥
 no_text x y e = cc
 
-class_same : (pool : List Needed) (a b : List ℕ) → IsGood pool → has pool (text a) ≡ true → has pool (text b) ≡ true → entry_in pool (class a) ≡ entry_in pool (class b) → a ≡ b
+class_same : (pool : List Needed) (a b : List ℕ) → IsGood pool → is_member same pool (text a) ≡ true → is_member same pool (text b) ≡ true → entry_in pool (class a) ≡ entry_in pool (class b) → a ≡ b
 class_same pool a b good p q e =
     let places : place pool (text a) ≡ place pool (text b) =
     sym (number_again (place pool (text a)) (place_short pool (text a) good.small)) ∙ ap (big_number 2) (fixed_is _ _ e) ∙ number_again (place pool (text b)) (place_short pool (text b) good.small) in
     text_same pool a b good p q (some_same (modified a) (modified b) _ _ (text_stands pool a p) (text_stands pool b q) (ap (text_in (entries_in pool)) places))
 
-entry_same : (pool : List Needed) (x y : Needed) → IsGood pool → has pool (name_of x) ≡ true → has pool (name_of y) ≡ true → entry_in pool x ≡ entry_in pool y → x ≡ y
+entry_same : (pool : List Needed) (x y : Needed) → IsGood pool → is_member same pool (name_of x) ≡ true → is_member same pool (name_of y) ≡ true → entry_in pool x ≡ entry_in pool y → x ≡ y
 entry_same pool (class a) (class b) good p q e = ap class (class_same pool a b good p q e)
 entry_same pool (class a) (text b) good p q e = absurd (no_text _ _ e)
 entry_same pool (text a) (class b) good p q e = absurd (no_text _ _ (sym e))
 entry_same pool (text a) (text b) good p q e = ap text (text_same pool a b good p q (utf8_is _ _ e))
 
-apart_from : (pool : List Needed) (x : Needed) (ys : List Needed) → IsGood pool → has pool (name_of x) ≡ true → Named pool ys → AllByRecursion (λ y. x ≢ y) ys → AllByRecursion (λ e. entry_in pool x ≢ e) (map (entry_in pool) ys)
+apart_from : (pool : List Needed) (x : Needed) (ys : List Needed) → IsGood pool → is_member same pool (name_of x) ≡ true → Named pool ys → AllByRecursion (λ y. x ≢ y) ys → AllByRecursion (λ e. entry_in pool x ≢ e) (map (entry_in pool) ys)
 apart_from pool x [] good p named apart = tt
 apart_from pool x (y ∷ ys) good p named apart = ((λ e. apart.0 (entry_same pool x y good p named.0 e)), apart_from pool x ys good p named.1 apart.1)
 
@@ -169,4 +170,4 @@ pub pool_distinct : (s : ClassShape) → length (pool_of s) < 65535 → AllByRec
 pool_distinct s small spelled =
     let good : IsGood (pool_of s) = record { small = small; spelled = spelled } in
     let named : Named (pool_of s) (needs s) = needs_named s (pool_of s) (has_all (needs s)) in
-    distinct_in (pool_of s) (pool_of s) good (all_once (λ n. has (pool_of s) (name_of n) ≡ true) (needs s) named) (apart_once (needs s))
+    distinct_in (pool_of s) (pool_of s) good (all_once (λ n. is_member same (pool_of s) (name_of n) ≡ true) (needs s) named) (apart_once (needs s))

@@ -2,6 +2,7 @@
 use Rattle.std.proofs.Common.{◌≡◌, ℕ, ◌+◌, ◌<◌, ◌≤◌, Bool, true, false, ◌||◌, List, [], ◌∷◌, ◌++◌, map, length, refl, sym, subst, ◌∙◌, Option, Some, None, arith, rules}
 use Rattle.std.proofs.lemmas.List.{length-map, append-nil}
 use Rattle.std.specs.Prelude.{IfSome, IsSome, IsSomeAnd}
+use Rattle.std.specs.Set.{is_member}
 use Rattle.std.specs.List.{flat_map, list_any, AllByRecursion}
 use Rattle.class_pool.specs.Spelling.{Head, IsPoolOf}
 use Rattle.class_pool.proofs.Codec.{ok_is}
@@ -17,17 +18,17 @@ use Rattle.class_shape.specs.Parts.{Attribute, row, counted, body, Counted, IsSh
 use Rattle.class_shape.specs.Shapes.{Pairwise, IsClassName, OrNone, IsTextAt, Decodes, IsDescriptor, IsMemberShape, IsInnerRow, inner_classes, SaysOfAttribute, SaysOfAttributes, Says, IsClassFile}
 use Rattle.std.specs.Str.{chars}
 use Rattle.workload.specs.Modified.{unit_bytes, modified}
-use Rattle.workload.specs.Needs.{Needed, class, text, class_needs, text_needs, optional, member_needs, row_needs, inner_needs, needs, place}
+use Rattle.workload.specs.Needs.{Needed, class, text, same, class_needs, text_needs, optional, member_needs, row_needs, inner_needs, needs, place}
 use Rattle.workload.specs.Layout.{entries_in, class_place, text_place, place_or_none, member_in, row_in, attributes_in, head_in, body_in, pool_of, file_of}
 use Rattle.workload.specs.Writing.{is_long, is_long_text, has_long_list, is_too_big, IsInternal, IsWholeMember, IsWholeRow, IsWhole}
 use Rattle.workload.specs.Flags.{IsShortMember, IsShortRow, HasShortFlags}
 use Rattle.workload.specs.Spelled.{IsSpelled, IsWritten}
-use Rattle.workload.proofs.PoolLaws.{has, has_all, text_stands, name_stands, place_short, place_some, holds_of, head_fits}
+use Rattle.workload.proofs.PoolLaws.{has_all, text_stands, name_stands, place_short, place_some, holds_of, head_fits}
 use Rattle.workload.proofs.RowLaws.{body_length}
 
 -- each of some needed entries is in the pool
 abbrev pub Holds : List Needed → List Needed → Type 0
-Holds pool ns = AllByRecursion (λ n. has pool n ≡ true) ns
+Holds pool ns = AllByRecursion (λ n. is_member same pool n ≡ true) ns
 
 -- the pool is small, and its texts are spelled
 pub record IsGood (pool : List Needed) : Type 0 where
@@ -39,9 +40,9 @@ split_all P [] ys h = (tt, h)
 split_all P (x ∷ xs) ys h = let m = split_all P xs ys h.1 in ((h.0, m.0), m.1)
 
 pub split : (pool xs ys : List Needed) → Holds pool (xs ++ ys) → Holds pool xs × Holds pool ys
-split pool xs ys h = split_all (λ n. has pool n ≡ true) xs ys h
+split pool xs ys h = split_all (λ n. is_member same pool n ≡ true) xs ys h
 
-pub spells : (pool : List Needed) (t : List ℕ) → IsGood pool → has pool (text t) ≡ true → IsText (modified t) t
+pub spells : (pool : List Needed) (t : List ℕ) → IsGood pool → is_member same pool (text t) ≡ true → IsText (modified t) t
 spells pool t good e = (holds_of IsSpelled (text t) pool e good.spelled).0
 
 -- ---- names and texts

@@ -1,7 +1,8 @@
 -- A pool that holds each of some needed entries once has each at its place.
 use Rattle.std.proofs.Common.{◌≡◌, ◌≢◌, ℕ, suc, ◌+◌, ◌<◌, ◌≤◌, Bool, true, false, cond, ◌||◌, ltb, List, [], ◌∷◌, ◌++◌, map, fold, length, refl, sym, ap, subst, ◌∙◌, Option, Some, None, slice_get, arith, rules, add-one}
 use Rattle.std.specs.Prelude.{not}
-use Rattle.std.specs.List.{list_any, position_or_len, AllByRecursion}
+use Rattle.std.specs.Set.{is_member}
+use Rattle.std.specs.List.{position_or_len, AllByRecursion}
 use Rattle.std.proofs.lemmas.Slice.Eq.{bytes_eq-Decides}
 use Rattle.std.specs.Option.{option_map}
 use Rattle.std.proofs.lemmas.Option.{slice_get-map}
@@ -25,10 +26,6 @@ pub same_self : (a : Needed) → same a a ≡ true
 same_self (class a) = (bytes_eq-Decides a a).1 refl
 same_self (text a) = (bytes_eq-Decides a a).1 refl
 
--- the pool holds the entry
-abbrev pub has : List Needed → Needed → Bool
-has pool n = list_any (same n) pool
-
 or_left : (a b : Bool) → a ≡ true → (a || b) ≡ true
 or_left true b e = refl
 or_left false b e = absurd cc
@@ -37,42 +34,42 @@ or_right : (a b : Bool) → b ≡ true → (a || b) ≡ true
 or_right true b e = refl
 or_right false b e = e
 
-has_prefix : (n : Needed) (xs ys : List Needed) → has xs n ≡ true → has (xs ++ ys) n ≡ true
+has_prefix : (n : Needed) (xs ys : List Needed) → is_member same xs n ≡ true → is_member same (xs ++ ys) n ≡ true
 has_prefix n [] ys e = absurd cc
 has_prefix n (x ∷ xs) ys e = go (same n x) e (has_prefix n xs ys)
   where
-    go : (b : Bool) → (b || has xs n) ≡ true → (has xs n ≡ true → has (xs ++ ys) n ≡ true) → (b || has (xs ++ ys) n) ≡ true
+    go : (b : Bool) → (b || is_member same xs n) ≡ true → (is_member same xs n ≡ true → is_member same (xs ++ ys) n ≡ true) → (b || is_member same (xs ++ ys) n) ≡ true
     go true e more = refl
     go false e more = more e
 
-has_last : (n : Needed) (xs : List Needed) → has (xs ++ n ∷ []) n ≡ true
+has_last : (n : Needed) (xs : List Needed) → is_member same (xs ++ n ∷ []) n ≡ true
 has_last n [] = or_left (same n n) false (same_self n)
 has_last n (x ∷ xs) = or_right (same n x) _ (has_last n xs)
 
-has_kept : (n m : Needed) (pool : List Needed) → has pool n ≡ true → has (add pool m) n ≡ true
-has_kept n m pool e = go (has pool m)
+has_kept : (n m : Needed) (pool : List Needed) → is_member same pool n ≡ true → is_member same (add pool m) n ≡ true
+has_kept n m pool e = go (is_member same pool m)
   where
-    go : (b : Bool) → has (cond b pool (pool ++ m ∷ [])) n ≡ true
+    go : (b : Bool) → is_member same (cond b pool (pool ++ m ∷ [])) n ≡ true
     go true = e
     go false = has_prefix n pool (m ∷ []) e
 
-has_added : (n : Needed) (pool : List Needed) → has (add pool n) n ≡ true
-has_added n pool = go (has pool n) refl
+has_added : (n : Needed) (pool : List Needed) → is_member same (add pool n) n ≡ true
+has_added n pool = go (is_member same pool n) refl
   where
-    go : (b : Bool) → has pool n ≡ b → has (cond b pool (pool ++ n ∷ [])) n ≡ true
+    go : (b : Bool) → is_member same pool n ≡ b → is_member same (cond b pool (pool ++ n ∷ [])) n ≡ true
     go true e = e
     go false e = has_last n pool
 
-has_later : (n : Needed) (ns pool : List Needed) → has pool n ≡ true → has (fold add pool ns) n ≡ true
+has_later : (n : Needed) (ns pool : List Needed) → is_member same pool n ≡ true → is_member same (fold add pool ns) n ≡ true
 has_later n [] pool e = e
 has_later n (m ∷ ns) pool e = has_later n ns (add pool m) (has_kept n m pool e)
 
-has_each : (ns pool : List Needed) → AllByRecursion (λ n. has (fold add pool ns) n ≡ true) ns
+has_each : (ns pool : List Needed) → AllByRecursion (λ n. is_member same (fold add pool ns) n ≡ true) ns
 has_each [] pool = tt
 has_each (n ∷ ns) pool = (has_later n ns (add pool n) (has_added n pool), has_each ns (add pool n))
 
 -- each needed entry is in the pool
-pub has_all : (ns : List Needed) → AllByRecursion (λ n. has (once ns) n ≡ true) ns
+pub has_all : (ns : List Needed) → AllByRecursion (λ n. is_member same (once ns) n ≡ true) ns
 unfolding once
 has_all ns = has_each ns []
 
@@ -87,15 +84,15 @@ pub record Stands (pool : List Needed) (n : Needed) (i : ℕ) : Type 0 where
 at_suc : (x : Needed) (xs : List Needed) (i : ℕ) (n : Needed) → slice_get xs i ≡ Some n → slice_get (x ∷ xs) (1 + i) ≡ Some n
 at_suc x xs i n e = search rules
 
-found : (n : Needed) (pool : List Needed) → has pool n ≡ true → Stands pool n (position_or_len (same n) pool)
+found : (n : Needed) (pool : List Needed) → is_member same pool n ≡ true → Stands pool n (position_or_len (same n) pool)
 found n [] e = absurd cc
 found n (x ∷ xs) e = go (same n x) refl e (found n xs)
   where
-    go : (b : Bool) → same n x ≡ b → (b || has xs n) ≡ true → (has xs n ≡ true → Stands xs n (position_or_len (same n) xs)) → Stands (x ∷ xs) n (cond (not b) (1 + position_or_len (same n) xs) 0)
+    go : (b : Bool) → same n x ≡ b → (b || is_member same xs n) ≡ true → (is_member same xs n ≡ true → Stands xs n (position_or_len (same n) xs)) → Stands (x ∷ xs) n (cond (not b) (1 + position_or_len (same n) xs) 0)
     go true is e more = record { within = omega arith; at = ap (λ (m : Needed). some m) (sym (same_is n x is)) }
     go false is e more = let s = more e in record { within = omega (arith, s.within); at = at_suc x xs (position_or_len (same n) xs) n s.at }
 
-place_is : (pool : List Needed) (n : Needed) → has pool n ≡ true → place pool n ≡ position_or_len (same n) pool + 1
+place_is : (pool : List Needed) (n : Needed) → is_member same pool n ≡ true → place pool n ≡ position_or_len (same n) pool + 1
 unfolding place
 place_is pool n e = let s = found n pool e in go (ltb (position_or_len (same n) pool) (length pool)) refl s.within
   where
@@ -113,7 +110,7 @@ slots_are all [] = refl
 slots_are all (class n ∷ ns) = ap (λ (t : List (Option Entry)). some_entry (entry_in all (class n)) ∷ t) (slots_are all ns)
 slots_are all (text t ∷ ns) = ap (λ (u : List (Option Entry)). some_entry (entry_in all (text t)) ∷ u) (slots_are all ns)
 
-stands : (pool : List Needed) (n : Needed) → has pool n ≡ true → slot (entries_in pool) (place pool n) ≡ Some (entry_in pool n)
+stands : (pool : List Needed) (n : Needed) → is_member same pool n ≡ true → slot (entries_in pool) (place pool n) ≡ Some (entry_in pool n)
 stands pool n e =
     let k : ℕ = position_or_len (same n) pool in
     let s = found n pool e in
@@ -124,7 +121,7 @@ stands pool n e =
     ∙ ap (λ (o : Option Entry). flat (option_map some_entry o)) (slice_get-map (entry_in pool) pool k)
     ∙ ap (λ (o : Option Needed). flat (option_map some_entry (option_map (entry_in pool) o))) s.at
 
-pub text_stands : (pool : List Needed) (t : List ℕ) → has pool (text t) ≡ true → text_in (entries_in pool) (text_place pool t) ≡ Some (modified t)
+pub text_stands : (pool : List Needed) (t : List ℕ) → is_member same pool (text t) ≡ true → text_in (entries_in pool) (text_place pool t) ≡ Some (modified t)
 text_stands pool t e = ap text_of_entry (stands pool (text t) e)
 
 pub place_short : (pool : List Needed) (n : Needed) → length pool < 65535 → place pool n < 65536
@@ -135,23 +132,23 @@ place_short pool n small = go (ltb (position_or_len (same n) pool) (length pool)
     go true e = let lt = ltb-true _ _ e in omega (arith, lt, small)
     go false e = omega arith
 
-pub place_some : (pool : List Needed) (n : Needed) → has pool n ≡ true → place pool n ≢ 0
+pub place_some : (pool : List Needed) (n : Needed) → is_member same pool n ≡ true → place pool n ≢ 0
 place_some pool n e z = let is = place_is pool n e in omega (arith, is, z)
 
 pub number_again : (x : ℕ) → x < 65536 → big_number 2 (big_bytes 2 x) ≡ x
 number_again x lt = omega (arith, lt)
 
-pub name_stands : (pool : List Needed) (n : List ℕ) → length pool < 65535 → has pool (class n) ≡ true → has pool (text n) ≡ true → name_in (entries_in pool) (class_place pool n) ≡ Some (modified n)
+pub name_stands : (pool : List Needed) (n : List ℕ) → length pool < 65535 → is_member same pool (class n) ≡ true → is_member same pool (text n) ≡ true → name_in (entries_in pool) (class_place pool n) ≡ Some (modified n)
 name_stands pool n small c t =
     ap (λ (o : Option Entry). text_at_index (entries_in pool) (class_index o)) (stands pool (class n) c)
     ∙ ap (text_in (entries_in pool)) (number_again (place pool (text n)) (place_short pool (text n) small))
     ∙ text_stands pool n t
 
-pub holds_of : (P : Needed → Type 0) (n : Needed) (pool : List Needed) → has pool n ≡ true → AllByRecursion P pool → P n
+pub holds_of : (P : Needed → Type 0) (n : Needed) (pool : List Needed) → is_member same pool n ≡ true → AllByRecursion P pool → P n
 holds_of P n [] e all = absurd cc
 holds_of P n (x ∷ xs) e all = go (same n x) refl e (holds_of P n xs)
   where
-    go : (b : Bool) → same n x ≡ b → (b || has xs n) ≡ true → (has xs n ≡ true → AllByRecursion P xs → P n) → P n
+    go : (b : Bool) → same n x ≡ b → (b || is_member same xs n) ≡ true → (is_member same xs n ≡ true → AllByRecursion P xs → P n) → P n
     go true is e more = subst P (sym (same_is n x is)) all.0
     go false is e more = more e all.1
 

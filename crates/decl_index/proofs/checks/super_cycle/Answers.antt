@@ -5,7 +5,8 @@ use Rattle.std.proofs.lemmas.List.{length-map}
 use Rattle.std.specs.Prelude.{unwrap_or}
 use Rattle.known_classes.specs.Known.{class_named, IsPlaceOf}
 use Rattle.graphs.specs.Graph.{InRange, IsLeastCycle, IsAcyclic}
-use Rattle.decl_index.specs.Refusals.{supers_of, object_name, IsLeastNamedCycle}
+use Rattle.type_names.specs.Names.{object_name}
+use Rattle.decl_index.specs.Refusals.{supers_of, IsLeastNamedCycle}
 use Rattle.decl_index.proofs.Results.{some_of, none_of}
 use Rattle.decl_index.proofs.RowLemmas.{got_read}
 use Rattle.decl_index.proofs.Cycles.{IsSkip, graph_range, cycle_within, skip-found, no_cycle, least_named_cycle}
