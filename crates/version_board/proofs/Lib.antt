@@ -4,3 +4,4 @@ pub mod VersionLaws
 pub mod Prefixes
 pub mod Adding
 pub mod Keeps
+pub mod Accepting

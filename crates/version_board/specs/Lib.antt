@@ -4,3 +4,4 @@ pub mod Laws
 pub mod Logs
 pub mod Views
 pub mod Publications
+pub mod Accepted

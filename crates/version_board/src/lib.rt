@@ -10,6 +10,7 @@ mod laws;
 mod log;
 mod pass;
 mod publisher;
+mod publishing;
 mod receipt;
 mod shown;
 mod snapshot;
@@ -22,10 +23,13 @@ pub use laws::version_laws;
 pub use log::{Log, Naming, Opened, Prefix};
 pub use pass::Pass;
 pub use publisher::Publisher;
+pub use publishing::publish_and_learn;
 pub use receipt::{Receipt, Refusal};
 pub use shown::Shown;
 pub use snapshot::Snapshot;
 pub use start::start_board;
 
+#[cfg(test)]
+mod board_tests;
 #[cfg(test)]
 mod tests;

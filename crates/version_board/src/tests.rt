@@ -29,7 +29,7 @@ fn publication(alloc: Global, puts: Items<ClassSummary>) -> Change {
 }
 
 /// The publication of one class.
-fn one_class(alloc: Global, name: &str, parent: &str) -> Result<Change, AllocError> {
+pub(crate) fn one_class(alloc: Global, name: &str, parent: &str) -> Result<Change, AllocError> {
     let mut puts = Items::new(alloc);
     puts.push(class(alloc, name, parent)?)?;
     Ok(publication(alloc, puts))
