@@ -8,3 +8,17 @@ pub mod WorldReads
 pub mod Prefixes
 pub mod Sited
 pub mod Asked
+pub mod Answering
+pub mod Methods
+pub mod Ranged
+pub mod Replied
+pub mod Faulted
+pub mod Noticed
+pub mod Touched
+pub mod Furthers
+pub mod Finishing
+pub mod FixedWorlds
+pub mod Statuses
+pub mod Completed
+pub mod Commanded
+pub mod RunningWorlds

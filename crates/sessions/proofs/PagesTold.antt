@@ -1,15 +1,11 @@
 -- What a listing says of its page is what is told of it.
-use Rattle.std.proofs.Common.{◌≡◌, ◌⊎◌, inl, inr, ⊎_elim, ◌↔◌, ℕ, ◌+◌, ◌-◌, ◌≤◌, ◌<◌, ◌^◌, Bool, true, false, IsTrue, List, length, take, drop, min, All, arith, refl, sym, ap, subst, ◌∙◌}
+use Rattle.std.proofs.Common.{◌≡◌, ◌⊎◌, inl, inr, ⊎_elim, ◌↔◌, ℕ, ◌+◌, ◌-◌, ◌≤◌, ◌<◌, ◌^◌, Bool, true, false, IsTrue, length, drop, min, All, arith, refl, sym, ap, subst, ◌∙◌}
 use Rattle.std.proofs.lemmas.Bool.{le-leb, false≢true}
 use Rattle.std.proofs.lemmas.Bool.Decides.{leb_tells}
 use Rattle.std.proofs.lemmas.List.{length-map, length-take, length-drop}
 use Rattle.std.proofs.lemmas.List.Elements.{All-drop, All-take}
 use Rattle.std.proofs.Math.Dec.{leb}
-use Rattle.terms.specs.Expr.{Expr}
-use Rattle.terms.specs.Listing.{IsWhole}
-use Rattle.terms.specs.declared.parts.Parts.{Parts}
 use Rattle.terms.proofs.Lists.{one_whole}
-use Rattle.listing.specs.declared.item.Item.{Item}
 use Rattle.listing.specs.declared.page.Page as found
 use Rattle.listing.specs.Found.{Listed, IsListed, IsItem, terms_of, term_of}
 use Rattle.listing.specs.Pages.{IsPage, items_of}

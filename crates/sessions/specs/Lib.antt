@@ -8,3 +8,10 @@ pub mod Worlds
 pub mod Spots
 pub mod Opened
 pub mod Questions
+pub mod Outcomes
+pub mod Refusing
+pub mod Meets
+pub mod FixedStates
+pub mod Served
+pub mod Serving
+pub mod RunningStates

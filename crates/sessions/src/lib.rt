@@ -1,30 +1,60 @@
-// One client's session over the lists that several clients share. `shared_page` gives the page of an environment's
-// list, whatever listing is kept under its fingerprint. `OpenDocuments` and `Cursors` are what a session keeps: each of
-// their calls is an edit or an answer of `answers`, at what it met of a `World`; `Answers` says which. It stands on
-// `answers`, on `scopes` for environments, and on `listing` and `shared_shelf` for pages.
+// One client's session: the body of a message in, its outcome out, and a client's frames from its source to its
+// sink. The main definitions are `Meets`: the outcome and the session after it are the answer to the message, at what
+// it met of the world; and `Serves`: what was written are the frames of the replies to the frames read. Pages come
+// from listings that clients share. It stands on `answers`, which says what an answer is.
 #![tactic(auto)]
 
+mod client;
 mod cursors;
 mod edits;
+mod ending;
 mod failure;
 mod fingerprint;
+mod fixed_world;
 mod forms;
+mod hub;
+mod notices;
 mod open_documents;
+mod outcome;
 mod questions;
 mod replies;
+mod requests;
+mod running_world;
+mod serving;
+mod session;
 mod shared_pages;
 mod world;
 
+pub use client::{Client, serve_client};
 pub use cursors::Cursors;
+pub use ending::{Ended, Ending};
 pub use failure::Failure;
 pub use fingerprint::print_of;
+pub use fixed_world::{FixedWorld, Past};
 pub use forms::{makes_change, text_in, uri_in};
+pub use hub::Hub;
 pub use open_documents::OpenDocuments;
+pub use outcome::Outcome;
 pub use replies::{failure_reply, null_reply, page_reply, result_reply};
+pub use running_world::RunningWorld;
+pub use serving::serve;
+pub use session::Session;
 pub use shared_pages::shared_page;
 pub use world::World;
 
 #[cfg(test)]
+mod client_tests;
+#[cfg(test)]
+mod frame_tests;
+#[cfg(test)]
+mod hub_tests;
+#[cfg(test)]
+mod method_tests;
+#[cfg(test)]
 mod part_tests;
 #[cfg(test)]
 mod shared_page_tests;
+#[cfg(test)]
+mod step_tests;
+#[cfg(test)]
+mod version_tests;

@@ -87,13 +87,13 @@ fn env(
     Env::checked(alloc, parts)
 }
 
-fn calls(alloc: Global, second: &str, goal: u32, limit: u32) -> Result<Env, EnvFault> {
+pub(crate) fn calls(alloc: Global, second: &str, goal: u32, limit: u32) -> Result<Env, EnvFault> {
     let types = two_types(alloc, second)?;
     let decls = name_and_call(alloc)?;
     env(alloc, types, decls, goal, limit)
 }
 
-fn names(alloc: Global) -> Result<Env, EnvFault> {
+pub(crate) fn names(alloc: Global) -> Result<Env, EnvFault> {
     let types = two_types(alloc, "long")?;
     let decls = two_names(alloc)?;
     env(alloc, types, decls, 0, 4000)
@@ -233,7 +233,7 @@ fn pages_go_on_where_others_stopped(rt: HostRuntime) -> Result<(), EnvFault> {
 }
 
 /// How many steps the search of the kept listing has taken; 0 where none is kept.
-fn pops<E: Levels + Drop, R: Wait>(
+pub(crate) fn pops<E: Levels + Drop, R: Wait>(
     rt: &R,
     shelf: &SharedShelf<Listing<E>>,
     print: u64,

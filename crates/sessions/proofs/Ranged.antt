@@ -1,0 +1,171 @@
+-- Options and counts that are well formed are in their ranges.
+use Rattle.std.proofs.Common.{◌≡◌, ℕ, ◌≤◌, ◌&&◌, Bool, true, false, nat_le, subst, refl, arith, List, Option, Some, None, Result, Ok, Err}
+use Rattle.std.specs.Prelude.{if◌then◌else◌, codes, bytes_eq}
+use Rattle.std.proofs.lemmas.Bool.{leb-true, and_parts}
+use Rattle.serde_json.specs.Data.{Data, Num, unsigned, negative, float, Items, no_items, item, null, boolean, number, string, array, object}
+use Rattle.serde_json.specs.Find.{get, as_str}
+use Rattle.lsp_forms.specs.declared.forms.ParamFault.{ParamFault}
+use Rattle.lsp_forms.specs.declared.forms.Initialize.{Initialize}
+use Rattle.lsp_forms.specs.declared.forms.Command.{Command}
+use Rattle.lsp_forms.specs.declared.forms.Command.TheVariants.{Page, Close, Publish, Withdraw}
+use Rattle.lsp_forms.specs.Params.{whole, every, fault, numbered, number_of, member_of, text_of}
+use Rattle.lsp_forms.specs.Forms.{whole_or, options_in, options_from, initialize_from, initialize_of, optional}
+use Rattle.lsp_forms.specs.Commands.{word, page_at, page_from, page_of, one_at, one_from, close_of, withdraw_of, published, publish_at, publish_from, publish_of, list_of, named_command, command_from, command_of, only_object, is_text, is_pair, counts, pair_of, path_from_text, name_from_text, use_from_pair}
+use Rattle.sessions.specs.Options.{AreInRange}
+
+chosen : (b : Bool) (n x : ℕ) → (if b then Some n else None) ≡ Some x → (b ≡ true) × (n ≡ x)
+chosen true n x e = (refl, cc)
+chosen false n x e = absurd cc
+
+whole_in : (n : Num) (low high x : ℕ) → whole n low high ≡ Some x → (low ≤ x) × (x ≤ high)
+unfolding whole
+whole_in (unsigned n) low high x e =
+    let both : ((nat_le low n && nat_le n high) ≡ true) × (n ≡ x) = chosen (nat_le low n && nat_le n high) n x e in
+    let parts : (nat_le low n ≡ true) × (nat_le n high ≡ true) = and_parts (nat_le low n) (nat_le n high) both.0 in
+    (subst (λ y. low ≤ y) both.1 (leb-true low n parts.0), subst (λ y. y ≤ high) both.1 (leb-true n high parts.1))
+whole_in (negative z) low high x e = absurd cc
+whole_in (float f) low high x e = absurd cc
+
+whole_or_in : (n : Option Num) (low high usual : ℕ) → low ≤ usual → usual ≤ high → (x : ℕ) → whole_or n low high usual ≡ Some x → (low ≤ x) × (x ≤ high)
+unfolding whole_or
+whole_or_in None low high usual a b x e =
+    let is : usual ≡ x = cc in
+    (subst (λ y. low ≤ y) is a, subst (λ y. y ≤ high) is b)
+whole_or_in (Some n) low high usual a b x e = whole_in n low high x e
+
+abbrev Within : ℕ → ℕ → Option ℕ → Type 0
+Within low high o = (x : ℕ) → o ≡ Some x → (low ≤ x) × (x ≤ high)
+
+options_ranged : (limit depth count : Option ℕ) (o : Initialize) → Within 1 10000 limit → Within 0 1 depth → Within 1 1000 count → options_in limit depth count ≡ Ok o → AreInRange o
+unfolding options_in
+options_ranged None d c o pl pd pc e = absurd cc
+options_ranged (Some l) None c o pl pd pc e = absurd cc
+options_ranged (Some l) (Some d) None o pl pd pc e = absurd cc
+options_ranged (Some l) (Some d) (Some c) o pl pd pc e =
+    let is : record { limit = l; depth = d; count = c } ≡ o = cc in
+    subst AreInRange is (record { some_weight = (pl l refl).0; weight = (pl l refl).1; depth = (pd d refl).1; some_items = (pc c refl).0; items = (pc c refl).1 })
+
+from_ranged : (limit depth count : Option (Option Num)) (o : Initialize) → options_from limit depth count ≡ Ok o → AreInRange o
+unfolding options_from
+from_ranged None d c o e = absurd cc
+from_ranged (Some l) None c o e = absurd cc
+from_ranged (Some l) (Some d) None o e = absurd cc
+from_ranged (Some l) (Some d) (Some c) o e =
+    options_ranged (whole_or l 1 10000 4000) (whole_or d 0 1 1) (whole_or c 1 1000 20) o (whole_or_in l 1 10000 4000 (omega arith) (omega arith)) (whole_or_in d 0 1 1 (omega arith) (omega arith)) (whole_or_in c 1 1000 20 (omega arith) (omega arith)) e
+
+abbrev usual : Result Initialize ParamFault
+usual = Ok (record { limit = 4000; depth = 1; count = 20 })
+
+usual_ranged : (o : Initialize) → usual ≡ Ok o → AreInRange o
+usual_ranged o e =
+    let is : record { limit = 4000; depth = 1; count = 20 } ≡ o = cc in
+    subst AreInRange is (record { some_weight = omega arith; weight = omega arith; depth = omega arith; some_items = omega arith; items = omega arith })
+
+initialize_ranged : (d : Option Data) (o : Initialize) → initialize_from d ≡ Ok o → AreInRange o
+unfolding initialize_from
+initialize_ranged None o e = usual_ranged o e
+initialize_ranged (Some null) o e = usual_ranged o e
+initialize_ranged (Some (boolean b)) o e = absurd cc
+initialize_ranged (Some (number n)) o e = absurd cc
+initialize_ranged (Some (string s)) o e = absurd cc
+initialize_ranged (Some (array no_items)) o e = usual_ranged o e
+initialize_ranged (Some (array (item d ds))) o e = absurd cc
+initialize_ranged (Some (object ms)) o e = from_ranged (optional (get (codes "limit") (object ms))) (optional (get (codes "depth") (object ms))) (optional (get (codes "count") (object ms))) o e
+
+pub options_in_range : (d : Data) (o : Initialize) → initialize_of d ≡ Ok o → AreInRange o
+options_in_range d o e = initialize_ranged (get (codes "initializationOptions") d) o e
+
+-- A page that is asked for has from 1 to 1000 items.
+abbrev IsFair : Result Command ParamFault → Type 0
+IsFair (Err f) = Unit {0}
+IsFair (Ok (Page k n)) = (1 ≤ n) × (n ≤ 1000)
+IsFair (Ok (Close k)) = Unit {0}
+IsFair (Ok (Publish a b c)) = Unit {0}
+IsFair (Ok (Withdraw k)) = Unit {0}
+
+fair_page : (cursor count : Option ℕ) → Within 1 1000 count → IsFair (page_at cursor count)
+unfolding page_at
+fair_page None count p = tt
+fair_page (Some k) None p = tt
+fair_page (Some k) (Some n) p = p n refl
+
+fair_page_from : (cursor count : Option Num) → IsFair (page_from cursor count)
+unfolding page_from
+fair_page_from None count = tt
+fair_page_from (Some k) None = tt
+fair_page_from (Some k) (Some n) = fair_page (word k) (whole n 1 1000) (whole_in n 1 1000)
+
+fair_one : (f : ℕ → Command) (o : Option ℕ) → ((n : ℕ) → IsFair (Ok (f n))) → IsFair (one_at f o)
+unfolding one_at
+fair_one f None p = tt
+fair_one f (Some n) p = p n
+
+fair_one_from : (f : ℕ → Command) (o : Option Num) → ((n : ℕ) → IsFair (Ok (f n))) → IsFair (one_from f o)
+unfolding one_from
+fair_one_from f None p = tt
+fair_one_from f (Some n) p = fair_one f (word n) p
+
+fair_published : (a : Result (List (List ℕ)) ParamFault) (b : Result (List (List ℕ)) ParamFault) (c : Result (List (List ℕ × ℕ)) ParamFault) → IsFair (published a b c)
+unfolding published
+fair_published (Err e) b c = tt
+fair_published (Ok x) (Err e) c = tt
+fair_published (Ok x) (Ok y) (Err e) = tt
+fair_published (Ok x) (Ok y) (Ok z) = tt
+
+fair_if : (b : Bool) (x y : Result Command ParamFault) → IsFair x → IsFair y → IsFair (if b then x else y)
+fair_if true x y p q = p
+fair_if false x y p q = q
+
+fair_counted : (a b c : Items) → IsFair (if every (λ d. counts (pair_of d)) c then published (numbered 8 (λ d. path_from_text (as_str d)) 0 a) (numbered 12 (λ d. name_from_text (as_str d)) 0 b) (numbered 13 (λ d. use_from_pair (pair_of d)) 0 c) else Err (fault 2))
+fair_counted a b c =
+    fair_if (every (λ d. counts (pair_of d)) c) (published (numbered 8 (λ d. path_from_text (as_str d)) 0 a) (numbered 12 (λ d. name_from_text (as_str d)) 0 b) (numbered 13 (λ d. use_from_pair (pair_of d)) 0 c)) (Err (fault 2))
+    (fair_published (numbered 8 (λ d. path_from_text (as_str d)) 0 a) (numbered 12 (λ d. name_from_text (as_str d)) 0 b) (numbered 13 (λ d. use_from_pair (pair_of d)) 0 c)) tt
+
+fair_publish_at : (a b c : Items) → IsFair (publish_at a b c)
+unfolding publish_at
+fair_publish_at a b c =
+    fair_if (every is_text a && (every is_text b && every is_pair c)) (if every (λ d. counts (pair_of d)) c then published (numbered 8 (λ d. path_from_text (as_str d)) 0 a) (numbered 12 (λ d. name_from_text (as_str d)) 0 b) (numbered 13 (λ d. use_from_pair (pair_of d)) 0 c) else Err (fault 2)) (Err (fault 1))
+    (fair_counted a b c) tt
+
+fair_publish_from : (a b c : Option Items) → IsFair (publish_from a b c)
+unfolding publish_from
+fair_publish_from None b c = tt
+fair_publish_from (Some x) None c = tt
+fair_publish_from (Some x) (Some y) None = tt
+fair_publish_from (Some x) (Some y) (Some z) = fair_publish_at x y z
+
+fair_publish : (o : Option Data) → IsFair (publish_of o)
+unfolding publish_of
+fair_publish None = tt
+fair_publish (Some d) = fair_publish_from (list_of (get (codes "put") d)) (list_of (get (codes "remove") d)) (list_of (get (codes "counts") d))
+
+abbrev or_withdraw : List ℕ → Option Data → Result Command ParamFault
+or_withdraw name o = if bytes_eq name (codes "insynth.withdraw") then withdraw_of o else Err (fault 7)
+
+abbrev or_publish : List ℕ → Option Data → Result Command ParamFault
+or_publish name o = if bytes_eq name (codes "insynth.publish") then publish_of o else or_withdraw name o
+
+abbrev or_close : List ℕ → Option Data → Result Command ParamFault
+or_close name o = if bytes_eq name (codes "insynth.close") then close_of o else or_publish name o
+
+fair_withdraw : (name : List ℕ) (o : Option Data) → IsFair (or_withdraw name o)
+fair_withdraw name o = fair_if (bytes_eq name (codes "insynth.withdraw")) (withdraw_of o) (Err (fault 7)) (fair_one_from Withdraw (number_of (member_of (codes "through") o)) (λ n. tt)) tt
+
+fair_or_publish : (name : List ℕ) (o : Option Data) → IsFair (or_publish name o)
+fair_or_publish name o = fair_if (bytes_eq name (codes "insynth.publish")) (publish_of o) (or_withdraw name o) (fair_publish o) (fair_withdraw name o)
+
+fair_close : (name : List ℕ) (o : Option Data) → IsFair (or_close name o)
+fair_close name o = fair_if (bytes_eq name (codes "insynth.close")) (close_of o) (or_publish name o) (fair_one_from Close (number_of (member_of (codes "cursor") o)) (λ n. tt)) (fair_or_publish name o)
+
+fair_named : (name : List ℕ) (o : Option Data) → IsFair (named_command name o)
+unfolding named_command
+fair_named name o =
+    fair_if (bytes_eq name (codes "insynth.page")) (page_of o) (or_close name o) (fair_page_from (number_of (member_of (codes "cursor") o)) (number_of (member_of (codes "count") o))) (fair_close name o)
+
+fair_from : (name : Option (List ℕ)) (o : Option Data) → IsFair (command_from name o)
+unfolding command_from
+fair_from None o = tt
+fair_from (Some name) o = fair_named name o
+
+pub fair_count : (d : Data) (k n : ℕ) → command_of d ≡ Ok (Page k n) → (1 ≤ n) × (n ≤ 1000)
+fair_count d k n e = subst IsFair e (fair_from (text_of (get (codes "command") d)) (only_object (get (codes "arguments") d)))
