@@ -1,66 +1,49 @@
--- Words that fit, and words that don't.
-use Rattle.std.proofs.Common.{◌≡◌, ℕ, zero, suc, ◌<◌, subst, List, [], ◌∷◌, length, map, arith, refl, true, false, get_or, Option, Some, None, ◌==◌}
-use Rattle.std.specs.Prelude.{bytes_eq, codes, slice_get, slice_set, String, string_bytes}
-use Rattle.serving.specs.Runs.{words_status, usage_status}
+-- Words and ends that don't fit are told by one status.
+use Rattle.std.proofs.Common.{◌≡◌, ◌≢◌, inl, inr, ⊎_elim, ℕ, ◌+◌, ◌-◌, ◌≤◌, ◌<◌, List, [], ◌∷◌, ◌++◌, take, drop, Option, refl, sym, ap, subst, ◌∙◌, arith, append_assoc}
+use Rattle.std.specs.Prelude.{codes}
+use Rattle.std.proofs.Math.Seq.{take-add}
+use Rattle.std.proofs.lemmas.Bool.{cases_order}
+use Rattle.serving.specs.Words.{Asked, list, serve, AskFor, CanBegin, IsFirstWrong}
+use Rattle.serving.specs.Usages.{IsUsage, ends_for}
 use Rattle.serving.specs.declared.status.Status.{Status}
 
-pub usage-empty : {Y : Type 0} (ws : List (String Y)) → length ws ≡ 0 → words_status (map string_bytes ws) ≡ Some (record { code = 2; end = 0; place = 0; cause = 1 })
-unfolding words_status
-usage-empty [] l = refl
-usage-empty (w ∷ ws) l = absurd (omega (arith, l))
+-- what begins words that ask for something does so without its last words
+begins-less : (xs ys : List (List ℕ)) → CanBegin (xs ++ ys) → CanBegin xs
+begins-less xs ys b = record { more = ys ++ b.more; asked = b.asked; ask = subst (AskFor b.asked) (append_assoc xs ys b.more) b.ask }
 
-pub usage-other : {Y : Type 0} (ws : List (String Y)) (d : String Y) → 0 < length ws → bytes_eq (string_bytes (get_or ws 0 d)) (codes "list") ≡ false → words_status (map string_bytes ws) ≡ Some (record { code = 2; end = 0; place = 0; cause = 1 })
-unfolding words_status
-usage-other [] d l e = absurd (omega (arith, l))
-usage-other (w ∷ []) d l e = rw (e) refl
-usage-other (w ∷ x ∷ ws) d l e = rw (e) refl
+begins-to : (ws : List (List ℕ)) (m n : ℕ) → m ≤ n → CanBegin (take n ws) → CanBegin (take m ws)
+begins-to ws m n l b =
+    let split : take n ws ≡ take m ws ++ take (n - m) (drop m ws) = ap (λ k. take k ws) (omega (arith, l)) ∙ take-add m (n - m) ws in
+    begins-less (take m ws) (take (n - m) (drop m ws)) (subst CanBegin split b)
 
-pub usage-long : {Y : Type 0} (ws : List (String Y)) (d : String Y) → 1 < length ws → bytes_eq (string_bytes (get_or ws 0 d)) (codes "list") ≡ true → words_status (map string_bytes ws) ≡ Some (record { code = 2; end = 0; place = 1; cause = 1 })
-unfolding words_status
-usage-long [] d l e = absurd (omega (arith, l))
-usage-long (w ∷ []) d l e = absurd (omega (arith, l))
-usage-long (w ∷ x ∷ ws) d l e = rw (e) refl
+no-less : (ws : List (List ℕ)) (p q : ℕ) → IsFirstWrong ws p → IsFirstWrong ws q → p < q → ⊥
+no-less ws p q a b l = a.wrong (omega (arith, l, b.within)) (begins-to ws (p + 1) q (omega (arith, l)) b.begins)
 
-pub usage-right : {Y : Type 0} (ws : List (String Y)) (d : String Y) → length ws ≡ 1 → bytes_eq (string_bytes (get_or ws 0 d)) (codes "list") ≡ true → words_status (map string_bytes ws) ≡ None
-unfolding words_status
-usage-right [] d l e = absurd (omega (arith, l))
-usage-right (w ∷ []) d l e = rw (e) refl
-usage-right (w ∷ x ∷ ws) d l e = absurd (omega (arith, l))
+same-place : (ws : List (List ℕ)) (p q : ℕ) → IsFirstWrong ws p → IsFirstWrong ws q → p ≡ q
+same-place ws p q a b = ⊎_elim (λ e. e) (λ o. ⊎_elim (λ l. absurd (no-less ws p q a b l)) (λ l. absurd (no-less ws q p b a l)) o) (cases_order p q)
 
--- the one word and one end fit
-pub usage-none : (ws : List (List ℕ)) (n : ℕ) → ws ≡ codes "list" ∷ [] → n ≡ 1 → usage_status ws n ≡ None
-unfolding usage_status words_status
-usage-none ws n e one = rw (e, one) refl
+-- the words are wrong
+pub wrong-words : (ws : List (List ℕ)) (n place : ℕ) (status : Status) → IsFirstWrong ws place → IsUsage ws n status → record { code = 2; end = 0; place = place; cause = 1 } ≡ status
+wrong-words ws n place status wrong (inl u) = ap (λ p. record { code = 2; end = 0; place = p; cause = 1 }) (same-place ws place u.0 wrong u.1) ∙ sym u.2
+wrong-words ws n place status wrong (inr u) = absurd (wrong.nothing u.0 u.1)
 
-pub usage-words : (ws : List (List ℕ)) (n : ℕ) (s : Status) → words_status ws ≡ Some s → usage_status ws n ≡ Some s
-unfolding usage_status
-usage-words ws n s e = rw (e) refl
+one-end : (asked : Asked) → ends_for asked ≡ 1
+one-end list = refl
+one-end (serve start) = refl
 
-pub usage-ends : (ws : List (List ℕ)) (n : ℕ) → words_status ws ≡ None → (n == 1) ≡ false → usage_status ws n ≡ Some (record { code = 2; end = 0; place = n; cause = 2 })
-unfolding usage_status
-usage-ends ws n e other = rw (e, other) refl
+-- the number of ends is wrong
+pub wrong-ends : (ws : List (List ℕ)) (n : ℕ) (asked : Asked) (status : Status) → AskFor asked ws → IsUsage ws n status → record { code = 2; end = 0; place = n; cause = 2 } ≡ status
+wrong-ends ws n asked status ask (inl u) = absurd (u.1.nothing asked ask)
+wrong-ends ws n asked status ask (inr u) = sym u.3
 
-pub usage-fits : (ws : List (List ℕ)) (n : ℕ) → words_status ws ≡ None → n ≡ 1 → usage_status ws n ≡ None
-unfolding usage_status
-usage-fits ws n e one = rw (e, one) refl
+pub is-wrong-ends : (ws : List (List ℕ)) (n : ℕ) (asked : Asked) → AskFor asked ws → n ≢ 1 → IsUsage ws n (record { code = 2; end = 0; place = n; cause = 2 })
+is-wrong-ends ws n asked ask other = inr (asked, ask, (λ e. other (e ∙ one-end asked)), refl)
 
-pub ruleset usages = (usage-empty, usage-other, usage-long, usage-right)
+-- the words and the ends fit
+pub no-usage-fits : (ws : List (List ℕ)) (n : ℕ) (asked : Asked) (status : Status) → AskFor asked ws → n ≡ 1 → IsUsage ws n status → ⊥
+no-usage-fits ws n asked status ask one (inl u) = u.1.nothing asked ask
+no-usage-fits ws n asked status ask one (inr u) = u.2 (one ∙ sym (one-end u.0))
 
-pub not_both : (o : Option Status) (s : Status) → o ≡ None → o ≡ Some s → ⊥
-not_both o s e f = cc
-
-pub head-is : {X : Type 0} (x f : X) → x ∷ [] ≡ f ∷ [] → x ≡ f
-head-is x f e = cc
-
--- what holds of each value and itself holds at each place of a list
-pub same-holds : {X : Type 0} (xs : List X) (P : X → X → Type 0) → ((x : X) → P x x) → (i : ℕ) (e f : X) → slice_get xs i ≡ Some e → slice_get xs i ≡ Some f → P e f
-same-holds xs P itself i e f at_e at_f = let same : e ≡ f = cc in subst (λ y. P e y) same (itself e)
-
--- and of a list whose first one was replaced, where it holds of that one
-pub set-holds : {X : Type 0} (xs : List X) (P : X → X → Type 0) (d n : X) → d ≡ get_or xs 0 d → ((x : X) → P x x) → P d n → (i : ℕ) (e f : X) → slice_get xs i ≡ Some e → slice_get (slice_set xs 0 n) i ≡ Some f → P e f
-set-holds [] P d n was itself first i e f at_e at_f = cc
-set-holds (x ∷ xs) P d n was itself first zero e f at_e at_f =
-    let old : d ≡ e = cc in
-    let new : n ≡ f = cc in
-    subst (λ y. P y f) old (subst (λ y. P d y) new first)
-set-holds (x ∷ xs) P d n was itself first (suc i) e f at_e at_f = same-holds xs P itself i e f at_e at_f
+-- words ask for one thing
+pub not-served : (ws : List (List ℕ)) (start : Option (List ℕ)) → ws ≡ codes "list" ∷ [] → AskFor (serve start) ws → ⊥
+not-served ws start e a = let f : codes "list" ∷ [] ≡ codes "serve" ∷ a.0 = sym e ∙ a.2 in cc

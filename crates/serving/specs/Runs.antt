@@ -1,5 +1,5 @@
 -- What a run of `list` reads and writes, and the status that it answers.
-use Rattle.std.specs.Prelude.{◌≡◌, ◌⊎◌, ℕ, ◌<◌, ◌==◌, List, [], ◌∷◌, ◌++◌, length, if◌then◌else◌, Option, Some, None, bytes_eq, codes, decimal, take}
+use Rattle.std.specs.Prelude.{◌≡◌, ◌⊎◌, ℕ, ◌<◌, List, [], ◌∷◌, ◌++◌, length, Option, Some, decimal, take}
 use Rattle.std.specs.List.{flat_map}
 use Rattle.std.specs.Io.KnownBytes.{Consumes, IsAtEnd, Appends, Keeps}
 use Rattle.outside.specs.Causes.{Rose}
@@ -9,7 +9,6 @@ use Rattle.terms.specs.Expr.{Expr}
 use Rattle.terms.specs.Place.{total_of}
 use Rattle.terms.specs.Text.{text_of}
 use Rattle.terms.specs.Listing.{IsFront, IsWhole}
-use Rattle.terms.specs.Faults.{or_then}
 use Rattle.terms.specs.declared.parts.Parts.{Parts}
 use Rattle.sheets.specs.Sheets.{IsSheet, sheet_fault}
 use Rattle.serving.specs.declared.status.Status.{Status}
@@ -91,13 +90,3 @@ status_of (NotSheet line cause) = record { code = 3; end = 0; place = line; caus
 status_of ReadFault = record { code = 4; end = 0; place = 0; cause = 0 }
 status_of WriteFault = record { code = 5; end = 0; place = 0; cause = 0 }
 status_of OutOfMemory = record { code = 6; end = 0; place = 0; cause = 0 }
-
--- words that can't stand there: the number of the first of them, or of the first that is missing
-unfoldable pub words_status : List (List ℕ) → Option Status
-words_status [] = Some (record { code = 2; end = 0; place = 0; cause = 1 })
-words_status (w ∷ []) = if bytes_eq w (codes "list") then None else Some (record { code = 2; end = 0; place = 0; cause = 1 })
-words_status (w ∷ x ∷ more) = if bytes_eq w (codes "list") then Some (record { code = 2; end = 0; place = 1; cause = 1 }) else Some (record { code = 2; end = 0; place = 0; cause = 1 })
-
--- a number of ends that doesn't fit, which is looked at after the words
-unfoldable pub usage_status : List (List ℕ) → ℕ → Option Status
-usage_status words ends = or_then (words_status words) (if ends == 1 then None else Some (record { code = 2; end = 0; place = ends; cause = 2 }))

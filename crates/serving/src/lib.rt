@@ -1,15 +1,23 @@
-// What the program does: it reads a sheet, an environment written as text, and writes its list. The main
-// definition is that of a run, `EndsBy`: what was read and written, by how it ended. Sheets are those of
-// `sheets`. It stands on `listing` over `reconstruction`, on `outside`, `sheets`, `terms` and `lists`.
+// What the program does: it reads a sheet, an environment written as text, and writes its list, or serves an editor.
+// The main definitions are `EndsBy` and `ServesBy`: what was read and written, by how a run ended; `AskFor` says what
+// the words ask for. It stands on `listing` over `reconstruction`, `sheets`, `terms`, `lists`, on `sessions` and
+// `start_text`, and on `outside`.
 #![tactic(auto)]
 
 mod command;
 mod list;
+mod service;
 mod status;
+mod words;
 
 pub use command::run;
 pub use sheets::{SheetFault, read_sheet};
-pub use status::{Ending, Status};
+pub use status::{Ending, Serving, Status};
+pub use words::{Command, UsageFault, read_command};
 
 #[cfg(test)]
 mod run_tests;
+#[cfg(test)]
+mod serve_tests;
+#[cfg(test)]
+mod word_tests;

@@ -2,9 +2,11 @@ use crate::{Status, run};
 use lists::Items;
 use outside::{End, FaultPlan, MemSink, MemSource, SteadyShelf, SteadySink, SteadySource};
 use std::alloc::{AllocError, Global};
+use std::sync::Wait;
 
 /// Runs `list` over one end, with reads and writes of at most `most` bytes and these failing calls.
-fn listed(
+fn listed<R: Wait>(
+    rt: &R,
     alloc: Global,
     sheet: &str,
     most: usize,
@@ -30,7 +32,7 @@ fn listed(
         },
     ]?;
     let words = vec![in alloc; String::from_str(alloc, "list")?]?;
-    let status = run(alloc, words.as_slice(), &mut ends);
+    let status = run(rt, alloc, words.as_slice(), &mut ends);
     match ends.pop() {
         Some(end) => Ok((status, written(end))),
         None => Err(AllocError),
@@ -101,7 +103,7 @@ fn sheets_are_listed(rt: HostRuntime) -> Result<(), AllocError> {
     ];
     for (sheet, wanted) in table {
         for most in [1usize, 100_000] {
-            let (found, written) = listed(rt.alloc(), sheet, most, 0, 0)?;
+            let (found, written) = listed(&rt, rt.alloc(), sheet, most, 0, 0)?;
             assert_eq!(rt; found, status(0, 0, 0));
             assert_eq!(rt; written.as_slice(), wanted.as_bytes());
         }
@@ -113,7 +115,7 @@ fn sheets_are_listed(rt: HostRuntime) -> Result<(), AllocError> {
 #[test]
 fn faults_have_their_codes(rt: HostRuntime) -> Result<(), AllocError> {
     for read in [1u64, 2, 3] {
-        let (found, written) = listed(rt.alloc(), CALLS, 50, read, 0)?;
+        let (found, written) = listed(&rt, rt.alloc(), CALLS, 50, read, 0)?;
         assert_eq!(rt; found, status(4, 0, 0));
         assert!(rt; written.is_empty());
     }
@@ -122,11 +124,11 @@ fn faults_have_their_codes(rt: HostRuntime) -> Result<(), AllocError> {
         (2, "5 x\n25 f(x"),
         (3, "5 x\n25 f(x)\n45 f(f(x"),
     ] {
-        let (found, written) = listed(rt.alloc(), CALLS, 10, 0, write)?;
+        let (found, written) = listed(&rt, rt.alloc(), CALLS, 10, 0, write)?;
         assert_eq!(rt; found, status(5, 0, 0));
         assert_eq!(rt; written.as_slice(), wanted.as_bytes());
     }
-    let (found, written) = listed(rt.alloc(), "type int\nsub int short", 7, 0, 0)?;
+    let (found, written) = listed(&rt, rt.alloc(), "type int\nsub int short", 7, 0, 0)?;
     assert_eq!(rt; found, status(3, 3, 5));
     assert!(rt; written.is_empty());
     Ok(())
@@ -136,13 +138,15 @@ fn faults_have_their_codes(rt: HostRuntime) -> Result<(), AllocError> {
 #[test]
 fn words_and_ends_are_looked_at(rt: HostRuntime) -> Result<(), AllocError> {
     let alloc = rt.alloc();
-    let table: [(&[&str], usize, u64, u32); 6] = [
+    let table: [(&[&str], usize, u64, u32); 8] = [
         (&[], 1, 0, 1),
         (&["lists"], 1, 0, 1),
         (&["list", "list"], 1, 1, 1),
-        (&["serve", "list"], 2, 0, 1),
+        (&["serve", "list"], 2, 1, 1),
         (&["list"], 0, 0, 2),
         (&["list"], 2, 2, 2),
+        (&["serve"], 0, 0, 2),
+        (&["serve", "--start", "F"], 2, 2, 2),
     ];
     for (texts, count, place, cause) in table {
         let mut words = Vec::new(alloc);
@@ -160,7 +164,7 @@ fn words_and_ends_are_looked_at(rt: HostRuntime) -> Result<(), AllocError> {
             })?;
         }
         assert_eq!(rt;
-            run(alloc, words.as_slice(), &mut ends),
+            run(&rt, alloc, words.as_slice(), &mut ends),
             status(2, place, cause)
         );
         assert_eq!(rt; ends.len(), count);

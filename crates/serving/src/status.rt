@@ -1,5 +1,9 @@
 ghost use Rattle.std.specs.Prelude.{◌≡◌};
 ghost use Rattle.serving.specs.Runs.{status_of};
+ghost use Rattle.serving.specs.Services.{Tells, serving_status};
+
+use sessions::Ended;
+use start_text::StartFault;
 
 /// What the program answers: its exit code, and where and why. `end` is the number of the end, from 0.
 #[derive(Clone, Copy, Debug, PartialEq, Eq)]
@@ -10,7 +14,7 @@ pub struct Status {
     pub cause: u32,
 }
 
-/// How the run of a command over one end ended.
+/// How a run of `list` over one end ended.
 #[derive(Clone, Copy, Debug, PartialEq, Eq)]
 pub enum Ending {
     /// All was read and written.
@@ -22,6 +26,35 @@ pub enum Ending {
     /// The sink failed.
     WriteFault,
     OutOfMemory,
+}
+
+/// How a run of `serve` over one end ended.
+#[derive(Clone, Copy, Debug)]
+pub enum Serving {
+    /// A session was served, and ended so.
+    Session(Ended),
+    /// No session began: the line of the start text, 0 for the text itself and for the change of all its files, and
+    /// the number of the cause.
+    NotStarted(u32, u32),
+    /// No session began, since the shelf failed.
+    ShelfFault,
+    /// No session began, since memory was wanting.
+    OutOfMemory,
+}
+
+impl Serving {
+    /// What a fault of the start ends a run by.
+    pub(crate) fn of_fault(fault: &StartFault) -> Serving
+        ensures { Tells fault.now result }
+    {
+        if let StartFault::Failed = fault {
+            return Serving::ShelfFault;
+        }
+        match fault.number() {
+            Some(cause) => Serving::NotStarted(fault.place(), cause),
+            None => Serving::OutOfMemory,
+        }
+    }
 }
 
 impl Status {
@@ -65,6 +98,29 @@ impl Status {
             Ending::ReadFault => Status::plain(4),
             Ending::WriteFault => Status::plain(5),
             Ending::OutOfMemory => Status::plain(6),
+        }
+    }
+
+    /// The status of a run of `serve`.
+    #[tactic(auto, unfolding(crate::specs::Services::serving_status))]
+    pub fn of_serving(serving: Serving) -> Status
+        ensures { result ≡ serving_status serving }
+    {
+        match serving {
+            Serving::Session(ended) => Status {
+                code: ended.code,
+                end: 0,
+                place: ended.place,
+                cause: ended.cause,
+            },
+            Serving::NotStarted(line, cause) => Status {
+                code: 8,
+                end: 0,
+                place: line as u64,
+                cause,
+            },
+            Serving::ShelfFault => Status::plain(4),
+            Serving::OutOfMemory => Status::plain(6),
         }
     }
 }

@@ -1,111 +1,61 @@
-use Rattle.std.proofs.Common.{rules, tests, arith, ◌≡◌, ◌⊎◌, ◌≤◌, ◌==◌, ◌∙◌, sym, refl, ap, subst, map, length, get_or, Some, None, false}
+use Rattle.std.proofs.Common.{rules, ◌≡◌, ◌⊎◌, ◌∙◌, sym, refl, ap, subst, map, length, get_or, option_map, Some}
 use Rattle.std.specs.Prelude.{string_bytes, slice_set}
 use Rattle.outside.specs.Causes.{Rose}
-use Rattle.serving.specs.Runs.{words_status}
+use Rattle.serving.specs.Words.{list, serve, AskFor}
 use Rattle.serving.specs.declared.status.Status.{Status}
 use Rattle.serving.proofs.Endings.{complete, no-usage}
-use Rattle.serving.proofs.Usages.{usage-words, usage-none, usage-ends, usage-fits, not_both, head-is, same-holds, set-holds}
+use Rattle.serving.proofs.Ends.{head-is, no-one}
+use Rattle.serving.proofs.Served.{one-start, no-usage-served}
+use Rattle.serving.proofs.Usages.{wrong-words}
 use Rattle.serving.proofs.command.run.Goals as goal
 
-pub returns-in-Some-clause-usage_alone : goal.returns-in-Some-clause-usage_alone
-returns-in-Some-clause-usage_alone g c = λ _.
-    let said : words_status (map string_bytes c.args.words.now) ≡ Some c.in-Some.status = search rules in
-    rw (usage-words (map string_bytes c.args.words.now) (length c.args.ends.now.items) c.in-Some.status said) (search rules)
-
-pub returns-in-Some-clause-ending : goal.returns-in-Some-clause-ending
-returns-in-Some-clause-ending g c =
-    let said : words_status (map string_bytes c.args.words.now) ≡ Some c.in-Some.status = search rules in
-    rw (usage-words (map string_bytes c.args.words.now) (length c.args.ends.now.items) c.in-Some.status said) tt
-
-pub returns-in-Some-clause-faults_rise : goal.returns-in-Some-clause-faults_rise
-returns-in-Some-clause-faults_rise g c =
-    same-holds c.args.ends.now.items (λ e f. (g.S.Source.faults e.source ≤ g.S.Source.faults f.source) × (g.K.Sink.faults e.sink ≤ g.K.Sink.faults f.sink) × (g.H.Shelf.faults e.shelf ≤ g.H.Shelf.faults f.shelf)) (λ x. (omega arith, omega arith, omega arith))
-
-pub returns-in-Some-clause-shelf_stays : goal.returns-in-Some-clause-shelf_stays
-returns-in-Some-clause-shelf_stays g c = same-holds c.args.ends.now.items (λ e f. f.shelf ≡ e.shelf) (λ x. refl)
-
-pub returns-then-len-ne1-clause-usage_alone : goal.returns-then-len-ne1-clause-usage_alone
-returns-then-len-ne1-clause-usage_alone g c = λ _.
+pub returns-in-Err-clause-usage : goal.returns-in-Err-clause-usage
+returns-in-Err-clause-usage g c = λ status u.
     let ws = map string_bytes c.args.words.now in
-    let n = length c.args.ends.now.items in
-    let fits : words_status ws ≡ None = search rules in
-    let other : (n == 1) ≡ false = search (rules, tests) in
-    rw (usage-ends ws n fits other) (search rules)
+    (c.usage.ensures ∙ wrong-words ws (length c.args.ends.now.items) c.in-Err.fault.word status c.in-Err.ensures.command u, refl)
 
-pub returns-then-len-ne1-clause-ending : goal.returns-then-len-ne1-clause-ending
-returns-then-len-ne1-clause-ending g c =
+pub returns-in-Err-clause-ending : goal.returns-in-Err-clause-ending
+returns-in-Err-clause-ending g c = λ words one. absurd (c.in-Err.ensures.command.nothing list words)
+
+pub returns-in-Err-clause-serving : goal.returns-in-Err-clause-serving
+returns-in-Err-clause-serving g c = λ start words one. absurd (c.in-Err.ensures.command.nothing (serve start) words)
+
+pub returns-in-List-clause-usage_alone : goal.returns-in-List-clause-usage_alone
+returns-in-List-clause-usage_alone g c = λ two. absurd (no-usage c.list.result (sym (ap (λ (s : Status). s.code) c.of.ensures) ∙ two))
+
+pub returns-in-Serve-clause-usage_alone : goal.returns-in-Serve-clause-usage_alone
+returns-in-Serve-clause-usage_alone g c = λ two.
+    let l = c.serve.ensures.lasts in
+    let served = c.serve.ensures.serves l.0 l.1 l.2 l.3 in
+    absurd (no-usage-served c.serve.result _ _ _ served.0 (sym (ap (λ (s : Status). s.code) c.of_serving.ensures) ∙ two))
+
+pub returns-in-Serve-clause-serving : goal.returns-in-Serve-clause-serving
+returns-in-Serve-clause-serving g c = λ start words one.
     let ws = map string_bytes c.args.words.now in
-    let n = length c.args.ends.now.items in
-    let fits : words_status ws ≡ None = search rules in
-    let other : (n == 1) ≡ false = search (rules, tests) in
-    rw (usage-ends ws n fits other) tt
+    let told = option_map (λ n. n.now) c.in-Serve.start in
+    let asked : AskFor (serve told) ws = search rules in
+    let same : told ≡ start = one-start ws told start asked words in
+    (c.serve.result, c.of_serving.ensures, λ e f before after. rw (← same) (c.serve.ensures.serves e f before after))
 
-pub returns-then-len-ne1-clause-faults_rise : goal.returns-then-len-ne1-clause-faults_rise
-returns-then-len-ne1-clause-faults_rise g c =
-    same-holds c.args.ends.now.items (λ e f. (g.S.Source.faults e.source ≤ g.S.Source.faults f.source) × (g.K.Sink.faults e.sink ≤ g.K.Sink.faults f.sink) × (g.H.Shelf.faults e.shelf ≤ g.H.Shelf.faults f.shelf)) (λ x. (omega arith, omega arith, omega arith))
+pub returns-in-List-clause-ending : goal.returns-in-List-clause-ending
+returns-in-List-clause-ending g c = λ words one. (
+  c.list.result,
+  c.of.ensures,
+  λ e f before after.
+      let old : c.index_mut.result.now ≡ e = c.index_mut.ensures.value ∙ ap (λ xs. get_or xs 0 c.index_mut.result.now) before in
+      let new : c.list.new.end ≡ f = head-is c.list.new.end f (ap (λ xs. slice_set xs 0 c.list.new.end) (sym before) ∙ after) in
+      rw (← old, ← new) c.list.ensures.ending,
+)
 
-pub returns-then-len-ne1-clause-shelf_stays : goal.returns-then-len-ne1-clause-shelf_stays
-returns-then-len-ne1-clause-shelf_stays g c = same-holds c.args.ends.now.items (λ e f. f.shelf ≡ e.shelf) (λ x. refl)
+pub returns-in-Err-clause-complete : goal.returns-in-Err-clause-complete
+returns-in-Err-clause-complete g c = λ e f bytes parts before after words left sheet source sink. absurd (c.in-Err.ensures.command.nothing list words)
 
-pub returns-clause-faults_rise : goal.returns-clause-faults_rise
-returns-clause-faults_rise g c =
-    let was = c.index_mut.result.now in
-    let is = c.list.new.end in
-    let shelves : g.H.Shelf.faults was.shelf ≤ g.H.Shelf.faults is.shelf = rw c.list.ensures.shelf (omega arith) in
-    set-holds c.args.ends.now.items (λ e f. (g.S.Source.faults e.source ≤ g.S.Source.faults f.source) × (g.K.Sink.faults e.sink ≤ g.K.Sink.faults f.sink) × (g.H.Shelf.faults e.shelf ≤ g.H.Shelf.faults f.shelf)) was is
-    c.index_mut.ensures.value (λ x. (omega arith, omega arith, omega arith)) (c.list.ensures.later.0, c.list.ensures.later.1, shelves)
+pub returns-then-len-ne1-clause-complete : goal.returns-then-len-ne1-clause-complete
+returns-then-len-ne1-clause-complete g c = λ e f bytes parts before after words left sheet source sink.
+    absurd (no-one c.args.ends.now.items e before (search rules))
 
-pub returns-clause-shelf_stays : goal.returns-clause-shelf_stays
-returns-clause-shelf_stays g c = set-holds c.args.ends.now.items (λ e f. f.shelf ≡ e.shelf) c.index_mut.result.now c.list.new.end c.index_mut.ensures.value (λ x. refl) c.list.ensures.shelf
-
-pub returns-in-Some-clause-usage : goal.returns-in-Some-clause-usage
-returns-in-Some-clause-usage g c =
-    let said : words_status (map string_bytes c.args.words.now) ≡ Some c.in-Some.status = search rules in
-    rw (usage-words (map string_bytes c.args.words.now) (length c.args.ends.now.items) c.in-Some.status said) (refl, refl)
-
-pub returns-in-Some-clause-complete : goal.returns-in-Some-clause-complete
-returns-in-Some-clause-complete g c = λ e f bytes parts one other words left sheet source sink.
-    let ws = map string_bytes c.args.words.now in
-    let n = length c.args.ends.now.items in
-    let said : words_status ws ≡ Some c.in-Some.status = search rules in
-    absurd (not_both _ c.in-Some.status (usage-none ws n words (ap length one)) (usage-words ws n c.in-Some.status said))
-
-pub returns-then-len-ne1-clause-usage : goal.returns-then-len-ne1-clause-usage
-returns-then-len-ne1-clause-usage g c =
-    let ws = map string_bytes c.args.words.now in
-    let n = length c.args.ends.now.items in
-    let fits : words_status ws ≡ None = search rules in
-    let other : (n == 1) ≡ false = search (rules, tests) in
-    rw (usage-ends ws n fits other) (search rules, refl)
-
-pub returns-clause-usage : goal.returns-clause-usage
-returns-clause-usage g c =
-    let ws = map string_bytes c.args.words.now in
-    let n = length c.args.ends.now.items in
-    let fits : words_status ws ≡ None = search rules in
-    let one : n ≡ 1 = search (rules, tests) in
-    rw (usage-fits ws n fits one) tt
-
-pub returns-clause-usage_alone : goal.returns-clause-usage_alone
-returns-clause-usage_alone g c = λ two. absurd (no-usage c.list.result (sym (ap (λ (s : Status). s.code) c.of.ensures) ∙ two))
-
-pub returns-clause-ending : goal.returns-clause-ending
-returns-clause-ending g c =
-    let ws = map string_bytes c.args.words.now in
-    let n = length c.args.ends.now.items in
-    let fits : words_status ws ≡ None = search rules in
-    let one : n ≡ 1 = search (rules, tests) in
-    rw (usage-fits ws n fits one) (
-      c.list.result,
-      c.of.ensures,
-      λ e f before after.
-          let old : c.index_mut.result.now ≡ e = c.index_mut.ensures.value ∙ ap (λ xs. get_or xs 0 c.index_mut.result.now) before in
-          let new : c.list.new.end ≡ f = head-is c.list.new.end f (ap (λ xs. slice_set xs 0 c.list.new.end) (sym before) ∙ after) in
-          rw (← old, ← new) c.list.ensures.ending,
-    )
-
-pub returns-clause-complete : goal.returns-clause-complete
-returns-clause-complete g c = λ e f bytes parts before after words left sheet source sink.
+pub returns-in-List-clause-complete : goal.returns-in-List-clause-complete
+returns-in-List-clause-complete g c = λ e f bytes parts before after words left sheet source sink.
     let was = c.index_mut.result.now in
     let is = c.list.new.end in
     let old : was ≡ e = c.index_mut.ensures.value ∙ ap (λ xs. get_or xs 0 was) before in

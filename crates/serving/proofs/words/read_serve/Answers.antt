@@ -1,0 +1,12 @@
+use Rattle.std.proofs.Common.{rules, ◌≡◌, ◌≢◌, ◌∷◌, ◌++◌, ℕ, List}
+use Rattle.std.specs.Prelude.{codes, string_bytes}
+use Rattle.serving.proofs.Commands.{differ, option-wrong}
+use Rattle.serving.proofs.words.read_serve.Goals as goal
+
+pub returns-in-None : goal.returns-in-None
+returns-in-None c =
+    let split : c.args.rest.now ≡ c.in-Some.option.now ∷ c.in-Some.after.now = search rules in
+    let bytes = string_bytes c.in-Some.option.now in
+    let apart : bytes ≢ codes "--start" = search (rules, differ) in
+    let joined : (file : List ℕ) → bytes ≢ codes "--start=" ++ file = search rules in
+    rw split (option-wrong _ _ apart joined)

@@ -1,0 +1,123 @@
+-- What a run of `serve` gives its one client, and the status that it answers.
+use Rattle.std.specs.Prelude.{◌≡◌, ◌≤◌, ◌==◌, ℕ, List, [], ◌∷◌, Option, Some, None, if◌then◌else◌}
+use Rattle.outside.specs.Causes.{Rose}
+use Rattle.outside.specs.declared.end.End.{End}
+use Rattle.outside.specs.declared.shelf.HeldFile.{HeldFile}
+use Rattle.known_classes.specs.declared.summary.ClassSummary.{ClassSummary}
+use Rattle.decl_index.specs.declared.change.Change.{Change}
+use Rattle.decl_index.specs.History.{AreClasses}
+use Rattle.version_board.specs.declared.snapshot.Snapshot.{Snapshot}
+use Rattle.version_board.specs.Versions.{IsVersion}
+use Rattle.start_text.specs.declared.fault.StartFault.{StartFault}
+use Rattle.start_text.specs.declared.fault.StartFault.TheVariants as start_fault
+use Rattle.start_text.specs.Faults.{place_of, number_of}
+use Rattle.start_text.specs.Starts.{publication, IsStart, IsFaultOf}
+use Rattle.answers.specs.Sessions.{Seen}
+use Rattle.answers.specs.Sessions as new
+use Rattle.sessions.specs.declared.ending.Ended.{Ended}
+use Rattle.sessions.specs.Served.{ServesWith}
+use Rattle.serving.specs.declared.status.Status.{Status}
+use Rattle.serving.specs.declared.status.Serving.{Serving}
+use Rattle.serving.specs.declared.status.Serving.TheVariants.{Session, NotStarted, ShelfFault, OutOfMemory}
+
+-- What is seen of an end: the bytes left to read and those written, the files held, where these are told, and how often its source,
+-- its sink and its shelf have failed.
+pub record EndView : Type 0 where
+  pub left : Option (List ℕ)
+  pub written : Option (List ℕ)
+  pub held : Option (List HeldFile)
+  pub read_faults : ℕ
+  pub write_faults : ℕ
+  pub load_faults : ℕ
+
+abbrev pub view_of : {S K H : Type 0} → (S → Option (List ℕ)) → (K → Option (List ℕ)) → (H → Option (List HeldFile)) → (S → ℕ) → (K → ℕ) → (H → ℕ) → End S K H → EndView
+view_of left written holds reads writes loads e = record {
+  left = left e.source;
+  written = written e.sink;
+  held = holds e.shelf;
+  read_faults = reads e.source;
+  write_faults = writes e.sink;
+  load_faults = loads e.shelf;
+}
+
+-- What no run changes or takes back: the files held stay, and no count of faults falls.
+pub record Lasts (e f : EndView) : Type 0 where
+  pub held : f.held ≡ e.held
+  pub reads : e.read_faults ≤ f.read_faults
+  pub writes : e.write_faults ≤ f.write_faults
+  pub loads : e.load_faults ≤ f.load_faults
+
+-- The changes of a version that has at most one, which puts its classes in.
+abbrev pub history_of : Snapshot → List Change
+history_of s = if s.number == 0 then [] else publication s.index.classes ∷ []
+
+-- The changes that a server starts at. Without a start text there are none. With one there is one, which puts in the classes that
+-- its files leave: of two of one name that of the later line. Where the shelf tells its files they are those of the text's lines.
+abbrev pub IsFirstHistory : Option (List ℕ) → Option (List HeldFile) → List Change → Type 0
+IsFirstHistory None held history = history ≡ []
+IsFirstHistory (Some name) held history = (read left : List ClassSummary) × (history ≡ publication left ∷ []) × AreClasses (publication read ∷ []) left
+    × ((files : List HeldFile) → held ≡ Some files → IsStart files name read)
+
+-- Nothing is wrong with the start text, if there is one.
+abbrev pub IsSound : Option (List ℕ) → Option (List HeldFile) → Type 0
+IsSound start held = (name : List ℕ) (files : List HeldFile) (fault : StartFault) → start ≡ Some name → held ≡ Some files → IsFaultOf files name fault → ⊥
+
+-- The version is that at which a server starts.
+pub record IsFirst (start : Option (List ℕ)) (held : Option (List HeldFile)) (s : Snapshot) : Type 0 where
+  pub version : IsVersion (history_of s) s
+  pub first : IsFirstHistory start held (history_of s)
+  pub sound : IsSound start held
+
+-- This is wrong with the start text, its files or their change, and nothing else is.
+pub record IsStartFault (start : Option (List ℕ)) (held : Option (List HeldFile)) (fault : StartFault) : Type 0 where
+  pub name : List ℕ
+  pub named : start ≡ Some name
+  pub wrong : (files : List HeldFile) → held ≡ Some files → IsFaultOf files name fault
+  pub alone : (files : List HeldFile) (other : StartFault) → held ≡ Some files → IsFaultOf files name other → other ≡ fault
+
+-- A new session was served over the version of those changes: what was written are the frames of the replies to the frames read,
+-- and the headline holds of them. A failed read or write is that of its own source or sink.
+pub record HasServed (start : Option (List ℕ)) (e f : EndView) (ended : Ended) : Type 0 where
+  pub history : List Change
+  pub first : IsFirstHistory start e.held history
+  pub sound : IsSound start e.held
+  pub next : Seen
+  pub serves : ServesWith history new.start next e.left e.written f.written ended
+  pub read_cause : ended.code ≡ 4 → Rose e.read_faults f.read_faults
+  pub write_cause : ended.code ≡ 5 → Rose e.write_faults f.write_faults
+
+-- The start text is wrong, by the fault of this line and number.
+pub record HasNoStart (start : Option (List ℕ)) (held : Option (List HeldFile)) (place number : ℕ) : Type 0 where
+  pub fault : StartFault
+  pub is : IsStartFault start held fault
+  pub line : place ≡ place_of fault
+  pub cause : number_of fault ≡ Some number
+
+-- How a run of `serve` ended, by what is seen of its end before and after.
+abbrev pub ServesBy : Serving → Option (List ℕ) → EndView → EndView → Type 0
+ServesBy (Session ended) start e f = HasServed start e f ended
+ServesBy (NotStarted line cause) start e f = HasNoStart start e.held line cause
+ServesBy ShelfFault start e f = Rose e.load_faults f.load_faults
+ServesBy OutOfMemory start e f = Unit {0}
+
+-- No session began.
+abbrev pub HasNotBegun : Serving → Type 0
+HasNotBegun (Session ended) = ⊥
+HasNotBegun (NotStarted line cause) = Unit {0}
+HasNotBegun ShelfFault = Unit {0}
+HasNotBegun OutOfMemory = Unit {0}
+
+-- What a fault of the start ends a run by.
+abbrev pub Tells : StartFault → Serving → Type 0
+Tells fault (Session ended) = ⊥
+Tells fault (NotStarted line cause) = (line ≡ place_of fault) × (number_of fault ≡ Some cause)
+Tells fault ShelfFault = fault ≡ start_fault.Failed
+Tells fault OutOfMemory = number_of fault ≡ None
+
+-- The status of a run of `serve`: that of its session; 8 with the line and the number of what is wrong with the start text; 4 for
+-- its shelf, and 6 for want of memory, before a session began.
+unfoldable pub serving_status : Serving → Status
+serving_status (Session ended) = record { code = ended.code; end = 0; place = ended.place; cause = ended.cause }
+serving_status (NotStarted line cause) = record { code = 8; end = 0; place = line; cause = cause }
+serving_status ShelfFault = record { code = 4; end = 0; place = 0; cause = 0 }
+serving_status OutOfMemory = record { code = 6; end = 0; place = 0; cause = 0 }
