@@ -10,8 +10,8 @@ use Rattle.graphs.specs.Marking.{Work, unmark}
 use Rattle.graphs.proofs.Marks.{IsMarked, both}
 
 -- each marked node was found or waits, and each found node is marked
-pub record AreFound (marks : List Bool) (found waiting : List ℕ) : Type 0 where
-  pub all : (k : ℕ) → is_marked marks k ≡ true → Contains found k ⊎ Contains waiting k
+pub record AreFound (marks : List Bool) (found worklist : List ℕ) : Type 0 where
+  pub all : (k : ℕ) → is_marked marks k ≡ true → Contains found k ⊎ Contains worklist k
   pub marked : (k : ℕ) → Contains found k → is_marked marks k ≡ true
 
 pub found_first : (w v : Work) (bs : List ℕ) → IsMarked w bs v → ((k : ℕ) → is_marked w.0 k ≡ false) → AreFound v.0 [] v.1
@@ -23,12 +23,12 @@ found_first w v bs m free = record {
   marked = λ k h. none_in k h;
 }
 
-pub found_more : (ms : List Bool) (found old waiting : List ℕ) (node : ℕ) (bs : List ℕ) (v : Work) → AreFound ms found old → old ≡ waiting ++ node ∷ [] → is_marked ms node ≡ true → IsMarked (ms, waiting) bs v → AreFound v.0 (found ++ node ∷ []) v.1
-found_more ms found old waiting node bs v f e at m = record {
+pub found_more : (ms : List Bool) (found old worklist : List ℕ) (node : ℕ) (bs : List ℕ) (v : Work) → AreFound ms found old → old ≡ worklist ++ node ∷ [] → is_marked ms node ≡ true → IsMarked (ms, worklist) bs v → AreFound v.0 (found ++ node ∷ []) v.1
+found_more ms found old worklist node bs v f e at m = record {
   all = λ k h. elim (m.only k h) [
     | inl a ↦ elim (f.all k a) [
       | inl c ↦ inl (Contains-append_left found (node ∷ []) k c)
-      | inr c ↦ elim (Contains-append_cases waiting (node ∷ []) k (subst (λ l. Contains l k) e c)) [
+      | inr c ↦ elim (Contains-append_cases worklist (node ∷ []) k (subst (λ l. Contains l k) e c)) [
         | inl d ↦ inr (m.stays k d)
         | inr d ↦ inl (Contains-append_right found (node ∷ []) k d)
       ]
@@ -41,8 +41,8 @@ found_more ms found old waiting node bs v f e at m = record {
   ];
 }
 
-pub found_all : (g : List (List ℕ)) (from : ℕ) (ms : List Bool) (found waiting : List ℕ) → AreFound ms found waiting → AreMarked g from ms → waiting ≡ [] → (b : ℕ) → (Contains found b → Reaches g from b) × (Reaches g from b → Contains found b)
-found_all g from ms found waiting f m e b = (
+pub found_all : (g : List (List ℕ)) (from : ℕ) (ms : List Bool) (found worklist : List ℕ) → AreFound ms found worklist → AreMarked g from ms → worklist ≡ [] → (b : ℕ) → (Contains found b → Reaches g from b) × (Reaches g from b → Contains found b)
+found_all g from ms found worklist f m e b = (
   (λ h. (m b).0 (f.marked b h)),
   (λ r. elim (f.all b ((m b).1 r)) [
     | inl a ↦ a
@@ -98,8 +98,8 @@ by_mark : (t : Bool) (ms : List Bool) (bs : List ℕ) (k : ℕ) → is_marked ms
 by_mark true ms bs k e h = unmarked bs ms k (h e)
 by_mark false ms bs k e h = stays_free bs ms k e
 
-pub free_again : (n : ℕ) (ms ns : List Bool) (found waiting : List ℕ) → AreFound ms found waiting → waiting ≡ [] → length ns ≡ n → ns ≡ unmark ms found → AreFree n ns
-free_again n ms ns found waiting f none long e = (
+pub free_again : (n : ℕ) (ms ns : List Bool) (found worklist : List ℕ) → AreFound ms found worklist → worklist ≡ [] → length ns ≡ n → ns ≡ unmark ms found → AreFree n ns
+free_again n ms ns found worklist f none long e = (
   long,
   λ k. rw e (by_mark (is_marked ms k) ms found k refl (λ h. elim (f.all k h) [
     | inl a ↦ a

@@ -121,12 +121,12 @@ both true h e = absurd cc
 both false h e = absurd cc
 
 -- what the search keeps: marked nodes are reached, and a marked node waits or has only marked successors
-pub record IsSearch (g : List (List ℕ)) (from : ℕ) (marks : List Bool) (waiting : List ℕ) : Type 0 where
+pub record IsSearch (g : List (List ℕ)) (from : ℕ) (marks : List Bool) (worklist : List ℕ) : Type 0 where
   pub long : length marks ≡ length g
   pub start : (b : ℕ) → Contains (edges g from) b → is_marked marks b ≡ true
   pub sound : (k : ℕ) → is_marked marks k ≡ true → Reaches g from k
-  pub waits : (k : ℕ) → Contains waiting k → is_marked marks k ≡ true
-  pub closed : (k : ℕ) → is_marked marks k ≡ true → Contains waiting k ⊎ ((b : ℕ) → Contains (edges g k) b → is_marked marks b ≡ true)
+  pub waits : (k : ℕ) → Contains worklist k → is_marked marks k ≡ true
+  pub closed : (k : ℕ) → is_marked marks k ≡ true → Contains worklist k ⊎ ((b : ℕ) → Contains (edges g k) b → is_marked marks b ≡ true)
 
 pub begins : (g : List (List ℕ)) (from : ℕ) (w v : Work) → IsMarked w (edges g from) v → length w.0 ≡ length g → ((k : ℕ) → is_marked w.0 k ≡ false) → w.1 ≡ [] → IsSearch g from v.0 v.1
 begins g from w v m long free none = record {
@@ -146,9 +146,9 @@ begins g from w v m long free none = record {
   ];
 }
 
-pub goes_on : (g : List (List ℕ)) (from node : ℕ) (ms : List Bool) (old waiting : List ℕ) (v : Work) → IsSearch g from ms old → old ≡ waiting ++ node ∷ [] → IsMarked (ms, waiting) (edges g node) v → IsSearch g from v.0 v.1
-goes_on g from node ms old waiting v s e m =
-    let at : is_marked ms node ≡ true = s.waits node (rw e (Contains-append_right waiting (node ∷ []) node (first_in node []))) in
+pub goes_on : (g : List (List ℕ)) (from node : ℕ) (ms : List Bool) (old worklist : List ℕ) (v : Work) → IsSearch g from ms old → old ≡ worklist ++ node ∷ [] → IsMarked (ms, worklist) (edges g node) v → IsSearch g from v.0 v.1
+goes_on g from node ms old worklist v s e m =
+    let at : is_marked ms node ≡ true = s.waits node (rw e (Contains-append_right worklist (node ∷ []) node (first_in node []))) in
     record {
       long = m.long ∙ s.long;
       start = λ b h. m.kept b (s.start b h);
@@ -157,12 +157,12 @@ goes_on g from node ms old waiting v s e m =
         | inr a ↦ then-step (IsEdge g) from node k (s.sound node at) a.0
       ];
       waits = λ k h. elim (m.waits k h) [
-        | inl a ↦ m.kept k (s.waits k (rw e (Contains-append_left waiting (node ∷ []) k a)))
+        | inl a ↦ m.kept k (s.waits k (rw e (Contains-append_left worklist (node ∷ []) k a)))
         | inr a ↦ m.here k a
       ];
       closed = λ k h. elim (m.only k h) [
         | inl a ↦ elim (s.closed k a) [
-          | inl c ↦ elim (Contains-append_cases waiting (node ∷ []) k (subst (λ l. Contains l k) e c)) [
+          | inl c ↦ elim (Contains-append_cases worklist (node ∷ []) k (subst (λ l. Contains l k) e c)) [
             | inl d ↦ inl (m.stays k d)
             | inr d ↦ inr (λ b f. m.here b (subst (λ n. Contains (edges g n) b) (sym (in-one k node d)) f))
           ]
@@ -177,8 +177,8 @@ unfolding IsPathBy
 all_marked g ms a [] b closed start h = start b h
 all_marked g ms a (c ∷ cs) b closed start h = all_marked g ms c cs b closed (λ d e. closed c d (start c h.0) e) h.1
 
-pub ends : (g : List (List ℕ)) (from : ℕ) (ms : List Bool) (waiting : List ℕ) → IsSearch g from ms waiting → waiting ≡ [] → AreMarked g from ms
-ends g from ms waiting s none b = (
+pub ends : (g : List (List ℕ)) (from : ℕ) (ms : List Bool) (worklist : List ℕ) → IsSearch g from ms worklist → worklist ≡ [] → AreMarked g from ms
+ends g from ms worklist s none b = (
   s.sound b,
   λ r. all_marked g ms from r.0 b (λ k c h e. elim (s.closed k h) [
     | inl a ↦ none_in k (subst (λ l. Contains l k) none a)
@@ -206,5 +206,5 @@ none_marked zero (suc k) = refl
 none_marked (suc n) zero = refl
 none_marked (suc n) (suc k) = none_marked n k
 
-pub smaller : (ms : List Bool) (old waiting bs : List ℕ) (node : ℕ) (v : Work) → IsMarked (ms, waiting) bs v → old ≡ waiting ++ node ∷ [] → free v.0 + length v.1 < free ms + length old
-smaller ms old waiting bs node v m e = omega (arith, m.less, length_push waiting node, ap length e)
+pub smaller : (ms : List Bool) (old worklist bs : List ℕ) (node : ℕ) (v : Work) → IsMarked (ms, worklist) bs v → old ≡ worklist ++ node ∷ [] → free v.0 + length v.1 < free ms + length old
+smaller ms old worklist bs node v m e = omega (arith, m.less, length_push worklist node, ap length e)

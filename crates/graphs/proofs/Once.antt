@@ -86,27 +86,27 @@ fresh-is bs w v l e = subst (IsFresh w) (sym e) (row-fresh bs w l)
 -- Each node was found once or waits once.
 pub record AreApart (seen todo : List ℕ) : Type 0 where
   pub found : AreOnce seen
-  pub waiting : AreOnce todo
+  pub worklist : AreOnce todo
   pub apart : (k : ℕ) → Contains seen k → Contains todo k → ⊥
 
 pub apart-first : (w v : Work) → IsFresh w v → w.1 ≡ [] → AreApart [] v.1
 apart-first w v f e = record {
   found = once-none;
-  waiting = f.once (λ k h. none_in k (subst (λ l. Contains l k) e h)) (subst AreOnce (sym e) once-none);
+  worklist = f.once (λ k h. none_in k (subst (λ l. Contains l k) e h)) (subst AreOnce (sym e) once-none);
   apart = λ k h g. none_in k h;
 }
 
-pub apart-more : (ms : List Bool) (found old waiting : List ℕ) (node : ℕ) (v : Work) → AreApart found old → old ≡ waiting ++ node ∷ [] → ((k : ℕ) → Contains old k → is_marked ms k ≡ true) → ((k : ℕ) → Contains found k → is_marked ms k ≡ true) → IsFresh (ms, waiting) v → AreApart (found ++ node ∷ []) v.1
-apart-more ms found old waiting node v a e waits marks f =
-    let here : Contains old node = rw e (Contains-append_right waiting (node ∷ []) node (first_in node [])) in
-    let once : AreOnce (waiting ++ node ∷ []) = subst AreOnce e a.waiting in
+pub apart-more : (ms : List Bool) (found old worklist : List ℕ) (node : ℕ) (v : Work) → AreApart found old → old ≡ worklist ++ node ∷ [] → ((k : ℕ) → Contains old k → is_marked ms k ≡ true) → ((k : ℕ) → Contains found k → is_marked ms k ≡ true) → IsFresh (ms, worklist) v → AreApart (found ++ node ∷ []) v.1
+apart-more ms found old worklist node v a e waits marks f =
+    let here : Contains old node = rw e (Contains-append_right worklist (node ∷ []) node (first_in node [])) in
+    let once : AreOnce (worklist ++ node ∷ []) = subst AreOnce e a.worklist in
     record {
       found = once-push found node a.found (λ h. a.apart node h here);
-      waiting = f.once (λ k h. waits k (rw e (Contains-append_left waiting (node ∷ []) k h))) (once-first waiting node once);
+      worklist = f.once (λ k h. waits k (rw e (Contains-append_left worklist (node ∷ []) k h))) (once-first worklist node once);
       apart = λ k h g. elim (f.fresh k g) [
         | inl w ↦ elim (Contains-append_cases found (node ∷ []) k h) [
-          | inl c ↦ a.apart k c (rw e (Contains-append_left waiting (node ∷ []) k w))
-          | inr c ↦ once-last waiting node once (subst (λ n. Contains waiting n) (sym (in-one k node c)) w)
+          | inl c ↦ a.apart k c (rw e (Contains-append_left worklist (node ∷ []) k w))
+          | inr c ↦ once-last worklist node once (subst (λ n. Contains worklist n) (sym (in-one k node c)) w)
         ]
         | inr free ↦ elim (Contains-append_cases found (node ∷ []) k h) [
           | inl c ↦ both (is_marked ms k) (marks k c) free

@@ -48,17 +48,17 @@ pub fn free_marks(alloc: Global, graph: &[Items<usize>]) -> Result<Vec<bool>, Al
     Ok(Vec::from_elem(alloc, false, graph.len())?)
 }
 
-/// Marks a node and lets it wait, if it isn't marked.
+/// Marks a node and puts it on the worklist, if it isn't marked.
 #[tactic(auto, unfolding(crate::specs::Marking::mark))]
-fn mark(marks: &mut Vec<bool>, waiting: &mut Vec<usize>, node: usize) -> Result<(), AllocError>
+fn mark(marks: &mut Vec<bool>, worklist: &mut Vec<usize>, node: usize) -> Result<(), AllocError>
     requires { node < length marks.old.items }
-    ensures work { OnOk result ((marks.new.items, waiting.new.items) ≡ mark (marks.old.items, waiting.old.items) node) }
+    ensures work { OnOk result ((marks.new.items, worklist.new.items) ≡ mark (marks.old.items, worklist.old.items) node) }
     ensures long { length marks.new.items ≡ length marks.old.items }
 {
     if marks[node] {
         return Ok(());
     }
-    waiting.push(node)?;
+    worklist.push(node)?;
     marks[node] = true;
     Ok(())
 }
@@ -66,15 +66,15 @@ fn mark(marks: &mut Vec<bool>, waiting: &mut Vec<usize>, node: usize) -> Result<
 /// Marks the nodes of a row.
 fn mark_row(
     marks: &mut Vec<bool>,
-    waiting: &mut Vec<usize>,
+    worklist: &mut Vec<usize>,
     nodes: &[usize],
 ) -> Result<(), AllocError>
     requires { (b : ℕ) → Contains nodes.now b → b < length marks.old.items }
-    ensures work { OnOk result ((marks.new.items, waiting.new.items) ≡ mark_row (marks.old.items, waiting.old.items) nodes.now) }
+    ensures work { OnOk result ((marks.new.items, worklist.new.items) ≡ mark_row (marks.old.items, worklist.old.items) nodes.now) }
     ensures long { length marks.new.items ≡ length marks.old.items }
 {
     for node in nodes {
-        mark(marks, waiting, *node)?;
+        mark(marks, worklist, *node)?;
     }
     Ok(())
 }
@@ -98,10 +98,10 @@ pub fn reached(alloc: Global, graph: &[Items<usize>], from: usize) -> Result<Vec
     ensures exact { IfOk result (λ marks. AreMarked graph.now from marks.items) }
 {
     let mut marks = Vec::from_elem(alloc, false, graph.len())?;
-    let mut waiting = Vec::new(alloc);
-    mark_row(&mut marks, &mut waiting, row(graph, from))?;
-    while let Some(node) = waiting.pop() {
-        mark_row(&mut marks, &mut waiting, row(graph, node))?;
+    let mut worklist = Vec::new(alloc);
+    mark_row(&mut marks, &mut worklist, row(graph, from))?;
+    while let Some(node) = worklist.pop() {
+        mark_row(&mut marks, &mut worklist, row(graph, node))?;
     }
     Ok(marks)
 }
@@ -121,12 +121,12 @@ pub fn ancestors(
     ensures distinct { IfOk result (λ nodes. AllPairs (λ a b. a ≢ b) nodes.items) }
     ensures free { OnOk result (AreFree (length graph.now) marks.new.items) }
 {
-    let mut waiting = Vec::new(alloc);
+    let mut worklist = Vec::new(alloc);
     let mut found = Vec::new(alloc);
-    mark_row(marks, &mut waiting, row(graph, from))?;
-    while let Some(node) = waiting.pop() {
+    mark_row(marks, &mut worklist, row(graph, from))?;
+    while let Some(node) = worklist.pop() {
         found.push(node)?;
-        mark_row(marks, &mut waiting, row(graph, node))?;
+        mark_row(marks, &mut worklist, row(graph, node))?;
     }
     unmark(marks, &found);
     Ok(found)
