@@ -1,6 +1,6 @@
 -- Reading the parts after the pool from left to right, each index with its place in the file. A place is the length of
 -- the file, less the bytes that are left.
-use Rattle.std.specs.Prelude.{ℕ, zero, suc, ◌-◌, List, [], ◌∷◌, length, Result, Ok, Err, ◌==◌}
+use Rattle.std.specs.Prelude.{ℕ, zero, suc, ◌-◌, List, [], ◌∷◌, length, Result, Ok, ◌==◌}
 use Rattle.class_pool.specs.declared.fault.ClassFault.{ClassFault}
 use Rattle.class_pool.specs.declared.fault.ClassCause.TheVariants.{Extra}
 use Rattle.class_pool.specs.Reading.{◌>>=◌, number_at, block_at, need}
@@ -99,8 +99,3 @@ body_at total bytes = do
 -- The bytes after a part.
 abbrev pub rest_of : {X : Type 0} → X × List ℕ → List ℕ
 rest_of x = x.1
-
--- What was read, by a function of it.
-abbrev pub on_value : {A B : Type 0} → (A → B) → Result A ClassFault → Result B ClassFault
-on_value f (Ok x) = Ok (f x)
-on_value f (Err e) = Err e

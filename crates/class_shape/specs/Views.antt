@@ -1,6 +1,6 @@
 -- How the definitions see the reader's own structures.
-use Rattle.class_shape.specs.declared.lists_read.Lists.{Lists}
-use Rattle.class_shape.specs.declared.lists_read.Body.{Body}
+use Rattle.class_shape.specs.declared.tables.Lists.{Lists}
+use Rattle.class_shape.specs.declared.tables.Body.{Body}
 use Rattle.class_shape.specs.Reading.{ListsSeen, BodySeen}
 
 abbrev pub lists_view : Lists → ListsSeen

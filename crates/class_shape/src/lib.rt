@@ -5,12 +5,12 @@
 #![tactic(auto)]
 
 mod laws;
-mod lists_meant;
-mod lists_read;
-mod meaning;
 mod parts;
 mod reader;
+mod resolved;
+mod resolved_lists;
 mod shapes;
+mod tables;
 mod texts;
 
 pub use laws::{fits_or_faults, layout_laws, one_shape};

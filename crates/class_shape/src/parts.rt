@@ -1,6 +1,6 @@
 ghost use Rattle.std.specs.Prelude.{◌≡◌, ◌<◌, ◌≤◌, ◌-◌, ◌+◌, length, IfOk};
-ghost use Rattle.class_pool.specs.Reading.{Gives};
-ghost use Rattle.class_shape.specs.Reading.{rest_of, on_value, index_at, own_at, attribute_at, member_at, row_at, many_at};
+ghost use Rattle.class_pool.specs.Reading.{on_ok, Gives};
+ghost use Rattle.class_shape.specs.Reading.{rest_of, index_at, own_at, attribute_at, member_at, row_at, many_at};
 
 use class_pool::{ClassFault, block_of, u16_at, u32_at};
 use std::marker::Model;
@@ -93,7 +93,7 @@ pub fn attribute_of(total: u32, bytes: &[u8]) -> Result<(AttributeAt<'_>, &[u8])
 fn pass_attributes(total: u32, count: u16, bytes: &[u8]) -> Result<&[u8], ClassFault>
     requires { length bytes.now ≤ total }
     ensures shorter { IfOk result (λ x. length x.now ≤ length bytes.now) }
-    ensures exact { Gives (λ x. x.now) result (on_value rest_of (many_at (attribute_at total) count bytes.now)) }
+    ensures exact { Gives (λ x. x.now) result (on_ok rest_of (many_at (attribute_at total) count bytes.now)) }
 {
     let mut rest = bytes;
     for _ in 0..count {

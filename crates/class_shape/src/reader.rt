@@ -9,10 +9,10 @@ ghost use Rattle.class_shape.specs.Meaning.{shape_of, own_names, list_shapes};
 ghost use Rattle.class_shape.specs.Views.{body_view};
 ghost use Rattle.class_shape.specs.Violations.{shape_read, first_violation};
 
-use crate::lists_meant::{all_rows, class_names, member_shapes};
-use crate::lists_read::{Body, body_of};
-use crate::meaning::{class_name, class_or_none};
+use crate::resolved::{class_name, class_or_none};
+use crate::resolved_lists::{all_rows, class_names, member_shapes};
 use crate::shapes::{ClassShape, MemberKind};
+use crate::tables::{Body, body_of};
 use crate::texts::are_texts_within;
 use class_pool::{ClassFault, Pool, no_memory, read_pool};
 use std::alloc::Global;

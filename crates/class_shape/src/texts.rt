@@ -1,6 +1,6 @@
-use crate::lists_meant::is_inner_classes;
-use crate::lists_read::Body;
 use crate::parts::{AttributeAt, IndexAt, MemberAt};
+use crate::resolved_lists::is_inner_classes;
+use crate::tables::Body;
 use byteorder::{BigEndian, ByteOrder};
 use class_pool::Pool;
 

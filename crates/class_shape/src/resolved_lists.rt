@@ -5,10 +5,10 @@ ghost use Rattle.class_shape.specs.Shapes.{inner_classes};
 ghost use Rattle.class_shape.specs.Reading.{counted_at, row_at};
 ghost use Rattle.class_shape.specs.Meaning.{each, joined, index_name, member_shape, row_shape, rows_in, inner_rows, attribute_rows, rows_to_end};
 
-use crate::lists_read::counted_rows;
-use crate::meaning::{class_name, fault, member_shape, row_shape, text_use};
 use crate::parts::{AttributeAt, IndexAt, MemberAt, RowAt};
+use crate::resolved::{class_name, fault, member_shape, row_shape, text_use};
 use crate::shapes::{InnerRow, MemberKind, MemberShape};
+use crate::tables::counted_rows;
 use class_pool::{ClassCause, ClassFault, Pool, no_memory};
 use lists::{Items, Text};
 use std::alloc::Global;
@@ -91,6 +91,7 @@ fn inner_rows(
     row_shapes(alloc, pool, &rows)
 }
 
+/// Whether an attribute of this name is `InnerClasses` (JVMS 4.7.6).
 pub fn is_inner_classes(name: &[u8]) -> bool
     ensures { result ≡ bytes_eq name.now inner_classes }
 {

@@ -1,7 +1,7 @@
 use Rattle.std.proofs.Common.{rules}
 use Rattle.class_shape.specs.Meaning.{member_shape}
 use Rattle.class_shape.proofs.Loops.{each_more, each_ends, each_done}
-use Rattle.class_shape.proofs.lists_meant.member_shapes.Goals as goal
+use Rattle.class_shape.proofs.resolved_lists.member_shapes.Goals as goal
 
 pub returns-in_err-shape : goal.returns-in_err-shape
 returns-in_err-shape c = search (rules, each_ends (member_shape c.args.pool.now.entries c.args.kind) c.loop-i.i _ c.loop-i.shapes c.args.members.now c.in_err-shape.field-0.0 c.loop-i-test.true c.in_err-shape.ensures c.loop-i.invariant)

@@ -11,6 +11,7 @@ use lists::Text;
 use std::alloc::{AllocError, Global};
 use type_names::{is_internal_name, read_field, read_method};
 
+/// The violation of this cause at a place of the file.
 pub fn fault(at: u32, cause: ClassCause) -> ClassFault
     ensures { result ≡ record { at = at; cause = cause } }
 {

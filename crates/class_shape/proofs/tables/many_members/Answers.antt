@@ -2,7 +2,7 @@ use Rattle.std.proofs.Common.{arith}
 use Rattle.std.proofs.lemmas.Result.{err_from_is_err_and}
 use Rattle.class_shape.specs.Reading.{member_at}
 use Rattle.class_shape.proofs.Loops.{one_more, one_ends, all_done}
-use Rattle.class_shape.proofs.lists_read.many_members.Goals as goal
+use Rattle.class_shape.proofs.tables.many_members.Goals as goal
 
 pub returns-in_err-one : goal.returns-in_err-one
 returns-in_err-one c =
