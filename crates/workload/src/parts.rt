@@ -35,7 +35,6 @@ pub fn put_u32(out: &mut Vec<u8>, n: u32) -> Result<(), AllocError>
 
 /// Adds the place of a class at the end.
 fn put_class(out: &mut Vec<u8>, plan: &PoolPlan<'_>, name: &Text) -> Result<(), AllocError>
-    requires { length plan.now < 65535 }
     ensures { OnOk result (out.new.items ≡ out.old.items ++ big_bytes 2 (class_place plan.now name.now)) }
 {
     put_u16(out, plan.place(Need::Class(name.as_str())))
@@ -47,7 +46,6 @@ fn put_class_or_none(
     plan: &PoolPlan<'_>,
     name: &Option<Text>,
 ) -> Result<(), AllocError>
-    requires { length plan.now < 65535 }
     ensures { OnOk result (out.new.items ≡ out.old.items ++ big_bytes 2 (place_or_none (class_place plan.now) name.now)) }
 {
     match name {
@@ -62,7 +60,6 @@ fn put_text_or_none(
     plan: &PoolPlan<'_>,
     text: &Option<Text>,
 ) -> Result<(), AllocError>
-    requires { length plan.now < 65535 }
     ensures { OnOk result (out.new.items ≡ out.old.items ++ big_bytes 2 (place_or_none (text_place plan.now) text.now)) }
 {
     match text {
@@ -73,7 +70,6 @@ fn put_text_or_none(
 
 /// Adds the flags, this class and the super class at the end.
 pub fn put_own(out: &mut Vec<u8>, plan: &PoolPlan<'_>, shape: &ClassShape) -> Result<(), AllocError>
-    requires { length plan.now < 65535 }
     ensures written { OnOk result (out.new.items ≡ out.old.items ++ own (own_in plan.now shape.now)) }
     ensures short { OnOk result (shape.now.flags < 65536) }
 {
@@ -83,7 +79,6 @@ pub fn put_own(out: &mut Vec<u8>, plan: &PoolPlan<'_>, shape: &ClassShape) -> Re
 }
 
 fn put_each_class(out: &mut Vec<u8>, plan: &PoolPlan<'_>, names: &[Text]) -> Result<(), AllocError>
-    requires { length plan.now < 65535 }
     ensures { OnOk result (out.new.items ≡ out.old.items ++ flat_map (big_bytes 2) (map (class_place plan.now) names.now)) }
 {
     for i in 0..names.len() {
@@ -94,7 +89,6 @@ fn put_each_class(out: &mut Vec<u8>, plan: &PoolPlan<'_>, names: &[Text]) -> Res
 
 /// Adds the count of the interfaces and their places at the end.
 fn put_classes(out: &mut Vec<u8>, plan: &PoolPlan<'_>, names: &[Text]) -> Result<(), AllocError>
-    requires plan { length plan.now < 65535 }
     requires names { length names.now < 65536 }
     ensures { OnOk result (out.new.items ≡ out.old.items ++ counted (big_bytes 2) (map (class_place plan.now) names.now)) }
 {
@@ -103,7 +97,6 @@ fn put_classes(out: &mut Vec<u8>, plan: &PoolPlan<'_>, names: &[Text]) -> Result
 }
 
 fn put_member(out: &mut Vec<u8>, plan: &PoolPlan<'_>, shape: &MemberShape) -> Result<(), AllocError>
-    requires { length plan.now < 65535 }
     ensures written { OnOk result (out.new.items ≡ out.old.items ++ member (member_in plan.now shape.now)) }
     ensures short { OnOk result (shape.now.flags < 65536) }
 {
@@ -118,7 +111,6 @@ fn put_each_member(
     plan: &PoolPlan<'_>,
     shapes: &[MemberShape],
 ) -> Result<(), AllocError>
-    requires { length plan.now < 65535 }
     ensures written { OnOk result (out.new.items ≡ out.old.items ++ flat_map member (map (member_in plan.now) shapes.now)) }
     ensures short { OnOk result (AllByRecursion IsShortMember shapes.now) }
 {
@@ -134,7 +126,6 @@ fn put_members(
     plan: &PoolPlan<'_>,
     shapes: &[MemberShape],
 ) -> Result<(), AllocError>
-    requires plan { length plan.now < 65535 }
     requires shapes { length shapes.now < 65536 }
     ensures written { OnOk result (out.new.items ≡ out.old.items ++ counted member (map (member_in plan.now) shapes.now)) }
     ensures short { OnOk result (AllByRecursion IsShortMember shapes.now) }
@@ -144,7 +135,6 @@ fn put_members(
 }
 
 fn put_row(out: &mut Vec<u8>, plan: &PoolPlan<'_>, shape: &InnerRow) -> Result<(), AllocError>
-    requires { length plan.now < 65535 }
     ensures written { OnOk result (out.new.items ≡ out.old.items ++ row (row_in plan.now shape.now)) }
     ensures short { OnOk result (shape.now.flags < 65536) }
 {
@@ -159,7 +149,6 @@ fn put_each_row(
     plan: &PoolPlan<'_>,
     shapes: &[InnerRow],
 ) -> Result<(), AllocError>
-    requires { length plan.now < 65535 }
     ensures written { OnOk result (out.new.items ≡ out.old.items ++ flat_map row (map (row_in plan.now) shapes.now)) }
     ensures short { OnOk result (AllByRecursion IsShortRow shapes.now) }
 {
@@ -175,7 +164,6 @@ fn put_inner_classes(
     plan: &PoolPlan<'_>,
     shapes: &[InnerRow],
 ) -> Result<(), AllocError>
-    requires plan { length plan.now < 65535 }
     requires shapes { length shapes.now < 65536 }
     ensures written { OnOk result (out.new.items ≡ out.old.items ++ inner_bytes plan.now shapes.now) }
     ensures short { OnOk result (AllByRecursion IsShortRow shapes.now) }
@@ -192,7 +180,6 @@ fn put_attributes(
     plan: &PoolPlan<'_>,
     shapes: &[InnerRow],
 ) -> Result<(), AllocError>
-    requires plan { length plan.now < 65535 }
     requires shapes { length shapes.now < 65536 }
     ensures written { OnOk result (out.new.items ≡ out.old.items ++ counted attribute (attributes_in plan.now shapes.now)) }
     ensures short { OnOk result (AllByRecursion IsShortRow shapes.now) }
@@ -212,7 +199,6 @@ pub fn put_lists(
     plan: &PoolPlan<'_>,
     shape: &ClassShape,
 ) -> Result<(), AllocError>
-    requires plan { length plan.now < 65535 }
     requires interfaces { length shape.now.interfaces < 65536 }
     requires fields { length shape.now.fields < 65536 }
     requires methods { length shape.now.methods < 65536 }

@@ -1,4 +1,4 @@
-ghost use Rattle.std.specs.Prelude.{◌≡◌, ◌<◌, ◌++◌, [], OnOk, IfErr, true, length, map};
+ghost use Rattle.std.specs.Prelude.{◌≡◌, ◌++◌, [], OnOk, IfErr, true, map};
 ghost use Rattle.std.specs.List.{flat_map, list_any, AllByRecursion};
 ghost use Rattle.class_pool.specs.Spelling.{entry};
 ghost use Rattle.workload.specs.declared.fault.WriteFault.TheVariants.{TooBig};
@@ -40,7 +40,6 @@ fn put_entry(
     plan: &PoolPlan<'_>,
     need: Need<'_>,
 ) -> Result<(), WriteFault>
-    requires { length plan.now < 65535 }
     ensures written { OnOk result (out.new.items ≡ out.old.items ++ entry (entry_in plan.now (need_seen need.entry))) }
     ensures spelled { OnOk result (IsSpelled (need_seen need.entry)) }
     ensures big { IfErr result (λ e. e ≡ TooBig → is_long_text (need_seen need.entry) ≡ true) }
@@ -62,7 +61,6 @@ pub fn put_entries(
     plan: &PoolPlan<'_>,
     needs: &[Need<'_>],
 ) -> Result<(), WriteFault>
-    requires { length plan.now < 65535 }
     ensures written { OnOk result (out.new.items ≡ out.old.items ++ flat_map entry (map (entry_in plan.now) (map need_seen needs.now))) }
     ensures spelled { OnOk result (AllByRecursion IsSpelled (map need_seen needs.now)) }
     ensures big { IfErr result (λ e. e ≡ TooBig → list_any is_long_text (map need_seen needs.now) ≡ true) }

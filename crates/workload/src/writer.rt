@@ -29,7 +29,6 @@ fn has_long_list(shape: &ClassShape) -> bool
 
 /// Adds the ten bytes of the header at the end.
 fn put_header(out: &mut Vec<u8>, plan: &PoolPlan<'_>, shape: &ClassShape) -> Result<(), AllocError>
-    requires { length plan.now < 65535 }
     ensures written { OnOk result (out.new.items ≡ out.old.items ++ header_bytes (head_in plan.now shape.now).header) }
     ensures minor { OnOk result (shape.now.minor < 65536) }
     ensures major { OnOk result (shape.now.major < 65536) }
@@ -37,12 +36,11 @@ fn put_header(out: &mut Vec<u8>, plan: &PoolPlan<'_>, shape: &ClassShape) -> Res
     put_u32(out, 0xCAFE_BABE)?;
     put_u16(out, shape.minor)?;
     put_u16(out, shape.major)?;
-    put_u16(out, plan.as_slice().len() as u16 + 1)
+    put_u16(out, plan.count())
 }
 
-/// The bytes of a shape whose lists and pool two bytes can count.
+/// The bytes of a shape whose lists two bytes can count.
 fn bytes_of(alloc: Global, plan: &PoolPlan<'_>, shape: &ClassShape) -> Result<Vec<u8>, WriteFault>
-    requires plan { length plan.now < 65535 }
     requires lists { has_long_list shape.now ≡ false }
     ensures written { IfOk result (λ out. out.items ≡ head (head_in plan.now shape.now) ++ body (body_in plan.now shape.now)) }
     ensures fits { IfOk result (λ out. IsWritten plan.now shape.now) }
@@ -68,11 +66,10 @@ fn file_bytes(alloc: Global, shape: &ClassShape) -> Result<Vec<u8>, WriteFault>
         return Err(WriteFault::TooBig);
     }
     let needs = needs_of(alloc, shape)?;
-    let plan = plan_of(alloc, needs.as_slice())?;
-    if plan.as_slice().len() >= 65535 {
-        return Err(WriteFault::TooBig);
+    match plan_of(alloc, needs.as_slice())? {
+        Some(plan) => bytes_of(alloc, &plan, shape),
+        None => Err(WriteFault::TooBig),
     }
-    bytes_of(alloc, &plan, shape)
 }
 
 /// The class file of a shape (JVMS chapter 4). Of the files of the shape it is one: its pool holds each needed

@@ -1,7 +1,7 @@
 use Rattle.std.proofs.Common.{◌≡◌, [], map, take, fold}
 use Rattle.workload.specs.Needs.{add}
 use Rattle.workload.specs.Views.{need_seen}
-use Rattle.workload.proofs.plan.plan_of.Given as goal
+use Rattle.workload.proofs.plan.entries_of.Given as goal
 
 abbrev pub invariant-loop-i : goal.invariant-loop-i
-invariant-loop-i l = l.plan ≡ fold add [] (map need_seen (take l.i l.needs))
+invariant-loop-i l = map need_seen l.entries.keys ≡ fold add [] (map need_seen (take l.i l.needs))
