@@ -9,13 +9,14 @@ use Rattle.std.specs.Ordering.{nat_cmp, is_eq}
 use Rattle.std.proofs.lemmas.Cmp.{nat_list_eq_equiv}
 use Rattle.std.proofs.lemmas.List.{take_more, take_all}
 use Rattle.std.proofs.lemmas.Map.Text.{btree_map_updates_text, is_eq-slice_cmp}
-use Rattle.decl_index.specs.History.{Name, order, Rises, IsState, or_else, counted, use_of, count_at, CountsRise, class_in, decided}
+use Rattle.decl_index.specs.History.{Name, order, Rises, IsState, counted, use_of, count_at, CountsRise, class_in, decided}
 use Rattle.known_classes.specs.declared.summary.ClassSummary.{ClassSummary}
 use Rattle.known_classes.specs.Known.{class_named}
 use Rattle.decl_index.specs.Places.{count_pairs}
 use Rattle.std.specs.List.{AllByRecursion}
 use Rattle.std.specs.List.Sorted.{IsStrictlySortedBy}
 use Rattle.std.specs.Map.{keys_of}
+use Rattle.std.specs.Option.{option_or}
 use Rattle.decl_index.proofs.State.{counted-append}
 
 -- A map's pairs have its counts.
@@ -81,16 +82,16 @@ pub copied-get : {Y : Type 0} (m n : BTreeMap (String Y) ℕ) → AllZip IsCopie
 copied-get m n h key = copied m.entries n.entries h key
 
 -- One count more.
-none_before : (b : Bool) (n : ℕ) (old p : Option ℕ) → cond b (Some n) (or_else p old) ≡ or_else (or_else (cond b (Some n) None) p) old
+none_before : (b : Bool) (n : ℕ) (old p : Option ℕ) → cond b (Some n) (option_or p old) ≡ option_or (option_or (cond b (Some n) None) p) old
 none_before true n old p = refl
 none_before false n old p = refl
 
-counted-one : (key : Name) (p : Name × ℕ) (xs : List (Name × ℕ)) → counted key (xs ++ p ∷ []) ≡ or_else (cond (bytes_eq key p.0) (Some p.1) None) (counted key xs)
+counted-one : (key : Name) (p : Name × ℕ) (xs : List (Name × ℕ)) → counted key (xs ++ p ∷ []) ≡ option_or (cond (bytes_eq key p.0) (Some p.1) None) (counted key xs)
 unfolding counted
 counted-one key p xs = counted-append key xs (p ∷ [])
 
 pub set-next : {Y : Type 0} (m n : BTreeMap (String Y) ℕ) (bs : Name) (k : ℕ) (p : Name × ℕ) (xs : List (Name × ℕ)) (i : ℕ) (first : Name → Option ℕ) → UpdatesBy string_cmp (λ t. slice_cmp nat_cmp bs (string_bytes t)) m n (Some k) → bs ≡ p.0 → k ≡ p.1 → i < length xs → p ≡ get_or xs i p
-    → ((key : Name) → get_by_text m key ≡ or_else (counted key (take i xs)) (first key)) → (key : Name) → get_by_text n key ≡ or_else (counted key (take (i + 1) xs)) (first key)
+    → ((key : Name) → get_by_text m key ≡ option_or (counted key (take i xs)) (first key)) → (key : Name) → get_by_text n key ≡ option_or (counted key (take (i + 1) xs)) (first key)
 set-next m n bs k p xs i first h e ek l at old key =
     let more : take (i + 1) xs ≡ take i xs ++ p ∷ [] = take_more xs i p l ∙ ap (λ q. take i xs ++ q ∷ []) (sym at) in
     btree_map_updates_text bs m n (Some k) h key
@@ -98,15 +99,15 @@ set-next m n bs k p xs i first h e ek l at old key =
     ∙ ap (λ j. cond (bytes_eq key p.0) (Some j) (get_by_text m key)) ek
     ∙ ap (cond (bytes_eq key p.0) (Some p.1)) (old key)
     ∙ none_before (bytes_eq key p.0) p.1 (first key) (counted key (take i xs))
-    ∙ ap (λ c. or_else c (first key)) (sym (counted-one key p (take i xs)))
-    ∙ ap (λ ps. or_else (counted key ps) (first key)) (sym more)
+    ∙ ap (λ c. option_or c (first key)) (sym (counted-one key p (take i xs)))
+    ∙ ap (λ ps. option_or (counted key ps) (first key)) (sym more)
 
-pub set-none : {Y : Type 0} (m : BTreeMap (String Y) ℕ) (key : Name) → get_by_text m key ≡ or_else (counted key []) (get_by_text m key)
+pub set-none : {Y : Type 0} (m : BTreeMap (String Y) ℕ) (key : Name) → get_by_text m key ≡ option_or (counted key []) (get_by_text m key)
 unfolding counted
 set-none m key = refl
 
-pub set-all : {Y : Type 0} (m : BTreeMap (String Y) ℕ) (xs : List (Name × ℕ)) (i : ℕ) (first : Name → Option ℕ) → length xs ≤ i → ((key : Name) → get_by_text m key ≡ or_else (counted key (take i xs)) (first key)) → (key : Name) → get_by_text m key ≡ or_else (counted key xs) (first key)
-set-all m xs i first l h key = h key ∙ ap (λ ps. or_else (counted key ps) (first key)) (take_all i xs l)
+pub set-all : {Y : Type 0} (m : BTreeMap (String Y) ℕ) (xs : List (Name × ℕ)) (i : ℕ) (first : Name → Option ℕ) → length xs ≤ i → ((key : Name) → get_by_text m key ≡ option_or (counted key (take i xs)) (first key)) → (key : Name) → get_by_text m key ≡ option_or (counted key xs) (first key)
+set-all m xs i first l h key = h key ∙ ap (λ ps. option_or (counted key ps) (first key)) (take_all i xs l)
 
 -- No change.
 pub empty-state : {A Y : Type 0} (f : A → ClassSummary) (xs : List A) (m : BTreeMap (String Y) ℕ) → xs ≡ [] → m.entries ≡ [] → IsState [] (record { classes = map f xs; counts = count_pairs m; number = 0 })
@@ -123,12 +124,12 @@ empty-state {A} {Y} f xs m e n = record {
   number = refl;
 }
 
-pub counted-at : {Y : Type 0} (m n : BTreeMap (String Y) ℕ) (more : List (Name × ℕ)) → ((key : Name) → get_by_text n key ≡ or_else (counted key more) (get_by_text m key)) → (key : Name) → count_at (count_pairs n) key ≡ or_else (counted key more) (count_at (count_pairs m) key)
-counted-at m n more h key = pairs-at n key ∙ h key ∙ ap (or_else (counted key more)) (sym (pairs-at m key))
+pub counted-at : {Y : Type 0} (m n : BTreeMap (String Y) ℕ) (more : List (Name × ℕ)) → ((key : Name) → get_by_text n key ≡ option_or (counted key more) (get_by_text m key)) → (key : Name) → count_at (count_pairs n) key ≡ option_or (counted key more) (count_at (count_pairs m) key)
+counted-at m n more h key = pairs-at n key ∙ h key ∙ ap (option_or (counted key more)) (sym (pairs-at m key))
 
-pub with-none : {Y : Type 0} (m n : BTreeMap (String Y) ℕ) (more : List (Name × ℕ)) → more ≡ [] → n ≡ m → (key : Name) → get_by_text n key ≡ or_else (counted key more) (get_by_text m key)
+pub with-none : {Y : Type 0} (m n : BTreeMap (String Y) ℕ) (more : List (Name × ℕ)) → more ≡ [] → n ≡ m → (key : Name) → get_by_text n key ≡ option_or (counted key more) (get_by_text m key)
 unfolding counted
-with-none m n more e s key = ap (λ k. get_by_text k key) s ∙ ap (λ ps. or_else (counted key ps) (get_by_text m key)) (sym e)
+with-none m n more e s key = ap (λ k. get_by_text k key) s ∙ ap (λ ps. option_or (counted key ps) (get_by_text m key)) (sym e)
 
 pub no-length : {A : Type 0} (xs : List A) → length xs ≡ 0 → xs ≡ []
 no-length [] e = refl

@@ -2,9 +2,10 @@
 use Rattle.std.proofs.Common.{◌≡◌, ℕ, Bool, true, false, cond, List, [], ◌∷◌, map, Option, Some, None, Less, refl, sym, ap, ◌∙◌}
 use Rattle.std.specs.Prelude.{bytes_eq, option_map}
 use Rattle.std.specs.List.{AllByRecursion}
+use Rattle.std.specs.Option.{option_or}
 use Rattle.known_classes.specs.declared.summary.ClassSummary.{ClassSummary}
 use Rattle.known_classes.specs.Known.{class_named}
-use Rattle.decl_index.specs.History.{Name, order, Rises, CountsRise, count_at, counted, decided, put, or_else}
+use Rattle.decl_index.specs.History.{Name, order, Rises, CountsRise, count_at, counted, decided, put}
 use Rattle.decl_index.specs.Places.{told_or}
 use Rattle.decl_index.proofs.Names.{same-true}
 use Rattle.decl_index.proofs.State.{one_list}
@@ -68,7 +69,7 @@ one_counts ps qs r s h =
     sym (pairs-back ps) ∙ ap (map pair_of) one ∙ pairs-back qs
 
 -- What puts of such classes say of a name is the count of it.
-says-by : (b : Bool) (n : Name) (p : Name × ℕ) (x : Option (Option ClassSummary)) (y : Option ℕ) → option_map (option_map flags_of) x ≡ option_map Some y → option_map (option_map flags_of) (or_else x (cond b (Some (Some (as_class p))) None)) ≡ option_map Some (or_else y (cond b (Some p.1) None))
+says-by : (b : Bool) (n : Name) (p : Name × ℕ) (x : Option (Option ClassSummary)) (y : Option ℕ) → option_map (option_map flags_of) x ≡ option_map Some y → option_map (option_map flags_of) (option_or x (cond b (Some (Some (as_class p))) None)) ≡ option_map Some (option_or y (cond b (Some p.1) None))
 says-by b n p (Some x) (Some y) h = h
 says-by b n p (Some x) None h = absurd cc
 says-by b n p None (Some y) h = absurd cc

@@ -8,9 +8,10 @@ use Rattle.std.proofs.lemmas.List.{take_more, take_all, drop_more, drop_all, map
 use Rattle.std.proofs.lemmas.List.Elements.{filter-append}
 use Rattle.std.proofs.lemmas.Cmp.{nat_list_eq_equiv}
 use Rattle.std.proofs.lemmas.Map.Text.{btree_set_updates_text}
+use Rattle.std.specs.Option.{option_or}
 use Rattle.known_classes.specs.declared.summary.ClassSummary.{ClassSummary}
 use Rattle.known_classes.specs.Known.{class_named}
-use Rattle.decl_index.specs.History.{Name, order, Rises, remove, put, decided, or_else}
+use Rattle.decl_index.specs.History.{Name, order, Rises, remove, put, decided}
 use Rattle.decl_index.specs.Places.{told_or, Leaves}
 use Rattle.decl_index.specs.Merging.{is_among, others, prefix_order, IsMerge}
 use Rattle.decl_index.proofs.Names.{same, same-true, greater, exact}
@@ -18,11 +19,11 @@ use Rattle.decl_index.proofs.Sorted.{Above, above_more, none_above}
 use Rattle.decl_index.proofs.Places.{leaves-then}
 
 -- Removed names.
-by-remove : (a b : Bool) (o : Option (Option ClassSummary)) → o ≡ cond a (Some None) None → or_else o (cond b (Some None) None) ≡ cond (cond b true a) (Some None) None
-by-remove true true o e = ap (λ x. or_else x (Some None)) e
-by-remove true false o e = ap (λ x. or_else x None) e
-by-remove false true o e = ap (λ x. or_else x (Some None)) e
-by-remove false false o e = ap (λ x. or_else x None) e
+by-remove : (a b : Bool) (o : Option (Option ClassSummary)) → o ≡ cond a (Some None) None → option_or o (cond b (Some None) None) ≡ cond (cond b true a) (Some None) None
+by-remove true true o e = ap (λ x. option_or x (Some None)) e
+by-remove true false o e = ap (λ x. option_or x None) e
+by-remove false true o e = ap (λ x. option_or x (Some None)) e
+by-remove false false o e = ap (λ x. option_or x None) e
 
 decided-removes : (ns : List Name) (n : Name) → decided n (map remove ns) ≡ cond (is_among ns n) (Some None) None
 unfolding decided is_among
@@ -137,14 +138,14 @@ read-again f xs i x y l e s = ap f (e ∙ get_or_default xs i x y l ∙ sym s)
 pub record Merges (xs ys zs : List ClassSummary) : Type 0 where
   pub above : (a : Name) → Above a xs → Above a ys → Above a zs
   pub rises : Rises xs → Rises ys → Rises zs
-  pub each : Rises xs → Rises ys → (n : Name) → class_named zs n ≡ or_else (class_named ys n) (class_named xs n)
+  pub each : Rises xs → Rises ys → (n : Name) → class_named zs n ≡ option_or (class_named ys n) (class_named xs n)
 
 merges-rest : (xs : List ClassSummary) → Merges xs [] xs
 unfolding class_named
 merges-rest xs = record { above = λ a h k. h; rises = λ r s. r; each = λ r s n. refl }
 
-older-by : (b : Bool) (o : ClassSummary) (x y z : Option ClassSummary) → (b ≡ true → y ≡ None) → x ≡ or_else y z → cond b (Some o) x ≡ or_else y (cond b (Some o) z)
-older-by true o x y z h e = sym (ap (λ q. or_else q (Some o)) (h refl))
+older-by : (b : Bool) (o : ClassSummary) (x y z : Option ClassSummary) → (b ≡ true → y ≡ None) → x ≡ option_or y z → cond b (Some o) x ≡ option_or y (cond b (Some o) z)
+older-by true o x y z h e = sym (ap (λ q. option_or q (Some o)) (h refl))
 older-by false o x y z h e = e
 
 merges-older : (o n : ClassSummary) (os ns ts : List ClassSummary) → order o.name n.name ≡ Less → Merges os (n ∷ ns) ts → Merges (o ∷ os) (n ∷ ns) (o ∷ ts)
@@ -155,7 +156,7 @@ merges-older o n os ns ts l m = record {
   each = λ r s k. older-by (same o.name k) o (class_named ts k) (class_named (n ∷ ns) k) (class_named os k) (λ e. none_above k (n ∷ ns) (subst (λ q. Above q (n ∷ ns)) (same-true o.name k e) (l, above_more o.name n.name ns l s.0))) (m.each r.1 s k);
 }
 
-newer-by : (b : Bool) (n : ClassSummary) (x y z : Option ClassSummary) → x ≡ or_else y z → cond b (Some n) x ≡ or_else (cond b (Some n) y) z
+newer-by : (b : Bool) (n : ClassSummary) (x y z : Option ClassSummary) → x ≡ option_or y z → cond b (Some n) x ≡ option_or (cond b (Some n) y) z
 newer-by true n x y z e = refl
 newer-by false n x y z e = e
 
@@ -172,7 +173,7 @@ merges-newer n xs ns ts e m = record {
   each = λ r s k. newer-by (same n.name k) n (class_named ts k) (class_named ns k) (class_named xs k) (m.each r s.1 k);
 }
 
-both-by : (a b : Bool) (o n : ClassSummary) (x y z : Option ClassSummary) → a ≡ b → x ≡ or_else y z → cond b (Some n) x ≡ or_else (cond b (Some n) y) (cond a (Some o) z)
+both-by : (a b : Bool) (o n : ClassSummary) (x y z : Option ClassSummary) → a ≡ b → x ≡ option_or y z → cond b (Some n) x ≡ option_or (cond b (Some n) y) (cond a (Some o) z)
 both-by true true o n x y z s e = refl
 both-by true false o n x y z s e = absurd cc
 both-by false true o n x y z s e = absurd cc
@@ -256,12 +257,12 @@ pub prefix-order-end : (cs : List ClassSummary) (i : ℕ) (n : Name) → length 
 prefix-order-end cs i n l = ap (prefix_order n) (drop_all i cs l)
 
 -- Puts.
-by-put : (o : Option (Option ClassSummary)) (b : Bool) (q : ClassSummary) (d : Option ClassSummary) → told_or o d ≡ or_else (told_or o None) d → told_or (or_else o (cond b (Some (Some q)) None)) d ≡ or_else (told_or (or_else o (cond b (Some (Some q)) None)) None) d
+by-put : (o : Option (Option ClassSummary)) (b : Bool) (q : ClassSummary) (d : Option ClassSummary) → told_or o d ≡ option_or (told_or o None) d → told_or (option_or o (cond b (Some (Some q)) None)) d ≡ option_or (told_or (option_or o (cond b (Some (Some q)) None)) None) d
 by-put (Some x) b q d h = h
 by-put None true q d h = refl
 by-put None false q d h = refl
 
-only-puts : (qs : List ClassSummary) (n : Name) (d : Option ClassSummary) → told_or (decided n (map put qs)) d ≡ or_else (told_or (decided n (map put qs)) None) d
+only-puts : (qs : List ClassSummary) (n : Name) (d : Option ClassSummary) → told_or (decided n (map put qs)) d ≡ option_or (told_or (decided n (map put qs)) None) d
 unfolding decided
 only-puts [] n d = refl
 only-puts (q ∷ qs) n d = by-put (decided n (map put qs)) (bytes_eq n q.name) q d (only-puts qs n d)
@@ -273,7 +274,7 @@ nothing-named n = refl
 pub puts-over : (qs xs ys zs : List ClassSummary) → Leaves (map put qs) [] ys → IsMerge xs ys zs → Leaves (map put qs) xs zs
 puts-over qs xs ys zs l m = record {
   rises = m.rises;
-  each = λ n. m.each n ∙ ap (λ o. or_else o (class_named xs n)) (l.each n ∙ ap (told_or (decided n (map put qs))) (nothing-named n)) ∙ sym (only-puts qs n (class_named xs n));
+  each = λ n. m.each n ∙ ap (λ o. option_or o (class_named xs n)) (l.each n ∙ ap (told_or (decided n (map put qs))) (nothing-named n)) ∙ sym (only-puts qs n (class_named xs n));
 }
 
 pub sorted-join : (ps qs rs xs ys zs : List ClassSummary) → ps ++ qs ≡ rs → Leaves (map put ps) [] xs → Leaves (map put qs) [] ys → IsMerge xs ys zs → Leaves (map put rs) [] zs

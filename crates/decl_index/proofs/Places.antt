@@ -4,10 +4,11 @@ use Rattle.std.specs.List.{AllByRecursion, insert, remove as without, slice_get,
 use lib.ListN.{set}
 use Rattle.known_classes.specs.declared.summary.ClassSummary.{ClassSummary}
 use Rattle.known_classes.specs.Known.{class_named, IsPlaceOf}
-use Rattle.decl_index.specs.History.{Name, order, Rises, put, remove, decided, said, or_else, Edit, told, edits_of, class_in}
+use Rattle.decl_index.specs.History.{Name, order, Rises, put, remove, decided, said, Edit, told, edits_of, class_in}
 use Rattle.decl_index.specs.Places.{heads, Leaves, IsPlace, told_or}
 use Rattle.decl_index.specs.declared.change.Change.{Change}
 use Rattle.std.proofs.lemmas.List.{take_more, take_all, map-append}
+use Rattle.std.specs.Option.{option_or}
 use Rattle.decl_index.proofs.Names.{same, before_after, same-itself, apart, equal_from, unequal_from}
 use Rattle.decl_index.proofs.Sorted.{put_by, put_in, cut_by, cut_out, put_at, put_rises, cut_at, cut_rises, Above}
 
@@ -134,7 +135,7 @@ pub same_leaves : (cs : List ClassSummary) (n : Name) (p : ℕ) → Rises cs →
 same_leaves cs n p r at e = subst (Leaves (remove n ∷ []) cs) (cut_none n cs p at.below at.above e) (cut_leaves n cs r)
 
 -- edits one after the other
-pub or_assoc : (a b : Option (Option ClassSummary)) (c : Option ClassSummary) → told_or (or_else a b) c ≡ told_or a (told_or b c)
+pub or_assoc : (a b : Option (Option ClassSummary)) (c : Option ClassSummary) → told_or (option_or a b) c ≡ told_or a (told_or b c)
 or_assoc (Some x) b c = refl
 or_assoc None b c = refl
 

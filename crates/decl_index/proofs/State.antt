@@ -3,13 +3,14 @@ use Rattle.std.proofs.Common.{◌≡◌, ℕ, ◌+◌, Bool, true, false, cond, 
 use Rattle.std.specs.Prelude.{bytes_eq}
 use Rattle.std.specs.List.{flat_map}
 use Rattle.std.proofs.lemmas.List.{length_push}
+use Rattle.std.specs.Option.{option_or}
 use Rattle.known_classes.specs.declared.summary.ClassSummary.{ClassSummary}
 use Rattle.known_classes.specs.Known.{class_named}
 use Rattle.decl_index.specs.declared.change.Change.{Change}
 use Rattle.decl_index.specs.declared.change.Change.TheVariants.{Publish, Withdraw}
 use Rattle.decl_index.specs.declared.change.ChangeFault.{ChangeFault}
 use Rattle.decl_index.specs.declared.change.ChangeFault.TheVariants.{Cyclic, Full, TooHigh, JournalFull, NestCycle, OutOfMemory}
-use Rattle.decl_index.specs.History.{Name, order, Rises, State, IsState, AreClasses, remove, put, decided, edits_of, or_else, counted, counts_of, count_at, CountsRise}
+use Rattle.decl_index.specs.History.{Name, order, Rises, State, IsState, AreClasses, remove, put, decided, edits_of, counted, counts_of, count_at, CountsRise}
 use Rattle.decl_index.specs.Places.{told_or, Leaves}
 use Rattle.decl_index.specs.Refusals.{IsFaultOf, IsSound, RefusesFor, IsTooHigh}
 use Rattle.decl_index.specs.Steps.{IsPublished, IsPublishFault, IsWithdrawn}
@@ -63,25 +64,25 @@ one_list (c ∷ cs) [] r s h = let some : class_named (c ∷ cs) c.name ≡ Some
 one_list (c ∷ cs) (d ∷ ds) r s h = one_by (order c.name d.name) c d cs ds refl r s h (one_list cs ds r.1 s.1)
 
 -- Counts given one after the other.
-or_none : (a : Option ℕ) → a ≡ or_else a None
+or_none : (a : Option ℕ) → a ≡ option_or a None
 or_none (Some x) = refl
 or_none None = refl
 
-or_assoc : (a b c : Option ℕ) → or_else (or_else a b) c ≡ or_else a (or_else b c)
+or_assoc : (a b c : Option ℕ) → option_or (option_or a b) c ≡ option_or a (option_or b c)
 or_assoc (Some x) b c = refl
 or_assoc None b c = refl
 
-pub counted-append : (key : Name) (xs ys : List (Name × ℕ)) → counted key (xs ++ ys) ≡ or_else (counted key ys) (counted key xs)
+pub counted-append : (key : Name) (xs ys : List (Name × ℕ)) → counted key (xs ++ ys) ≡ option_or (counted key ys) (counted key xs)
 unfolding counted
 counted-append key [] ys = or_none (counted key ys)
 counted-append key (x ∷ xs) ys =
-    ap (λ a. or_else a (cond (bytes_eq key x.0) (Some x.1) None)) (counted-append key xs ys) ∙ or_assoc (counted key ys) (counted key xs) (cond (bytes_eq key x.0) (Some x.1) None)
+    ap (λ a. option_or a (cond (bytes_eq key x.0) (Some x.1) None)) (counted-append key xs ys) ∙ or_assoc (counted key ys) (counted key xs) (cond (bytes_eq key x.0) (Some x.1) None)
 
 pub counts_more : (h : List Change) (c : Change) → flat_map counts_of (h ++ c ∷ []) ≡ flat_map counts_of h ++ counts_of c
 counts_more [] c = append-nil (counts_of c)
 counts_more (d ∷ h) c = ap (λ es. counts_of d ++ es) (counts_more h c) ∙ sym (append_assoc (counts_of d) (flat_map counts_of h) (counts_of c))
 
-pub counted_more : (h : List Change) (c : Change) (key : Name) → counted key (flat_map counts_of (h ++ c ∷ [])) ≡ or_else (counted key (counts_of c)) (counted key (flat_map counts_of h))
+pub counted_more : (h : List Change) (c : Change) (key : Name) → counted key (flat_map counts_of (h ++ c ∷ [])) ≡ option_or (counted key (counts_of c)) (counted key (flat_map counts_of h))
 counted_more h c key = ap (counted key) (counts_more h c) ∙ counted-append key (flat_map counts_of h) (counts_of c)
 
 -- A publication.
@@ -96,7 +97,7 @@ add_published h puts removes counts old new is p = record {
   classes = left_classes h puts removes counts old.classes new.classes is.classes p.classes;
   counts = record {
     rises = p.keys;
-    keyed = λ key. p.counts key ∙ ap (or_else (counted key counts)) (is.counts.keyed key) ∙ sym (counted_more h (Publish puts removes counts) key);
+    keyed = λ key. p.counts key ∙ ap (option_or (counted key counts)) (is.counts.keyed key) ∙ sym (counted_more h (Publish puts removes counts) key);
   };
   number = p.number ∙ ap (λ m. m + 1) is.number ∙ sym (length_push h (Publish puts removes counts));
 }

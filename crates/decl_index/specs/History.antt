@@ -5,6 +5,7 @@ use Rattle.std.specs.declared.cmp.Ordering.{Ordering}
 use Rattle.std.specs.declared.cmp.Ordering.TheVariants.{Less}
 use Rattle.std.specs.Cmp.Lexicographic.{slice_cmp}
 use Rattle.std.specs.List.{flat_map, AllByRecursion}
+use Rattle.std.specs.Option.{option_or}
 use Rattle.known_classes.specs.declared.summary.ClassSummary.{ClassSummary}
 use Rattle.known_classes.specs.Known.{class_named}
 use Rattle.decl_index.specs.declared.change.Change.{Change}
@@ -33,15 +34,10 @@ abbrev pub said : Name → Edit → Option (Option ClassSummary)
 said n (remove m) = if bytes_eq n m then Some None else None
 said n (put c) = if bytes_eq n c.name then Some (Some c) else None
 
--- The first where it says something, else the second.
-abbrev pub or_else : {A : Type 0} → Option A → Option A → Option A
-or_else (Some a) b = Some a
-or_else None b = b
-
 -- What the entries say of a name: the last that speaks of it decides.
 unfoldable pub decided : Name → List Edit → Option (Option ClassSummary)
 decided n [] = None
-decided n (e ∷ es) = or_else (decided n es) (said n e)
+decided n (e ∷ es) = option_or (decided n es) (said n e)
 
 -- A name of which nothing is said has no class.
 abbrev pub told : Option (Option ClassSummary) → Option ClassSummary
@@ -60,7 +56,7 @@ counts_of (Withdraw m) = []
 -- The count of a key: the last one given decides.
 unfoldable pub counted : Name → List (Name × ℕ) → Option ℕ
 counted key [] = None
-counted key (p ∷ ps) = or_else (counted key ps) (if bytes_eq key p.0 then Some p.1 else None)
+counted key (p ∷ ps) = option_or (counted key ps) (if bytes_eq key p.0 then Some p.1 else None)
 
 -- The count of a key after the changes, 0 where none was given.
 abbrev pub use_in : List Change → Name → ℕ

@@ -2,9 +2,10 @@
 use Rattle.std.specs.Prelude.{◌≡◌, if◌then◌else◌, Bool, true, false, List, [], ◌∷◌, filter, not, bytes_eq}
 use Rattle.std.specs.declared.cmp.Ordering.{Ordering}
 use Rattle.std.specs.declared.cmp.Ordering.TheVariants.{Greater}
+use Rattle.std.specs.Option.{option_or}
 use Rattle.known_classes.specs.declared.summary.ClassSummary.{ClassSummary}
 use Rattle.known_classes.specs.Known.{class_named}
-use Rattle.decl_index.specs.History.{Name, order, Rises, or_else}
+use Rattle.decl_index.specs.History.{Name, order, Rises}
 
 -- Whether the name is one of the names.
 unfoldable pub is_among : List Name → Name → Bool
@@ -23,4 +24,4 @@ prefix_order n (c ∷ cs) = order c.name n
 -- The classes of both lists, of one name that of the newer list.
 pub record IsMerge (older newer all : List ClassSummary) : Type 0 where
   pub rises : Rises all
-  pub each : (n : Name) → class_named all n ≡ or_else (class_named newer n) (class_named older n)
+  pub each : (n : Name) → class_named all n ≡ option_or (class_named newer n) (class_named older n)

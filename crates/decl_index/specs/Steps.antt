@@ -1,15 +1,16 @@
 -- What one change does to the state of an index.
 use Rattle.std.specs.Prelude.{◌≡◌, ◌≤◌, ◌+◌, ℕ, List, ◌++◌, map}
+use Rattle.std.specs.Option.{option_or}
 use Rattle.known_classes.specs.declared.summary.ClassSummary.{ClassSummary}
 use Rattle.decl_index.specs.declared.change.ChangeFault.{ChangeFault}
-use Rattle.decl_index.specs.History.{Name, State, Rises, remove, put, or_else, counted, count_at, CountsRise}
+use Rattle.decl_index.specs.History.{Name, State, Rises, remove, put, counted, count_at, CountsRise}
 use Rattle.decl_index.specs.Refusals.{IsFaultOf, IsSound}
 use Rattle.decl_index.specs.Places.{Leaves}
 
 -- A publication makes the second state of the first.
 pub record IsPublished (puts : List ClassSummary) (removes : List Name) (more : List (Name × ℕ)) (old new : State) : Type 0 where
   pub classes : Leaves (map remove removes ++ map put puts) old.classes new.classes
-  pub counts : (key : Name) → count_at new.counts key ≡ or_else (counted key more) (count_at old.counts key)
+  pub counts : (key : Name) → count_at new.counts key ≡ option_or (counted key more) (count_at old.counts key)
   pub keys : CountsRise new.counts
   pub number : new.number ≡ old.number + 1
   pub sound : IsSound new.classes

@@ -1,7 +1,8 @@
 ghost use Rattle.std.specs.Prelude.{◌≡◌, IfOk, OnOk};
 ghost use Rattle.std.specs.Arc.{arc_value};
 ghost use Rattle.std.specs.BTreeMap.{get_by_text};
-ghost use Rattle.decl_index.specs.History.{Name, or_else, counted, CountsRise};
+ghost use Rattle.std.specs.Option.{option_or};
+ghost use Rattle.decl_index.specs.History.{Name, counted, CountsRise};
 ghost use Rattle.decl_index.specs.Places.{count_pairs};
 
 use lists::Text;
@@ -14,7 +15,7 @@ pub type Counts = BTreeMap<String, u32>;
 
 /// Gives counts to keys, one after the other.
 fn set_all(alloc: Global, counts: &mut Counts, more: &[(Text, u32)]) -> Result<(), AllocError>
-    ensures { OnOk result ((key : Name) → get_by_text counts.new key ≡ or_else (counted key more.now) (get_by_text counts.old key)) }
+    ensures { OnOk result ((key : Name) → get_by_text counts.new key ≡ option_or (counted key more.now) (get_by_text counts.old key)) }
 {
     for count in more {
         counts.insert(String::from_str(alloc, count.0.as_str())?, count.1)?;
@@ -36,7 +37,7 @@ pub fn with_counts(
     more: &[(Text, u32)],
 ) -> Result<Arc<Counts, Global>, AllocError>
     ensures keys { IfOk result (λ all. CountsRise (count_pairs (arc_value all))) }
-    ensures counts { IfOk result (λ all. (key : Name) → get_by_text (arc_value all) key ≡ or_else (counted key more.now) (get_by_text (arc_value counts.now) key)) }
+    ensures counts { IfOk result (λ all. (key : Name) → get_by_text (arc_value all) key ≡ option_or (counted key more.now) (get_by_text (arc_value counts.now) key)) }
 {
     if more.is_empty() {
         have_order(&**counts);

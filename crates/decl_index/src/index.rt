@@ -7,12 +7,12 @@ ghost use Rattle.decl_index.specs.Refusals.{RefusesFor, IsTooHigh};
 ghost use Rattle.decl_index.specs.Steps.{IsPublished, IsPublishFault, IsWithdrawn};
 
 use crate::change::{Change, ChangeFault};
-use crate::checks::check;
-use crate::class_names::{Sorted, names_after};
+use crate::class_names::names_after;
 use crate::counts::{Counts, with_counts};
-use crate::merging::{put_all, take_all};
-use crate::table::{Shared, find, share};
-use known_classes::{ClassSummary, Classes, NameTables};
+use crate::merge::{put_all, take_all};
+use crate::refusals::check;
+use crate::sorted_classes::{Shared, Sorted, share};
+use known_classes::{ClassList, ClassSummary, Classes, NameTables};
 use lists::{Items, Text};
 use std::alloc::{AllocError, Global};
 use std::collections::BTreeMap;
@@ -159,7 +159,7 @@ impl Classes for Index {
     }
 
     fn find(&self, name: &str) -> Option<usize> {
-        find(&self.classes, name)
+        Sorted::of(&self.classes).find(name)
     }
 
     fn by_canonical(&self, dotted: &str) -> Option<usize> {

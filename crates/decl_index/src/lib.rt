@@ -4,14 +4,15 @@
 #![tactic(auto)]
 
 mod change;
-mod changed;
-mod checks;
 mod class_names;
 mod counts;
+mod cycle_search;
 mod index;
 mod laws;
-mod merging;
-mod table;
+mod merge;
+mod nesting;
+mod refusals;
+mod sorted_classes;
 
 pub use change::{Change, ChangeFault};
 pub use index::Index;

@@ -1,7 +1,8 @@
 use Rattle.std.proofs.Common.{rules, ◌≡◌, ◌∙◌, [], ap, sym, subst, length}
 use Rattle.std.specs.Arc.{arc_value}
 use Rattle.std.specs.BTreeMap.{get_by_text}
-use Rattle.decl_index.specs.History.{Name, or_else, counted, CountsRise}
+use Rattle.std.specs.Option.{option_or}
+use Rattle.decl_index.specs.History.{Name, counted, CountsRise}
 use Rattle.decl_index.specs.Places.{count_pairs}
 use Rattle.decl_index.proofs.Results.{ok_then}
 use Rattle.decl_index.proofs.CountLemmas.{copied-get, with-none, no-length}
@@ -14,7 +15,7 @@ returns-then-is_empty c =
     let handed : c.deref.result.now ≡ arc_value c.args.counts.now = search rules in
     record {
       keys = ok_then (λ all. arc_value all ≡ arc_value c.args.counts.now) (λ all. CountsRise (count_pairs (arc_value all))) c.try_clone.result c.try_clone.ensures (λ all e. subst (λ m. CountsRise (count_pairs m)) (handed ∙ sym e) c.have_order.ensures);
-      counts = ok_then (λ all. arc_value all ≡ arc_value c.args.counts.now) (λ all. (key : Name) → get_by_text (arc_value all) key ≡ or_else (counted key c.args.more.now) (get_by_text (arc_value c.args.counts.now) key)) c.try_clone.result c.try_clone.ensures (λ all e. with-none (arc_value c.args.counts.now) (arc_value all) c.args.more.now none e);
+      counts = ok_then (λ all. arc_value all ≡ arc_value c.args.counts.now) (λ all. (key : Name) → get_by_text (arc_value all) key ≡ option_or (counted key c.args.more.now) (get_by_text (arc_value c.args.counts.now) key)) c.try_clone.result c.try_clone.ensures (λ all e. with-none (arc_value c.args.counts.now) (arc_value all) c.args.more.now none e);
     }
 
 pub returns : goal.returns
@@ -23,5 +24,5 @@ returns c =
     let source : c.deref-2.result.now ≡ arc_value c.args.counts.now = search rules in
     record {
       keys = subst (λ m. CountsRise (count_pairs m)) (sym shared) c.have_order-2.ensures;
-      counts = λ key. ap (λ m. get_by_text m key) shared ∙ c.in_ok-set_all.ensures key ∙ ap (or_else (counted key c.args.more.now)) (copied-get c.deref-2.result.now c.in_ok-all.all c.in_ok-all.ensures.cases key ∙ ap (λ m. get_by_text m key) source);
+      counts = λ key. ap (λ m. get_by_text m key) shared ∙ c.in_ok-set_all.ensures key ∙ ap (option_or (counted key c.args.more.now)) (copied-get c.deref-2.result.now c.in_ok-all.all c.in_ok-all.ensures.cases key ∙ ap (λ m. get_by_text m key) source);
     }

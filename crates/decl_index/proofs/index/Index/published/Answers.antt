@@ -4,7 +4,8 @@ use Rattle.decl_index.specs.declared.change.ChangeFault.{ChangeFault}
 use Rattle.decl_index.specs.declared.change.ChangeFault.TheVariants.{OutOfMemory}
 use Rattle.decl_index.specs.Steps.{IsPublishFault}
 use Rattle.std.specs.Arc.{arc_value}
-use Rattle.decl_index.specs.History.{Name, count_at, or_else, counted, remove, put}
+use Rattle.std.specs.Option.{option_or}
+use Rattle.decl_index.specs.History.{Name, count_at, counted, remove, put}
 use Rattle.decl_index.specs.Places.{Leaves, count_pairs}
 use Rattle.decl_index.specs.Refusals.{IsSound, IsFaultOf}
 use Rattle.decl_index.proofs.Places.{leaves-then}
@@ -39,7 +40,7 @@ returns c =
     record {
       state = record {
         classes = leaves-then _ _ _ _ _ first second;
-        counts = subst (λ (ps : List (Name × ℕ)). (key : Name) → count_at (count_pairs (arc_value c.in_ok-with_counts.field-0)) key ≡ or_else (counted key c.args.counts.now) (count_at ps key)) (sym view) (counted-at (arc_value c.self.inside.counts) (arc_value c.in_ok-with_counts.field-0) c.args.counts.now c.in_ok-with_counts.ensures.counts);
+        counts = subst (λ (ps : List (Name × ℕ)). (key : Name) → count_at (count_pairs (arc_value c.in_ok-with_counts.field-0)) key ≡ option_or (counted key c.args.counts.now) (count_at ps key)) (sym view) (counted-at (arc_value c.self.inside.counts) (arc_value c.in_ok-with_counts.field-0) c.args.counts.now c.in_ok-with_counts.ensures.counts);
         keys = c.in_ok-with_counts.ensures.keys;
         number = search rules;
         sound = sound;

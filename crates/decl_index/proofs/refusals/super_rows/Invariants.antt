@@ -1,0 +1,6 @@
+use Rattle.decl_index.specs.Refusals.{supers_of}
+use Rattle.decl_index.proofs.RowLemmas.{AreRows}
+use Rattle.decl_index.proofs.refusals.super_rows.Given as goal
+
+abbrev pub invariant-loop-place : goal.invariant-loop-place
+invariant-loop-place l = AreRows supers_of l.classes l.place l.rows.items
