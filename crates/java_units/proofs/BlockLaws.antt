@@ -1,14 +1,14 @@
 -- Blocks counted from the end.
-use Rattle.std.proofs.Common.{◌≡◌, ◌∙◌, ap, sym, ℕ, zero, suc, ◌+◌, ◌-◌, Bool, true, false, drop, arith, List, [], ◌∷◌, ◌++◌, refl, length, append_assoc, append-nil, codes, if◌then◌else◌, length-append}
+use Rattle.std.proofs.Common.{◌≡◌, ◌∙◌, ap, sym, ℕ, zero, suc, ◌+◌, ◌-◌, Bool, true, false, drop, arith, List, [], ◌∷◌, ◌++◌, refl, length, reverse, append_assoc, append-nil, codes, if◌then◌else◌, length-append}
 use Rattle.std.proofs.Common.{◌<◌, ◌≤◌, ◌&&◌, not, slice_index_or, add-one, subst}
-use Rattle.std.proofs.lemmas.List.{drop_all}
+use Rattle.std.proofs.lemmas.List.{drop_all, reverse-append}
 use Rattle.std.specs.Prelude.{bytes_eq}
 use Rattle.std.proofs.lemmas.Slice.Eq.{bytes_eq-Decides}
 use Rattle.java_tokens.specs.Tokens.{IsWithin, AreWithin}
 use Rattle.java_tokens.specs.declared.token.Token.{Token}
 use Rattle.java_units.specs.declared.lexemes.Lexeme.{Lexeme}
 use Rattle.java_units.specs.Signs.{Sign, sign, seen, is, has, reserved, holding, with_blocks, is_blank, is_word, text_of, sign_of, signs_from}
-use Rattle.java_units.specs.Blocks.{from_last, nth, block_len, closers_after, seen_back}
+use Rattle.java_units.specs.Blocks.{nth, block_len, closers_after, seen_back}
 
 -- how many signs stand from each closing brace on that is open at the front
 unfoldable pub waits : List Sign → List ℕ
@@ -83,10 +83,8 @@ unfolding seen
 seen_push [] l = refl
 seen_push (x ∷ xs) l = ap (λ r. sign x ∷ r) (seen_push xs l)
 
-pub last_push : (xs : List ℕ) (x : ℕ) → from_last (xs ++ x ∷ []) ≡ x ∷ from_last xs
-unfolding from_last
-last_push [] x = refl
-last_push (y ∷ ys) x = ap (λ r. r ++ y ∷ []) (last_push ys x)
+pub last_push : (xs : List ℕ) (x : ℕ) → reverse (xs ++ x ∷ []) ≡ x ∷ reverse xs
+last_push xs x = reverse-append xs (x ∷ [])
 
 -- the last of the lexemes that are left comes next
 pub turn : (all news old new : List Lexeme) (l : Lexeme) (whole : List Sign) → old ≡ new ++ l ∷ [] → news ≡ all ++ l ∷ [] → whole ≡ seen all ++ seen_back old → whole ≡ seen news ++ seen_back new
@@ -112,9 +110,9 @@ pub closer_len : (w : List ℕ) (n : ℕ) (cs : List ℕ) → bytes_eq (codes "}
 unfolding block_len
 closer_len w n cs e = other_at w n cs (no_open w e)
 
-pub closer_kept : (w : List ℕ) (n : ℕ) (old new : List ℕ) → bytes_eq (codes "}") w ≡ true → new ≡ old ++ (n + 1) ∷ [] → from_last new ≡ closers_after w n (from_last old)
+pub closer_kept : (w : List ℕ) (n : ℕ) (old new : List ℕ) → bytes_eq (codes "}") w ≡ true → new ≡ old ++ (n + 1) ∷ [] → reverse new ≡ closers_after w n (reverse old)
 unfolding closers_after
-closer_kept w n old new e p = (ap from_last p ∙ last_push old (n + 1)) ∙ sym (rw (e) refl)
+closer_kept w n old new e p = (ap reverse p ∙ last_push old (n + 1)) ∙ sym (rw (e) refl)
 
 pub other_len : (w : List ℕ) (n : ℕ) (cs : List ℕ) → bytes_eq (codes "{") w ≡ false → 0 ≡ block_len w n cs
 other_len w n cs e = other_at w n cs e
@@ -123,21 +121,21 @@ pub other_kept : (w : List ℕ) (n : ℕ) (cs : List ℕ) → bytes_eq (codes "}
 unfolding closers_after
 other_kept w n cs e f = sym (rw (e, f) refl)
 
-pub open_len : (w : List ℕ) (n : ℕ) (old new : List ℕ) (x : ℕ) → bytes_eq (codes "{") w ≡ true → old ≡ new ++ x ∷ [] → n - x ≡ block_len w n (from_last old)
+pub open_len : (w : List ℕ) (n : ℕ) (old new : List ℕ) (x : ℕ) → bytes_eq (codes "{") w ≡ true → old ≡ new ++ x ∷ [] → n - x ≡ block_len w n (reverse old)
 unfolding block_len nth
-open_len w n old new x e p = sym (rw (e) (ap (λ r. n - nth 0 r) (ap from_last p ∙ last_push new x)))
+open_len w n old new x e p = sym (rw (e) (ap (λ r. n - nth 0 r) (ap reverse p ∙ last_push new x)))
 
-pub open_kept : (w : List ℕ) (n : ℕ) (old new : List ℕ) (x : ℕ) → bytes_eq (codes "}") w ≡ false → bytes_eq (codes "{") w ≡ true → old ≡ new ++ x ∷ [] → from_last new ≡ closers_after w n (from_last old)
+pub open_kept : (w : List ℕ) (n : ℕ) (old new : List ℕ) (x : ℕ) → bytes_eq (codes "}") w ≡ false → bytes_eq (codes "{") w ≡ true → old ≡ new ++ x ∷ [] → reverse new ≡ closers_after w n (reverse old)
 unfolding closers_after
-open_kept w n old new x e f p = sym (rw (e, f) (ap (drop 1) (ap from_last p ∙ last_push new x)))
+open_kept w n old new x e f p = sym (rw (e, f) (ap (drop 1) (ap reverse p ∙ last_push new x)))
 
-pub bare_len : (w : List ℕ) (n : ℕ) (old : List ℕ) → bytes_eq (codes "{") w ≡ true → old ≡ [] → n ≡ block_len w n (from_last old)
-unfolding block_len nth from_last
-bare_len w n old e p = sym (rw (e) (ap (λ r. n - nth 0 (from_last r)) p ∙ omega arith))
+pub bare_len : (w : List ℕ) (n : ℕ) (old : List ℕ) → bytes_eq (codes "{") w ≡ true → old ≡ [] → n ≡ block_len w n (reverse old)
+unfolding block_len nth
+bare_len w n old e p = sym (rw (e) (ap (λ r. n - nth 0 (reverse r)) p ∙ omega arith))
 
-pub bare_kept : (w : List ℕ) (n : ℕ) (old new : List ℕ) → bytes_eq (codes "}") w ≡ false → bytes_eq (codes "{") w ≡ true → old ≡ [] → new ≡ [] → from_last new ≡ closers_after w n (from_last old)
-unfolding closers_after from_last
-bare_kept w n old new e f p q = ap from_last q ∙ sym (rw (e, f) (ap (λ r. drop 1 (from_last r)) p))
+pub bare_kept : (w : List ℕ) (n : ℕ) (old new : List ℕ) → bytes_eq (codes "}") w ≡ false → bytes_eq (codes "{") w ≡ true → old ≡ [] → new ≡ [] → reverse new ≡ closers_after w n (reverse old)
+unfolding closers_after
+bare_kept w n old new e f p q = ap reverse q ∙ sym (rw (e, f) (ap (λ r. drop 1 (reverse r)) p))
 
 -- the tokens from the last one on
 next_token : (ts : List Token) (k : ℕ) (d : Token) → k < length ts → drop k ts ≡ slice_index_or ts k d ∷ drop (suc k) ts
@@ -157,16 +155,16 @@ sign_first text k t ts e = rw (e) (ap (λ n. sign_of text k t ∷ signs_from tex
 pub record Backs (text : List ℕ) (ts : List Token) (n : ℕ) (back : List Lexeme) (closers : List ℕ) : Type 0 where
   pub within : n ≤ length ts
   pub signs : seen_back back ≡ with_blocks (signs_from text n (drop n ts))
-  pub waiting : from_last closers ≡ waits (signs_from text n (drop n ts))
+  pub waiting : reverse closers ≡ waits (signs_from text n (drop n ts))
 
 pub backs_none : (text : List ℕ) (ts : List Token) (back : List Lexeme) (closers : List ℕ) → back ≡ [] → closers ≡ [] → Backs text ts (length ts) back closers
-unfolding seen_back from_last waits with_blocks signs_from
+unfolding seen_back waits with_blocks signs_from
 backs_none text ts back closers b c =
     let e : drop (length ts) ts ≡ [] = drop_all (length ts) ts (omega arith) in
     record {
       within = omega arith;
       signs = ap seen_back b ∙ sym (ap (λ x. with_blocks (signs_from text (length ts) x)) e);
-      waiting = ap from_last c ∙ sym (ap (λ x. waits (signs_from text (length ts) x)) e);
+      waiting = ap reverse c ∙ sym (ap (λ x. waits (signs_from text (length ts) x)) e);
     }
 
 pub backs_skip : (text : List ℕ) (ts : List Token) (d : Token) (n m : ℕ) (back : List Lexeme) (closers : List ℕ) → n ≡ suc m → is_blank (slice_index_or ts m d).kind ≡ true → Backs text ts n back closers → Backs text ts m back closers
@@ -190,7 +188,7 @@ block_first s ss = ap (λ h. record s { holds = h } ∷ with_blocks ss) (sym (bl
 
 pub backs_push : (text : List ℕ) (ts : List Token) (d : Token) (n m : ℕ) (back news : List Lexeme) (closers after : List ℕ) (l : Lexeme) → n ≡ suc m → is_blank (slice_index_or ts m d).kind ≡ false
     → l.word.now ≡ text_of text (slice_index_or ts m d) → l.is_name ≡ (is_word (slice_index_or ts m d).kind && not (has reserved (text_of text (slice_index_or ts m d)))) → l.number ≡ m
-    → l.holds ≡ block_len l.word.now (length back) (from_last closers) → from_last after ≡ closers_after l.word.now (length back) (from_last closers) → news ≡ back ++ l ∷ []
+    → l.holds ≡ block_len l.word.now (length back) (reverse closers) → reverse after ≡ closers_after l.word.now (length back) (reverse closers) → news ≡ back ++ l ∷ []
     → Backs text ts n back closers → Backs text ts m news after
 unfolding waits sign_of
 backs_push text ts d n m back news closers after l e b w i k v a p h =
@@ -200,9 +198,9 @@ backs_push text ts d n m back news closers after l e b w i k v a p h =
     let in_list : m < length ts = omega (arith, g.within) in
     let s : signs_from text m (drop m ts) ≡ sign_of text m t ∷ ss = ap (signs_from text m) (next_token ts m d in_list) ∙ sign_first text m t (drop (suc m) ts) b in
     let len : length back ≡ length ss = sym (back_length back) ∙ (ap length g.signs ∙ blocks_length ss) in
-    let holds : l.holds ≡ block_len (text_of text t) (length ss) (waits ss) = v ∙ (ap (λ x. block_len x (length back) (from_last closers)) w ∙ (ap (λ x. block_len (text_of text t) x (from_last closers)) len ∙ ap (block_len (text_of text t) (length ss)) g.waiting)) in
+    let holds : l.holds ≡ block_len (text_of text t) (length ss) (waits ss) = v ∙ (ap (λ x. block_len x (length back) (reverse closers)) w ∙ (ap (λ x. block_len (text_of text t) x (reverse closers)) len ∙ ap (block_len (text_of text t) (length ss)) g.waiting)) in
     let first : sign l ∷ seen_back back ≡ with_blocks (sign_of text m t ∷ ss) = ap (λ x. x ∷ seen_back back) (same_sign l text m _ t w i k holds) ∙ (ap (λ x. record (sign_of text m t) { holds = block_len (text_of text t) (length ss) (waits ss) } ∷ x) g.signs ∙ sym (block_first (sign_of text m t) ss)) in
-    let closes : from_last after ≡ closers_after (text_of text t) (length ss) (waits ss) = a ∙ (ap (λ x. closers_after x (length back) (from_last closers)) w ∙ (ap (λ x. closers_after (text_of text t) x (from_last closers)) len ∙ ap (closers_after (text_of text t) (length ss)) g.waiting)) in
+    let closes : reverse after ≡ closers_after (text_of text t) (length ss) (waits ss) = a ∙ (ap (λ x. closers_after x (length back) (reverse closers)) w ∙ (ap (λ x. closers_after (text_of text t) x (reverse closers)) len ∙ ap (closers_after (text_of text t) (length ss)) g.waiting)) in
     record {
       within = omega arith;
       signs = (ap seen_back p ∙ back_push back l) ∙ (first ∙ sym (ap with_blocks s));

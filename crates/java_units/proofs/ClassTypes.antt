@@ -24,15 +24,15 @@ use Rattle.java_units.specs.Dimensions.{greatest, bound_dims, params_dims, metho
 use Rattle.java_units.proofs.Dimensions.{Few, plain_few, field_few, param_few}
 
 -- none of these lists is longer
-abbrev Short : ℕ → List (List Sign) → Type 0
+abbrev pub Short : ℕ → List (List Sign) → Type 0
 Short n [] = Unit {0}
 Short n (x ∷ xs) = (length x ≤ n) × Short n xs
 
-short_if : (b : Bool) (n : ℕ) (xs : List (List Sign)) → Short n xs → Short n (if b then [] else xs)
+pub short_if : (b : Bool) (n : ℕ) (xs : List (List Sign)) → Short n xs → Short n (if b then [] else xs)
 short_if true n xs h = tt
 short_if false n xs h = h
 
-starts_short : (ss : List Sign) (f : List Sign → ℕ) (k n : ℕ) → length ss ≤ n → Short n (starts f k ss)
+pub starts_short : (ss : List Sign) (f : List Sign → ℕ) (k n : ℕ) → length ss ≤ n → Short n (starts f k ss)
 unfolding starts
 starts_short [] f zero n l = tt
 starts_short [] f (suc k) n l = tt
@@ -41,17 +41,17 @@ starts_short (s ∷ ss) f zero n l =
     let d : length ss ≤ n = omega (arith, l) in
     short_if (f (s ∷ ss) == 0) n ((s ∷ ss) ∷ starts f (f (s ∷ ss) - 1) ss) (l, starts_short ss f (f (s ∷ ss) - 1) n d)
 
-drops_short : (xs : List (List Sign)) (n : ℕ) → Short n xs → Short n (map (drop 1) xs)
+pub drops_short : (xs : List (List Sign)) (n : ℕ) → Short n xs → Short n (map (drop 1) xs)
 drops_short [] n h = tt
 drops_short (x ∷ xs) n h = let d : length (drop 1 x) ≤ n = omega (arith, length-drop 1 x, h.0) in (d, drops_short xs n h.1)
 
-drop_short : (k n : ℕ) (x : List Sign) → length x ≤ n → length (drop k x) ≤ n
+pub drop_short : (k n : ℕ) (x : List Sign) → length x ≤ n → length (drop k x) ≤ n
 drop_short k n x l = omega (arith, length-drop k x, l)
 
-take_short : (k n : ℕ) (x : List Sign) → length x ≤ n → length (take k x) ≤ n
+pub take_short : (k n : ℕ) (x : List Sign) → length x ≤ n → length (take k x) ≤ n
 take_short k n x l = omega (arith, length-take k x, l)
 
-entries_short : (e : Entry) (ss : List Sign) (n : ℕ) → length ss ≤ n → Short n (entries e ss)
+pub entries_short : (e : Entry) (ss : List Sign) (n : ℕ) → length ss ≤ n → Short n (entries e ss)
 unfolding entries
 entries_short e ss n l =
     let m = entry_len e ss in

@@ -4,7 +4,7 @@ use Rattle.std.proofs.lemmas.List.{length-drop}
 use Rattle.std.proofs.lemmas.List.Elements.{All-head}
 use Rattle.std.proofs.Math.Seq.{take-add, drop-append_seam, drop-append-add}
 use Rattle.java_units.specs.Signs.{Sign, is, has}
-use Rattle.java_units.specs.Forms.{begins, begins_name, primitives, span, annotation_len, final_len, ahead_len, type_len, dots_len, wide_len, dims_len, called_len, param_len}
+use Rattle.java_units.specs.Forms.{begins, begins_name, primitives, span, annotation_len, final_len, ahead_len, type_len, dots_len, wide_len, dims_len, param_name_len, param_len}
 use Rattle.java_units.specs.Identifiers.{is_identifier}
 use Rattle.java_units.specs.Grammar.{IsSign, sign, IsBoth, both, IsEither, one, other, IsOptional, absent, present, IsMany, last, followed, IsIdentifier, identifier, primitive, IsDims, IsType, IsAnnotation, IsDots, IsParam}
 use Rattle.java_units.specs.Longest.{NamesAreIdentifiers, ParamsAreLongest}
@@ -21,31 +21,31 @@ first_named s ss f = All-head (λ s. s.is_name ≡ true → is_identifier s.text
 
 -- the name of a parameter
 
-abbrev pub IsCalled : List Sign → Type 0
-IsCalled ss = IsEither IsIdentifier (IsSign (codes "this")) ss
+abbrev pub IsParamName : List Sign → Type 0
+IsParamName ss = IsEither IsIdentifier (IsSign (codes "this")) ss
 
 or_if : (a b : Bool) → b ≡ true → (a || b) ≡ true
 or_if true b e = refl
 or_if false b e = e
 
-called_named : (s : Sign) (ss : List Sign) → s.is_name ≡ true → called_len (s ∷ ss) ≡ suc (dims_len ss)
-unfolding called_len begins begins_name
-called_named s ss e = rw (e) (omega arith)
+param_name_named : (s : Sign) (ss : List Sign) → s.is_name ≡ true → param_name_len (s ∷ ss) ≡ suc (dims_len ss)
+unfolding param_name_len begins begins_name
+param_name_named s ss e = rw (e) (omega arith)
 
-called_this : (s : Sign) (ss : List Sign) → is (codes "this") s ≡ true → called_len (s ∷ ss) ≡ suc (dims_len ss)
-unfolding called_len begins begins_name
-called_this s ss e = rw (or_if s.is_name (is (codes "this") s) e) (omega arith)
+param_name_this : (s : Sign) (ss : List Sign) → is (codes "this") s ≡ true → param_name_len (s ∷ ss) ≡ suc (dims_len ss)
+unfolding param_name_len begins begins_name
+param_name_this s ss e = rw (or_if s.is_name (is (codes "this") s) e) (omega arith)
 
-called_just : (name : List Sign) → IsCalled name → (rest : List Sign) → called_len (name ++ rest) ≡ suc (dims_len rest)
-called_just _ (one _ (identifier s e)) rest = called_named s rest e
-called_just _ (other _ (sign s e)) rest = called_this s rest e
+param_name_just : (name : List Sign) → IsParamName name → (rest : List Sign) → param_name_len (name ++ rest) ≡ suc (dims_len rest)
+param_name_just _ (one _ (identifier s e)) rest = param_name_named s rest e
+param_name_just _ (other _ (sign s e)) rest = param_name_this s rest e
 
-pub called_one : (name : List Sign) → IsCalled name → length name ≡ 1
-called_one _ (one _ (identifier s e)) = refl
-called_one _ (other _ (sign s e)) = refl
+pub param_name_one : (name : List Sign) → IsParamName name → length name ≡ 1
+param_name_one _ (one _ (identifier s e)) = refl
+param_name_one _ (other _ (sign s e)) = refl
 
 -- what a name or `this` at the front is not
-pub record CalledPrefix (ss : List Sign) : Type 0 where
+pub record ParamNamePrefix (ss : List Sign) : Type 0 where
   pub no_angle : begins (codes "<") ss ≡ false
   pub no_dot : begins (codes ".") ss ≡ false
   pub no_square : begins (codes "[") ss ≡ false
@@ -53,15 +53,15 @@ pub record CalledPrefix (ss : List Sign) : Type 0 where
 this_differs : (a : ℕ) (w : List ℕ) → w ≡ a ∷ [] → w ≢ codes "this"
 this_differs a w e h = let l : 1 ≡ 4 = ap length (sym e ∙ h) in absurd (omega (arith, l))
 
-pub called_prefix : (name : List Sign) → IsCalled name → (rest : List Sign) → NamesAreIdentifiers (name ++ rest) → CalledPrefix (name ++ rest)
-called_prefix _ (one _ (identifier s e)) rest f =
+pub param_name_prefix : (name : List Sign) → IsParamName name → (rest : List Sign) → NamesAreIdentifiers (name ++ rest) → ParamNamePrefix (name ++ rest)
+param_name_prefix _ (one _ (identifier s e)) rest f =
     let n = first_named s rest f in
     record {
       no_angle = begins_not (codes "<") s rest (named_not (codes "<") s no_identifier-angle n e);
       no_dot = begins_not (codes ".") s rest (named_not (codes ".") s no_identifier-dot n e);
       no_square = begins_not (codes "[") s rest (named_not (codes "[") s no_identifier-square n e);
     }
-called_prefix _ (other _ (sign s e)) rest f = record {
+param_name_prefix _ (other _ (sign s e)) rest f = record {
   no_angle = begins_not (codes "<") s rest (is_other (codes "<") (codes "this") (this_differs 60 (codes "<") refl) s e);
   no_dot = begins_not (codes ".") s rest (is_other (codes ".") (codes "this") (this_differs 46 (codes ".") refl) s e);
   no_square = begins_not (codes "[") s rest (is_other (codes "[") (codes "this") (this_differs 91 (codes "[") refl) s e);
@@ -77,11 +77,11 @@ three_dots : (a b c : Sign) (ss : List Sign) → is (codes ".") a ≡ true → i
 unfolding dots_len begins
 three_dots a b c ss e f g = rw (e, f, g) refl
 
-pub dots_just : (dots : List Sign) → IsOptional IsDots dots → (rest : List Sign) → CalledPrefix rest → dots_len (dots ++ rest) ≡ length dots
+pub dots_just : (dots : List Sign) → IsOptional IsDots dots → (rest : List Sign) → ParamNamePrefix rest → dots_len (dots ++ rest) ≡ length dots
 dots_just _ absent rest h = no_dots rest h.no_dot
 dots_just _ (present _ (both _ _ (sign a e) (both _ _ (sign b f) (sign c g)))) rest h = three_dots a b c rest e f g
 
-pub dots_end : (dots : List Sign) → IsOptional IsDots dots → (rest : List Sign) → NamesAreIdentifiers (dots ++ rest) → CalledPrefix rest → TypeEnds (dots ++ rest)
+pub dots_end : (dots : List Sign) → IsOptional IsDots dots → (rest : List Sign) → NamesAreIdentifiers (dots ++ rest) → ParamNamePrefix rest → TypeEnds (dots ++ rest)
 dots_end _ absent rest f h = record { no_angle = h.no_angle; no_part = no_name_tail rest h.no_dot; no_dim = no_dim rest h.no_square }
 dots_end _ (present _ (both _ _ (sign a e) (both _ _ (sign b g) (sign c i)))) rest f h =
     let more = b ∷ c ∷ rest in
@@ -163,15 +163,15 @@ wide_at ss m e = pick (type_len ss) m 0 (type_len ss + dots_len (drop (type_len 
 two_picks : (w c a n m : ℕ) → w ≡ suc n → c ≡ suc m → (if w == 0 then 0 else if c == 0 then 0 else (a + w) + c) ≡ (a + suc n) + suc m
 two_picks w c a n m e h = pick w n 0 (if c == 0 then 0 else (a + w) + c) (sym e) ∙ (pick c m 0 ((a + w) + c) (sym h) ∙ omega (arith, e, h))
 
-param_at : (ss : List Sign) (a n m : ℕ) → ahead_len ss ≡ a → wide_len (drop a ss) ≡ suc n → called_len (drop (suc n) (drop a ss)) ≡ suc m → param_len ss ≡ (a + suc n) + suc m
+param_at : (ss : List Sign) (a n m : ℕ) → ahead_len ss ≡ a → wide_len (drop a ss) ≡ suc n → param_name_len (drop (suc n) (drop a ss)) ≡ suc m → param_len ss ≡ (a + suc n) + suc m
 unfolding param_len
 param_at ss a n m e w c =
     let zs = drop (ahead_len ss) ss in
     let w1 : wide_len zs ≡ suc n = ap (λ k. wide_len (drop k ss)) e ∙ w in
-    let c1 : called_len (drop (wide_len zs) zs) ≡ suc m = ap (λ k. called_len (drop k zs)) w1 ∙ (ap (λ k. called_len (drop (suc n) (drop k ss))) e ∙ c) in
-    two_picks (wide_len zs) (called_len (drop (wide_len zs) zs)) (ahead_len ss) n m w1 c1 ∙ ap (λ k. (k + suc n) + suc m) e
+    let c1 : param_name_len (drop (wide_len zs) zs) ≡ suc m = ap (λ k. param_name_len (drop k zs)) w1 ∙ (ap (λ k. param_name_len (drop (suc n) (drop k ss))) e ∙ c) in
+    two_picks (wide_len zs) (param_name_len (drop (wide_len zs) zs)) (ahead_len ss) n m w1 c1 ∙ ap (λ k. (k + suc n) + suc m) e
 
-pub wide_just : (kind dots rest : List Sign) → IsType kind → IsOptional IsDots dots → NamesAreIdentifiers (kind ++ (dots ++ rest)) → CalledPrefix rest → wide_len (kind ++ (dots ++ rest)) ≡ length kind + length dots
+pub wide_just : (kind dots rest : List Sign) → IsType kind → IsOptional IsDots dots → NamesAreIdentifiers (kind ++ (dots ++ rest)) → ParamNamePrefix rest → wide_len (kind ++ (dots ++ rest)) ≡ length kind + length dots
 wide_just kind dots rest t d f h =
     let behind = names_behind kind (dots ++ rest) f in
     let size = type_just kind t (dots ++ rest) f (dots_end dots d rest behind h) in
@@ -191,21 +191,21 @@ ahead_just marks fin rest m n f h =
 pub past_two : (a b rest : List Sign) → drop (length a + length b) (a ++ (b ++ rest)) ≡ rest
 past_two a b rest = drop-append-add a (b ++ rest) (length b) ∙ drop-append_seam b rest
 
-pub param_reads : (marks fin kind dots name rest : List Sign) → IsMany IsAnnotation marks → IsOptional (IsSign (codes "final")) fin → IsType kind → IsOptional IsDots dots → IsCalled name → NamesAreIdentifiers (marks ++ (fin ++ (kind ++ (dots ++ (name ++ rest))))) → param_len (marks ++ (fin ++ (kind ++ (dots ++ (name ++ rest))))) ≡ ((length marks + length fin) + (length kind + length dots)) + suc (dims_len rest)
+pub param_reads : (marks fin kind dots name rest : List Sign) → IsMany IsAnnotation marks → IsOptional (IsSign (codes "final")) fin → IsType kind → IsOptional IsDots dots → IsParamName name → NamesAreIdentifiers (marks ++ (fin ++ (kind ++ (dots ++ (name ++ rest))))) → param_len (marks ++ (fin ++ (kind ++ (dots ++ (name ++ rest))))) ≡ ((length marks + length fin) + (length kind + length dots)) + suc (dims_len rest)
 param_reads marks fin kind dots name rest m n t d c f =
     let x4 = name ++ rest in
     let x2 = kind ++ (dots ++ x4) in
     let all = marks ++ (fin ++ x2) in
     let f2 = names_behind fin x2 (names_behind marks (fin ++ x2) f) in
     let f4 = names_behind dots x4 (names_behind kind (dots ++ x4) f2) in
-    let prefix = called_prefix name c rest f4 in
+    let prefix = param_name_prefix name c rest f4 in
     let ahead = ahead_just marks fin x2 m n f (type_prefix kind t (dots ++ x4) f2) in
     let wide = wide_just kind dots x4 t d f2 prefix in
     let some : 0 < length kind + length dots = omega (arith, type_some kind t) in
     let there = suc_of (length kind + length dots) some in
     let w : wide_len (drop (length marks + length fin) all) ≡ suc there.0 = ap wide_len (past_two marks fin x2) ∙ (wide ∙ there.1) in
     let behind : drop (suc there.0) (drop (length marks + length fin) all) ≡ x4 = ap (drop (suc there.0)) (past_two marks fin x2) ∙ (ap (λ k. drop k x2) (sym there.1) ∙ past_two kind dots x4) in
-    let e : called_len (drop (suc there.0) (drop (length marks + length fin) all)) ≡ suc (dims_len rest) = ap called_len behind ∙ called_just name c rest in
+    let e : param_name_len (drop (suc there.0) (drop (length marks + length fin) all)) ≡ suc (dims_len rest) = ap param_name_len behind ∙ param_name_just name c rest in
     param_at all (length marks + length fin) there.0 (dims_len rest) ahead w e ∙ ap (λ k. ((length marks + length fin) + k) + suc (dims_len rest)) (sym there.1)
 
 pub regroup : (a b c d e g h : List Sign) → (a ++ (b ++ (c ++ (d ++ (e ++ g))))) ++ h ≡ a ++ (b ++ (c ++ (d ++ (e ++ (g ++ h)))))
@@ -218,11 +218,11 @@ param_least : (ss : List Sign) → IsParam ss → (tail : List Sign) → NamesAr
 param_least _ (both marks _ m (both fin _ n (both kind _ t (both dots _ d (both name dims c ds))))) tail f =
     let same = regroup marks fin kind dots name dims tail in
     let g = subst NamesAreIdentifiers same f in
-    omega (arith, ap param_len same, param_reads marks fin kind dots name (dims ++ tail) m n t d c g, dims_least dims ds tail, size_of marks fin kind dots name dims, called_one name c)
+    omega (arith, ap param_len same, param_reads marks fin kind dots name (dims ++ tail) m n t d c g, dims_least dims ds tail, size_of marks fin kind dots name dims, param_name_one name c)
 
 pub param_some : (ss : List Sign) → IsParam ss → 0 < length ss
 param_some _ (both marks _ m (both fin _ n (both kind _ t (both dots _ d (both name dims c ds))))) =
-    omega (arith, size_of marks fin kind dots name dims, called_one name c)
+    omega (arith, size_of marks fin kind dots name dims, param_name_one name c)
 
 -- what is read of a parameter is one
 
@@ -264,36 +264,36 @@ dots_sound (a ∷ []) = without_dots (a ∷ []) (second_no_dot (a ∷ []) refl)
 dots_sound (a ∷ b ∷ []) = without_dots (a ∷ b ∷ []) (third_no_dot (a ∷ b ∷ []) refl)
 dots_sound (a ∷ b ∷ c ∷ ss) = dots_by a b c ss (is (codes ".") a) (is (codes ".") b) (is (codes ".") c) refl refl refl
 
-abbrev IsCalledWide : List Sign → Type 0
-IsCalledWide ss = IsBoth (IsEither IsIdentifier (IsSign (codes "this"))) IsDims ss
+abbrev IsParamNameWide : List Sign → Type 0
+IsParamNameWide ss = IsBoth (IsEither IsIdentifier (IsSign (codes "this"))) IsDims ss
 
-no_called : (s : Sign) (ss : List Sign) → s.is_name ≡ false → is (codes "this") s ≡ false → called_len (s ∷ ss) ≡ 0
-unfolding called_len begins begins_name
-no_called s ss e f = rw (f, e) refl
+no_param_name : (s : Sign) (ss : List Sign) → s.is_name ≡ false → is (codes "this") s ≡ false → param_name_len (s ∷ ss) ≡ 0
+unfolding param_name_len begins begins_name
+no_param_name s ss e f = rw (f, e) refl
 
-empty_called : called_len [] ≡ 0
-unfolding called_len begins begins_name
-empty_called = refl
+empty_param_name : param_name_len [] ≡ 0
+unfolding param_name_len begins begins_name
+empty_param_name = refl
 
-called_by : (s : Sign) (ss : List Sign) (p q : Bool) → s.is_name ≡ p → is (codes "this") s ≡ q → 0 < called_len (s ∷ ss) → IsCalledWide (take (called_len (s ∷ ss)) (s ∷ ss))
-called_by s ss true q e f l =
-    subst (λ k. IsCalledWide (take k (s ∷ ss))) (sym (called_named s ss e)) (both (s ∷ []) (take (dims_len ss) ss) (one (s ∷ []) (identifier s e)) (dims_sound ss))
-called_by s ss false true e f l =
-    subst (λ k. IsCalledWide (take k (s ∷ ss))) (sym (called_this s ss f)) (both (s ∷ []) (take (dims_len ss) ss) (other (s ∷ []) (sign s f)) (dims_sound ss))
-called_by s ss false false e f l = absurd (omega (arith, no_called s ss e f, l))
+param_name_by : (s : Sign) (ss : List Sign) (p q : Bool) → s.is_name ≡ p → is (codes "this") s ≡ q → 0 < param_name_len (s ∷ ss) → IsParamNameWide (take (param_name_len (s ∷ ss)) (s ∷ ss))
+param_name_by s ss true q e f l =
+    subst (λ k. IsParamNameWide (take k (s ∷ ss))) (sym (param_name_named s ss e)) (both (s ∷ []) (take (dims_len ss) ss) (one (s ∷ []) (identifier s e)) (dims_sound ss))
+param_name_by s ss false true e f l =
+    subst (λ k. IsParamNameWide (take k (s ∷ ss))) (sym (param_name_this s ss f)) (both (s ∷ []) (take (dims_len ss) ss) (other (s ∷ []) (sign s f)) (dims_sound ss))
+param_name_by s ss false false e f l = absurd (omega (arith, no_param_name s ss e f, l))
 
-called_sound : (ss : List Sign) → 0 < called_len ss → IsCalledWide (take (called_len ss) ss)
-called_sound [] l = absurd (omega (arith, empty_called, l))
-called_sound (s ∷ ss) l = called_by s ss s.is_name (is (codes "this") s) refl refl l
+param_name_sound : (ss : List Sign) → 0 < param_name_len ss → IsParamNameWide (take (param_name_len ss) ss)
+param_name_sound [] l = absurd (omega (arith, empty_param_name, l))
+param_name_sound (s ∷ ss) l = param_name_by s ss s.is_name (is (codes "this") s) refl refl l
 
-called_within_by : (s : Sign) (ss : List Sign) (p q : Bool) → s.is_name ≡ p → is (codes "this") s ≡ q → called_len (s ∷ ss) ≤ suc (length ss)
-called_within_by s ss true q e f = omega (arith, called_named s ss e, dims_within ss)
-called_within_by s ss false true e f = omega (arith, called_this s ss f, dims_within ss)
-called_within_by s ss false false e f = omega (arith, no_called s ss e f)
+param_name_within_by : (s : Sign) (ss : List Sign) (p q : Bool) → s.is_name ≡ p → is (codes "this") s ≡ q → param_name_len (s ∷ ss) ≤ suc (length ss)
+param_name_within_by s ss true q e f = omega (arith, param_name_named s ss e, dims_within ss)
+param_name_within_by s ss false true e f = omega (arith, param_name_this s ss f, dims_within ss)
+param_name_within_by s ss false false e f = omega (arith, no_param_name s ss e f)
 
-called_within : (ss : List Sign) → called_len ss ≤ length ss
-called_within [] = omega (arith, empty_called)
-called_within (s ∷ ss) = called_within_by s ss s.is_name (is (codes "this") s) refl refl
+param_name_within : (ss : List Sign) → param_name_len ss ≤ length ss
+param_name_within [] = omega (arith, empty_param_name)
+param_name_within (s ∷ ss) = param_name_within_by s ss s.is_name (is (codes "this") s) refl refl
 
 pub no_wide : (ss : List Sign) → type_len ss ≡ 0 → wide_len ss ≡ 0
 unfolding wide_len
@@ -322,8 +322,8 @@ ahead_within ss =
 unfoldable kind_at : List Sign → List Sign
 kind_at ss = drop (ahead_len ss) ss
 
-unfoldable called_at : List Sign → List Sign
-called_at ss = drop (wide_len (kind_at ss)) (kind_at ss)
+unfoldable param_name_at : List Sign → List Sign
+param_name_at ss = drop (wide_len (kind_at ss)) (kind_at ss)
 
 pub two_if : (w c a : ℕ) → w ≡ 0 → (if w == 0 then 0 else if c == 0 then 0 else (a + w) + c) ≡ 0
 two_if w c a e = rw (e) refl
@@ -337,27 +337,27 @@ one_if w c a e = rw (e) (if_zero (w == 0))
 
 record Reads (ss : List Sign) : Type 0 where
   wide : 0 < wide_len (kind_at ss)
-  called : 0 < called_len (called_at ss)
-  whole : param_len ss ≡ ahead_len ss + (wide_len (kind_at ss) + called_len (called_at ss))
+  named : 0 < param_name_len (param_name_at ss)
+  whole : param_len ss ≡ ahead_len ss + (wide_len (kind_at ss) + param_name_len (param_name_at ss))
 
-reads_by : (ss : List Sign) (w c : ℕ) → wide_len (kind_at ss) ≡ w → called_len (called_at ss) ≡ c → 0 < param_len ss → Reads ss
-unfolding param_len kind_at called_at
-reads_by ss zero c e h l = let none : param_len ss ≡ 0 = two_if (wide_len (kind_at ss)) (called_len (called_at ss)) (ahead_len ss) e in absurd (omega (arith, none, l))
-reads_by ss (suc w) zero e h l = let none : param_len ss ≡ 0 = one_if (wide_len (kind_at ss)) (called_len (called_at ss)) (ahead_len ss) h in absurd (omega (arith, none, l))
+reads_by : (ss : List Sign) (w c : ℕ) → wide_len (kind_at ss) ≡ w → param_name_len (param_name_at ss) ≡ c → 0 < param_len ss → Reads ss
+unfolding param_len kind_at param_name_at
+reads_by ss zero c e h l = let none : param_len ss ≡ 0 = two_if (wide_len (kind_at ss)) (param_name_len (param_name_at ss)) (ahead_len ss) e in absurd (omega (arith, none, l))
+reads_by ss (suc w) zero e h l = let none : param_len ss ≡ 0 = one_if (wide_len (kind_at ss)) (param_name_len (param_name_at ss)) (ahead_len ss) h in absurd (omega (arith, none, l))
 reads_by ss (suc w) (suc c) e h l =
-    let size : param_len ss ≡ (ahead_len ss + suc w) + suc c = two_picks (wide_len (kind_at ss)) (called_len (called_at ss)) (ahead_len ss) w c e h in
-    record { wide = omega (arith, e); called = omega (arith, h); whole = omega (arith, size, e, h) }
+    let size : param_len ss ≡ (ahead_len ss + suc w) + suc c = two_picks (wide_len (kind_at ss)) (param_name_len (param_name_at ss)) (ahead_len ss) w c e h in
+    record { wide = omega (arith, e); named = omega (arith, h); whole = omega (arith, size, e, h) }
 
 reads : (ss : List Sign) → 0 < param_len ss → Reads ss
-reads ss l = reads_by ss (wide_len (kind_at ss)) (called_len (called_at ss)) refl refl l
+reads ss l = reads_by ss (wide_len (kind_at ss)) (param_name_len (param_name_at ss)) refl refl l
 
 param_within_by : (ss : List Sign) (n : ℕ) → param_len ss ≡ n → param_len ss ≤ length ss
-unfolding kind_at called_at
+unfolding kind_at param_name_at
 param_within_by ss zero e = omega (arith, e)
 param_within_by ss (suc n) e =
     let some : 0 < param_len ss = omega (arith, e) in
     let r = reads ss some in
-    omega (arith, r.whole, ahead_within ss, length-drop (ahead_len ss) ss, wide_within_by (kind_at ss) (type_len (kind_at ss)) refl, length-drop (wide_len (kind_at ss)) (kind_at ss), called_within (called_at ss))
+    omega (arith, r.whole, ahead_within ss, length-drop (ahead_len ss) ss, wide_within_by (kind_at ss) (type_len (kind_at ss)) refl, length-drop (wide_len (kind_at ss)) (kind_at ss), param_name_within (param_name_at ss))
 
 pub param_within : (ss : List Sign) → param_len ss ≤ length ss
 param_within ss = param_within_by ss (param_len ss) refl
@@ -366,13 +366,13 @@ glue : (a b c d e : List Sign) → (a ++ b) ++ ((c ++ d) ++ e) ≡ a ++ (b ++ (c
 glue a b c d e = simp append_assoc
 
 pub param_sound : (ss : List Sign) → 0 < param_len ss → IsParam (take (param_len ss) ss)
-unfolding kind_at called_at
+unfolding kind_at param_name_at
 param_sound ss l =
     let r = reads ss l in
     let n = span annotation_len ss in
     let ys = drop n ss in
     let zs = kind_at ss in
-    let us = called_at ss in
+    let us = param_name_at ss in
     let w = wide_by zs (type_len zs) refl r.wide in
     let t = type_len zs in
     let vs = drop t zs in
@@ -380,12 +380,12 @@ param_sound ss l =
     let b = take (final_len ys) ys in
     let c = take t zs in
     let d = take (dots_len vs) vs in
-    let e = take (called_len us) us in
-    let tree = both a (b ++ (c ++ (d ++ e))) (many_sound IsAnnotation annotation_len annotation_sound ss) (both b (c ++ (d ++ e)) (final_sound ys) (both c (d ++ e) (type_sound zs w.0) (both d e (dots_sound vs) (called_sound us r.called)))) in
+    let e = take (param_name_len us) us in
+    let tree = both a (b ++ (c ++ (d ++ e))) (many_sound IsAnnotation annotation_len annotation_sound ss) (both b (c ++ (d ++ e)) (final_sound ys) (both c (d ++ e) (type_sound zs w.0) (both d e (dots_sound vs) (param_name_sound us r.named)))) in
     let first : take (ahead_len ss) ss ≡ a ++ b = ap (λ k. take k ss) (ahead_at ss n refl) ∙ take-add n (final_len ys) ss in
     let second : take (wide_len zs) zs ≡ c ++ d = ap (λ k. take k zs) w.1 ∙ take-add t (dots_len vs) zs in
-    let rest : take (wide_len zs + called_len us) zs ≡ (c ++ d) ++ e = take-add (wide_len zs) (called_len us) zs ∙ ap (λ xs. xs ++ e) second in
-    let whole : take (param_len ss) ss ≡ (a ++ b) ++ ((c ++ d) ++ e) = ap (λ k. take k ss) r.whole ∙ (take-add (ahead_len ss) (wide_len zs + called_len us) ss ∙ (ap (λ xs. xs ++ take (wide_len zs + called_len us) zs) first ∙ ap (λ xs. (a ++ b) ++ xs) rest)) in
+    let rest : take (wide_len zs + param_name_len us) zs ≡ (c ++ d) ++ e = take-add (wide_len zs) (param_name_len us) zs ∙ ap (λ xs. xs ++ e) second in
+    let whole : take (param_len ss) ss ≡ (a ++ b) ++ ((c ++ d) ++ e) = ap (λ k. take k ss) r.whole ∙ (take-add (ahead_len ss) (wide_len zs + param_name_len us) ss ∙ (ap (λ xs. xs ++ take (wide_len zs + param_name_len us) zs) first ∙ ap (λ xs. (a ++ b) ++ xs) rest)) in
     subst IsParam (sym (whole ∙ glue a b c d e)) tree
 
 pub params_are_longest : ParamsAreLongest

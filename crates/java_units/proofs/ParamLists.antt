@@ -4,7 +4,7 @@ use Rattle.std.proofs.lemmas.List.{length-drop}
 use Rattle.std.proofs.Math.Seq.{take-add, drop-append_seam}
 use Rattle.java_units.specs.declared.entries.Entry.TheVariants as entry
 use Rattle.java_units.specs.Signs.{Sign, is, has}
-use Rattle.java_units.specs.Forms.{begins, begins_any, begins_name, primitives, span, annotation_len, ahead_len, wide_len, called_len, dim_len, param_len, next_len, entries_len, params_len}
+use Rattle.java_units.specs.Forms.{begins, begins_any, begins_name, primitives, span, annotation_len, ahead_len, wide_len, param_name_len, dim_len, param_len, next_len, entries_len, params_len}
 use Rattle.java_units.specs.Grammar.{sign, both, IsOptional, absent, present, IsList, IsParam, IsParams}
 use Rattle.java_units.specs.Longest.{NamesAreIdentifiers, ParamListsAreLongest}
 use Rattle.java_units.proofs.Walks.{pick, span-none}
@@ -13,7 +13,7 @@ use Rattle.java_units.proofs.TypeGrammar.{base_none, no_type, dims_just, takes_l
 use Rattle.java_units.proofs.ListGrammar.{ReadsTail, Stops, list_len, list_just, list_sound, list_part, names_behind, tail_none, suc_of}
 use Rattle.java_units.proofs.SignKinds.{IsNamed, unnamed, primitive_not, no_identifier-end, no_primitive-end, begins_not, begins_so, no_dim}
 use Rattle.java_units.proofs.Annotations.{no_annotation}
-use Rattle.java_units.proofs.ParamGrammar.{first_named, regroup, size_of, called_one, param_reads, param_some, param_sound, param_within, ahead_at, no_final_len, no_wide, two_if}
+use Rattle.java_units.proofs.ParamGrammar.{first_named, regroup, size_of, param_name_one, param_reads, param_some, param_sound, param_within, ahead_at, no_final_len, no_wide, two_if}
 
 -- what ends a parameter
 abbrev pub NoDim : List Sign → Type 0
@@ -23,7 +23,7 @@ pub param_stops : Stops IsParam param_len NoDim
 param_stops _ (both marks _ m (both fin _ n (both kind _ t (both dots _ d (both name dims c ds))))) tail f h =
     let same = regroup marks fin kind dots name dims tail in
     let g = subst NamesAreIdentifiers same f in
-    omega (arith, ap param_len same, param_reads marks fin kind dots name (dims ++ tail) m n t d c g, dims_just dims ds tail h, size_of marks fin kind dots name dims, called_one name c)
+    omega (arith, ap param_len same, param_reads marks fin kind dots name (dims ++ tail) m n t d c g, dims_just dims ds tail h, size_of marks fin kind dots name dims, param_name_one name c)
 
 one_ends : (a : ℕ) → 91 ≢ a → (s : Sign) (ss : List Sign) → is (a ∷ []) s ≡ true → NoDim (s ∷ ss)
 one_ends a d s ss e = no_dim (s ∷ ss) (begins_not (codes "[") s ss (is_other (codes "[") (a ∷ []) (differ 91 a d) s e))
@@ -76,7 +76,7 @@ no_param s ss f e =
     let marks : span annotation_len all ≡ 0 = span-none annotation_len all (no_annotation all (other_word (codes "@") s ss (differ 64 41 (λ e. absurd (omega arith))) e)) in
     let ahead : ahead_len all ≡ 0 = ahead_at all 0 marks ∙ omega (arith, no_final_len all (other_word (codes "final") s ss final_differs e)) in
     let wide : wide_len (drop (ahead_len all) all) ≡ 0 = ap (λ k. wide_len (drop k all)) ahead ∙ no_wide all (no_type all (base_none all (no_kind s ss e) (no_name s ss f e))) in
-    two_if (wide_len (drop (ahead_len all) all)) (called_len (drop (wide_len (drop (ahead_len all) all)) (drop (ahead_len all) all))) (ahead_len all) wide
+    two_if (wide_len (drop (ahead_len all) all)) (param_name_len (drop (wide_len (drop (ahead_len all) all)) (drop (ahead_len all) all))) (ahead_len all) wide
 
 list_reads : (ss : List Sign) → IsOptional (IsList (codes ",") IsParam) ss → (s : Sign) (tail : List Sign) → is (codes ")") s ≡ true → NamesAreIdentifiers (ss ++ (s ∷ tail)) → entries_len entry.Param (ss ++ (s ∷ tail)) ≡ length ss
 unfolding list_of

@@ -4,7 +4,7 @@ use Rattle.java_units.specs.declared.entries.Entry.{Entry}
 use Rattle.java_units.specs.declared.entries.Entry.TheVariants as entry
 use Rattle.java_units.specs.Signs.{Sign, is}
 use Rattle.java_units.specs.SameSigns.{unnumbered}
-use Rattle.java_units.specs.Forms.{begins, begins_name, begins_any, starts, total, span, name_tail, name_len, closing, matched, rounds, angles, type_tail, base_len, dim_len, type_len, annotation_len, non_sealed_len, modifier_len, lead_len, bound_len, bounds_len, var_len, final_len, dots_len, ahead_len, wide_len, called_len, param_len, deeper, stops, up_to, ends_name, declared_len, goes_on, rest_len, field_len, entry_len, next_len, entries_len, entries, vars_len, params_len, clause_len}
+use Rattle.java_units.specs.Forms.{begins, begins_name, begins_any, starts, total, span, name_tail, name_len, closing, matched, rounds, angles, type_tail, base_len, dim_len, type_len, annotation_len, non_sealed_len, modifier_len, lead_len, bound_len, bounds_len, var_len, final_len, dots_len, ahead_len, wide_len, param_name_len, param_len, deeper, stops, up_to, ends_name, declared_len, goes_on, rest_len, field_len, entry_len, next_len, entries_len, entries, vars_len, params_len, clause_len}
 
 abbrev pub bare_of : List Sign → List Sign
 bare_of ss = map unnumbered ss
@@ -192,11 +192,11 @@ pub wide_len-u : (ss : List Sign) → wide_len (bare_of ss) ≡ wide_len ss
 unfolding wide_len
 wide_len-u ss = simp forms_12
 
-pub called_len-u : (ss : List Sign) → called_len (bare_of ss) ≡ called_len ss
-unfolding called_len
-called_len-u ss = simp forms_12
+pub param_name_len-u : (ss : List Sign) → param_name_len (bare_of ss) ≡ param_name_len ss
+unfolding param_name_len
+param_name_len-u ss = simp forms_12
 
-ruleset forms_13 = (drop-u, take-u, length-u, begins-u, begins_name-u, begins_any-u, name_tail-u, name_tails-u, name_len-u, closing-u, matched-u, rounds-u, angles-u, type_tail-u, type_tails-u, base_len-u, dim_len-u, dims-u, type_len-u, annotation_len-u, annotations-u, non_sealed_len-u, modifier_len-u, lead_len-u, leads-u, bound_len-u, bounds-u, bounds_len-u, var_len-u, final_len-u, dots_len-u, ahead_len-u, wide_len-u, called_len-u)
+ruleset forms_13 = (drop-u, take-u, length-u, begins-u, begins_name-u, begins_any-u, name_tail-u, name_tails-u, name_len-u, closing-u, matched-u, rounds-u, angles-u, type_tail-u, type_tails-u, base_len-u, dim_len-u, dims-u, type_len-u, annotation_len-u, annotations-u, non_sealed_len-u, modifier_len-u, lead_len-u, leads-u, bound_len-u, bounds-u, bounds_len-u, var_len-u, final_len-u, dots_len-u, ahead_len-u, wide_len-u, param_name_len-u)
 
 pub param_len-u : (ss : List Sign) → param_len (bare_of ss) ≡ param_len ss
 unfolding param_len
@@ -212,13 +212,13 @@ unfolding ends_name is unnumbered
 ends_name-u [] = refl
 ends_name-u (s ∷ ss) = refl
 
-ruleset forms_14 = (drop-u, take-u, length-u, begins-u, begins_name-u, begins_any-u, name_tail-u, name_tails-u, name_len-u, closing-u, matched-u, rounds-u, angles-u, type_tail-u, type_tails-u, base_len-u, dim_len-u, dims-u, type_len-u, annotation_len-u, annotations-u, non_sealed_len-u, modifier_len-u, lead_len-u, leads-u, bound_len-u, bounds-u, bounds_len-u, var_len-u, final_len-u, dots_len-u, ahead_len-u, wide_len-u, called_len-u, param_len-u, up_to-u, ends_name-u)
+ruleset forms_14 = (drop-u, take-u, length-u, begins-u, begins_name-u, begins_any-u, name_tail-u, name_tails-u, name_len-u, closing-u, matched-u, rounds-u, angles-u, type_tail-u, type_tails-u, base_len-u, dim_len-u, dims-u, type_len-u, annotation_len-u, annotations-u, non_sealed_len-u, modifier_len-u, lead_len-u, leads-u, bound_len-u, bounds-u, bounds_len-u, var_len-u, final_len-u, dots_len-u, ahead_len-u, wide_len-u, param_name_len-u, param_len-u, up_to-u, ends_name-u)
 
 pub declared_len-u : (ss : List Sign) → declared_len (bare_of ss) ≡ declared_len ss
 unfolding declared_len
 declared_len-u ss = simp forms_14
 
-ruleset forms_15 = (drop-u, take-u, length-u, begins-u, begins_name-u, begins_any-u, name_tail-u, name_tails-u, name_len-u, closing-u, matched-u, rounds-u, angles-u, type_tail-u, type_tails-u, base_len-u, dim_len-u, dims-u, type_len-u, annotation_len-u, annotations-u, non_sealed_len-u, modifier_len-u, lead_len-u, leads-u, bound_len-u, bounds-u, bounds_len-u, var_len-u, final_len-u, dots_len-u, ahead_len-u, wide_len-u, called_len-u, param_len-u, up_to-u, ends_name-u, declared_len-u)
+ruleset forms_15 = (drop-u, take-u, length-u, begins-u, begins_name-u, begins_any-u, name_tail-u, name_tails-u, name_len-u, closing-u, matched-u, rounds-u, angles-u, type_tail-u, type_tails-u, base_len-u, dim_len-u, dims-u, type_len-u, annotation_len-u, annotations-u, non_sealed_len-u, modifier_len-u, lead_len-u, leads-u, bound_len-u, bounds-u, bounds_len-u, var_len-u, final_len-u, dots_len-u, ahead_len-u, wide_len-u, param_name_len-u, param_len-u, up_to-u, ends_name-u, declared_len-u)
 
 pub goes_on-u : (ss : List Sign) → goes_on (bare_of ss) ≡ goes_on ss
 unfolding goes_on
@@ -229,13 +229,13 @@ unfolding rest_len deeper is unnumbered
 rest_len-u d [] = refl
 rest_len-u d (s ∷ ss) = rw (goes_on-u (s ∷ ss), rest_len-u (deeper d s) ss) refl
 
-ruleset forms_16 = (drop-u, take-u, length-u, begins-u, begins_name-u, begins_any-u, name_tail-u, name_tails-u, name_len-u, closing-u, matched-u, rounds-u, angles-u, type_tail-u, type_tails-u, base_len-u, dim_len-u, dims-u, type_len-u, annotation_len-u, annotations-u, non_sealed_len-u, modifier_len-u, lead_len-u, leads-u, bound_len-u, bounds-u, bounds_len-u, var_len-u, final_len-u, dots_len-u, ahead_len-u, wide_len-u, called_len-u, param_len-u, up_to-u, ends_name-u, declared_len-u, goes_on-u, rest_len-u)
+ruleset forms_16 = (drop-u, take-u, length-u, begins-u, begins_name-u, begins_any-u, name_tail-u, name_tails-u, name_len-u, closing-u, matched-u, rounds-u, angles-u, type_tail-u, type_tails-u, base_len-u, dim_len-u, dims-u, type_len-u, annotation_len-u, annotations-u, non_sealed_len-u, modifier_len-u, lead_len-u, leads-u, bound_len-u, bounds-u, bounds_len-u, var_len-u, final_len-u, dots_len-u, ahead_len-u, wide_len-u, param_name_len-u, param_len-u, up_to-u, ends_name-u, declared_len-u, goes_on-u, rest_len-u)
 
 pub field_len-u : (ss : List Sign) → field_len (bare_of ss) ≡ field_len ss
 unfolding field_len
 field_len-u ss = simp forms_16
 
-ruleset forms_17 = (drop-u, take-u, length-u, begins-u, begins_name-u, begins_any-u, name_tail-u, name_tails-u, name_len-u, closing-u, matched-u, rounds-u, angles-u, type_tail-u, type_tails-u, base_len-u, dim_len-u, dims-u, type_len-u, annotation_len-u, annotations-u, non_sealed_len-u, modifier_len-u, lead_len-u, leads-u, bound_len-u, bounds-u, bounds_len-u, var_len-u, final_len-u, dots_len-u, ahead_len-u, wide_len-u, called_len-u, param_len-u, up_to-u, ends_name-u, declared_len-u, goes_on-u, rest_len-u, field_len-u)
+ruleset forms_17 = (drop-u, take-u, length-u, begins-u, begins_name-u, begins_any-u, name_tail-u, name_tails-u, name_len-u, closing-u, matched-u, rounds-u, angles-u, type_tail-u, type_tails-u, base_len-u, dim_len-u, dims-u, type_len-u, annotation_len-u, annotations-u, non_sealed_len-u, modifier_len-u, lead_len-u, leads-u, bound_len-u, bounds-u, bounds_len-u, var_len-u, final_len-u, dots_len-u, ahead_len-u, wide_len-u, param_name_len-u, param_len-u, up_to-u, ends_name-u, declared_len-u, goes_on-u, rest_len-u, field_len-u)
 
 pub entry_len-u : (e : Entry) (ss : List Sign) → entry_len e (bare_of ss) ≡ entry_len e ss
 entry_len-u entry.Type ss = type_len-u ss
@@ -243,7 +243,7 @@ entry_len-u entry.Var ss = var_len-u ss
 entry_len-u entry.Param ss = param_len-u ss
 entry_len-u entry.Field ss = field_len-u ss
 
-ruleset forms_18 = (drop-u, take-u, length-u, begins-u, begins_name-u, begins_any-u, name_tail-u, name_tails-u, name_len-u, closing-u, matched-u, rounds-u, angles-u, type_tail-u, type_tails-u, base_len-u, dim_len-u, dims-u, type_len-u, annotation_len-u, annotations-u, non_sealed_len-u, modifier_len-u, lead_len-u, leads-u, bound_len-u, bounds-u, bounds_len-u, var_len-u, final_len-u, dots_len-u, ahead_len-u, wide_len-u, called_len-u, param_len-u, up_to-u, ends_name-u, declared_len-u, goes_on-u, rest_len-u, field_len-u, entry_len-u)
+ruleset forms_18 = (drop-u, take-u, length-u, begins-u, begins_name-u, begins_any-u, name_tail-u, name_tails-u, name_len-u, closing-u, matched-u, rounds-u, angles-u, type_tail-u, type_tails-u, base_len-u, dim_len-u, dims-u, type_len-u, annotation_len-u, annotations-u, non_sealed_len-u, modifier_len-u, lead_len-u, leads-u, bound_len-u, bounds-u, bounds_len-u, var_len-u, final_len-u, dots_len-u, ahead_len-u, wide_len-u, param_name_len-u, param_len-u, up_to-u, ends_name-u, declared_len-u, goes_on-u, rest_len-u, field_len-u, entry_len-u)
 
 pub next_len-u : (e : Entry) (ss : List Sign) → next_len e (bare_of ss) ≡ next_len e ss
 unfolding next_len
@@ -252,7 +252,7 @@ next_len-u e ss = simp forms_18
 pub nexts-u : (e : Entry) (ss : List Sign) → span (next_len e) (bare_of ss) ≡ span (next_len e) ss
 nexts-u e ss = span-u (next_len e) (next_len-u e) ss
 
-ruleset forms_19 = (drop-u, take-u, length-u, begins-u, begins_name-u, begins_any-u, name_tail-u, name_tails-u, name_len-u, closing-u, matched-u, rounds-u, angles-u, type_tail-u, type_tails-u, base_len-u, dim_len-u, dims-u, type_len-u, annotation_len-u, annotations-u, non_sealed_len-u, modifier_len-u, lead_len-u, leads-u, bound_len-u, bounds-u, bounds_len-u, var_len-u, final_len-u, dots_len-u, ahead_len-u, wide_len-u, called_len-u, param_len-u, up_to-u, ends_name-u, declared_len-u, goes_on-u, rest_len-u, field_len-u, entry_len-u, next_len-u, nexts-u)
+ruleset forms_19 = (drop-u, take-u, length-u, begins-u, begins_name-u, begins_any-u, name_tail-u, name_tails-u, name_len-u, closing-u, matched-u, rounds-u, angles-u, type_tail-u, type_tails-u, base_len-u, dim_len-u, dims-u, type_len-u, annotation_len-u, annotations-u, non_sealed_len-u, modifier_len-u, lead_len-u, leads-u, bound_len-u, bounds-u, bounds_len-u, var_len-u, final_len-u, dots_len-u, ahead_len-u, wide_len-u, param_name_len-u, param_len-u, up_to-u, ends_name-u, declared_len-u, goes_on-u, rest_len-u, field_len-u, entry_len-u, next_len-u, nexts-u)
 
 pub entries_len-u : (e : Entry) (ss : List Sign) → entries_len e (bare_of ss) ≡ entries_len e ss
 unfolding entries_len
@@ -271,7 +271,7 @@ entries-u e ss =
     ∙ (ap (λ r. if entry_len e ss == 0 then [] else bare_of ss ∷ r) (drops-u (starts (next_len e) 0 (drop (entry_len e ss) ss)))
     ∙ if_bares (entry_len e ss == 0) (ss ∷ map (drop 1) (starts (next_len e) 0 (drop (entry_len e ss) ss))))))
 
-ruleset forms_20 = (drop-u, take-u, length-u, begins-u, begins_name-u, begins_any-u, name_tail-u, name_tails-u, name_len-u, closing-u, matched-u, rounds-u, angles-u, type_tail-u, type_tails-u, base_len-u, dim_len-u, dims-u, type_len-u, annotation_len-u, annotations-u, non_sealed_len-u, modifier_len-u, lead_len-u, leads-u, bound_len-u, bounds-u, bounds_len-u, var_len-u, final_len-u, dots_len-u, ahead_len-u, wide_len-u, called_len-u, param_len-u, up_to-u, ends_name-u, declared_len-u, goes_on-u, rest_len-u, field_len-u, entry_len-u, next_len-u, nexts-u, entries_len-u, entries-u)
+ruleset forms_20 = (drop-u, take-u, length-u, begins-u, begins_name-u, begins_any-u, name_tail-u, name_tails-u, name_len-u, closing-u, matched-u, rounds-u, angles-u, type_tail-u, type_tails-u, base_len-u, dim_len-u, dims-u, type_len-u, annotation_len-u, annotations-u, non_sealed_len-u, modifier_len-u, lead_len-u, leads-u, bound_len-u, bounds-u, bounds_len-u, var_len-u, final_len-u, dots_len-u, ahead_len-u, wide_len-u, param_name_len-u, param_len-u, up_to-u, ends_name-u, declared_len-u, goes_on-u, rest_len-u, field_len-u, entry_len-u, next_len-u, nexts-u, entries_len-u, entries-u)
 
 pub vars_len-u : (ss : List Sign) → vars_len (bare_of ss) ≡ vars_len ss
 unfolding vars_len
@@ -288,4 +288,4 @@ clause_len-u ss = simp forms_20
 pub clauses-u : (ss : List Sign) → span clause_len (bare_of ss) ≡ span clause_len ss
 clauses-u ss = span-u clause_len clause_len-u ss
 
-pub ruleset plain_forms = (drop-u, take-u, length-u, begins-u, begins_name-u, begins_any-u, name_tail-u, name_tails-u, name_len-u, closing-u, matched-u, rounds-u, angles-u, type_tail-u, type_tails-u, base_len-u, dim_len-u, dims-u, type_len-u, annotation_len-u, annotations-u, non_sealed_len-u, modifier_len-u, lead_len-u, leads-u, bound_len-u, bounds-u, bounds_len-u, var_len-u, final_len-u, dots_len-u, ahead_len-u, wide_len-u, called_len-u, param_len-u, up_to-u, ends_name-u, declared_len-u, goes_on-u, rest_len-u, field_len-u, entry_len-u, next_len-u, nexts-u, entries_len-u, entries-u, vars_len-u, params_len-u, clause_len-u, clauses-u)
+pub ruleset plain_forms = (drop-u, take-u, length-u, begins-u, begins_name-u, begins_any-u, name_tail-u, name_tails-u, name_len-u, closing-u, matched-u, rounds-u, angles-u, type_tail-u, type_tails-u, base_len-u, dim_len-u, dims-u, type_len-u, annotation_len-u, annotations-u, non_sealed_len-u, modifier_len-u, lead_len-u, leads-u, bound_len-u, bounds-u, bounds_len-u, var_len-u, final_len-u, dots_len-u, ahead_len-u, wide_len-u, param_name_len-u, param_len-u, up_to-u, ends_name-u, declared_len-u, goes_on-u, rest_len-u, field_len-u, entry_len-u, next_len-u, nexts-u, entries_len-u, entries-u, vars_len-u, params_len-u, clause_len-u, clauses-u)

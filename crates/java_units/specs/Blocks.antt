@@ -3,11 +3,6 @@ use Rattle.std.specs.Prelude.{ℕ, zero, suc, ◌+◌, ◌-◌, List, [], ◌∷
 use Rattle.java_units.specs.declared.lexemes.Lexeme.{Lexeme}
 use Rattle.java_units.specs.Signs.{Sign, sign}
 
--- A list from its end on.
-unfoldable pub from_last : List ℕ → List ℕ
-from_last [] = []
-from_last (x ∷ xs) = from_last xs ++ x ∷ []
-
 unfoldable pub nth : ℕ → List ℕ → ℕ
 nth d [] = 0
 nth zero (x ∷ xs) = x

@@ -155,15 +155,15 @@ unfoldable pub wide_len : List Sign → ℕ
 wide_len ss = let n = type_len ss in if n == 0 then 0 else n + dots_len (drop n ss)
 
 -- The name of a parameter, which may be `this`, with its dimensions.
-unfoldable pub called_len : List Sign → ℕ
-called_len ss = if begins_name ss || begins (codes "this") ss then 1 + dims_len (drop 1 ss) else 0
+unfoldable pub param_name_len : List Sign → ℕ
+param_name_len ss = if begins_name ss || begins (codes "this") ss then 1 + dims_len (drop 1 ss) else 0
 
 -- A parameter.
 unfoldable pub param_len : List Sign → ℕ
 param_len ss =
     let a = ahead_len ss in
     let n = wide_len (drop a ss) in
-    let c = called_len (drop n (drop a ss)) in
+    let c = param_name_len (drop n (drop a ss)) in
     if n == 0 then 0 else if c == 0 then 0 else a + n + c
 
 -- How deep the next sign stands in brackets.

@@ -46,9 +46,9 @@ abbrev pub with_dims : ℕ → TypeText → TypeText
 with_dims more t = record t { dims = t.dims + more }
 
 -- The name of a parameter, or `this`.
-abbrev pub called_text : (ss : List Sign) → IsEither IsIdentifier (IsSign (codes "this")) ss → List ℕ
-called_text _ (one _ (identifier s e)) = s.text
-called_text _ (other _ (sign s e)) = s.text
+abbrev pub param_name_text : (ss : List Sign) → IsEither IsIdentifier (IsSign (codes "this")) ss → List ℕ
+param_name_text _ (one _ (identifier s e)) = s.text
+param_name_text _ (other _ (sign s e)) = s.text
 
 -- One dimension for dots.
 abbrev pub spelled_dots : (ss : List Sign) → IsOptional IsDots ss → ℕ
@@ -58,7 +58,7 @@ spelled_dots _ (present ss d) = 1
 -- The parameter.
 abbrev pub spelled_param : (ss : List Sign) → IsParam ss → Param
 spelled_param _ (both marks _ m (both fin _ n (both kind _ t (both dots _ d (both name dims c ds))))) =
-    record { name = called_text name c; kind = with_dims (spelled_dots dots d + spelled_dims dims ds) (spelled_type kind t) }
+    record { name = param_name_text name c; kind = with_dims (spelled_dots dots d + spelled_dims dims ds) (spelled_type kind t) }
 
 -- So it is of a parameter.
 abbrev pub ParamsAreRead : Type 0

@@ -2,7 +2,7 @@
 // annotations, parameters and declared names.
 ghost use Rattle.std.specs.Prelude.{◌≡◌, ◌≤◌, ◌<◌, IsTrue, length};
 ghost use Rattle.java_units.specs.Signs.{seen};
-ghost use Rattle.java_units.specs.Forms.{begins_any, modifiers, annotation_len, modifier_len, non_sealed_len, lead_len, bound_len, bounds_len, var_len, final_len, dots_len, ahead_len, wide_len, called_len, param_len, span};
+ghost use Rattle.java_units.specs.Forms.{begins_any, modifiers, annotation_len, modifier_len, non_sealed_len, lead_len, bound_len, bounds_len, var_len, final_len, dots_len, ahead_len, wide_len, param_name_len, param_len, span};
 
 pub use crate::entries::{Entry, declared_len, entries_len, entry_len};
 pub use crate::lexemes::{Lexeme, begins, begins_any, begins_name, is, prefix, same, tail};
@@ -229,9 +229,9 @@ pub fn wide_len(lexemes: &[Lexeme<'_>]) -> usize
 }
 
 /// The name of a parameter with its dimensions.
-#[tactic(auto, using(crate::proofs::Walks::walks), unfolding(crate::specs::Forms::called_len))]
-fn called_len(lexemes: &[Lexeme<'_>]) -> usize
-    ensures value { result ≡ called_len (seen lexemes.now) }
+#[tactic(auto, using(crate::proofs::Walks::walks), unfolding(crate::specs::Forms::param_name_len))]
+fn param_name_len(lexemes: &[Lexeme<'_>]) -> usize
+    ensures value { result ≡ param_name_len (seen lexemes.now) }
     ensures within { result ≤ length (seen lexemes.now) }
 {
     if begins_name(lexemes) || begins("this", lexemes) {
@@ -252,9 +252,9 @@ pub fn param_len(lexemes: &[Lexeme<'_>]) -> usize
     if n == 0 {
         return 0;
     }
-    let called = called_len(tail(rest, n));
-    if called == 0 {
+    let name = param_name_len(tail(rest, n));
+    if name == 0 {
         return 0;
     }
-    ahead + n + called
+    ahead + n + name
 }

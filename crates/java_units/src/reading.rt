@@ -1,8 +1,8 @@
-ghost use Rattle.std.specs.Prelude.{◌≡◌, ◌≤◌, ◌<◌, ◌&&◌, not, length, IfOk, OnOk, IsTrue};
+ghost use Rattle.std.specs.Prelude.{◌≡◌, ◌≤◌, ◌<◌, ◌&&◌, not, length, reverse, IfOk, OnOk, IsTrue};
 ghost use Rattle.java_tokens.specs.Tokens.{AreTokensOf, IsWithin, AreWithin};
 ghost use Rattle.java_units.specs.Identifiers.{is_identifier};
 ghost use Rattle.java_units.specs.Signs.{Sign, sign, seen, has, reserved, is_blank, is_word, text_of, signs_of};
-ghost use Rattle.java_units.specs.Blocks.{from_last, block_len, closers_after, seen_back};
+ghost use Rattle.java_units.specs.Blocks.{block_len, closers_after, seen_back};
 
 use crate::lexemes::{Lexeme, same};
 use crate::words::is_reserved;
@@ -66,8 +66,8 @@ fn word<'a>(text: &'a str, token: &Token) -> &'a str
 /// before it.
 fn block(closers: &mut Vec<usize>, count: usize, word: &str) -> Result<usize, AllocError>
     requires { count < 18446744073709551615 }
-    ensures len { IfOk result (λ n. n ≡ block_len word.now count (from_last closers.old.items)) }
-    ensures kept { OnOk result (from_last closers.new.items ≡ closers_after word.now count (from_last closers.old.items)) }
+    ensures len { IfOk result (λ n. n ≡ block_len word.now count (reverse closers.old.items)) }
+    ensures kept { OnOk result (reverse closers.new.items ≡ closers_after word.now count (reverse closers.old.items)) }
 {
     if same("}", word) {
         closers.push(count + 1)?;
