@@ -29,7 +29,7 @@ impl Model for Names {
 impl Names {
     /// No name.
     pub fn new(alloc: Global) -> Names
-        ensures { result ≡ [] }
+        ensures empty { result ≡ [] }
     {
         Names {
             texts: Items::new(alloc),
@@ -39,21 +39,21 @@ impl Names {
 
     /// How many names there are.
     pub fn len(&self) -> usize
-        ensures { result ≡ length self.now }
+        ensures len { result ≡ length self.now }
     {
         self.texts.len()
     }
 
     /// The names in order.
     pub fn texts(&self) -> &[Text]
-        ensures { result.now ≡ self.now }
+        ensures same { result.now ≡ self.now }
     {
         self.texts.as_slice()
     }
 
     /// The place of a name, from 0.
     pub fn place(&self, name: &str) -> Option<u32>
-        ensures { result ≡ place_of self.now name.now }
+        ensures value { result ≡ place_of self.now name.now }
     {
         self.places.get(name).copied()
     }
@@ -95,7 +95,7 @@ impl Names {
 
     /// The names alone.
     pub fn into_texts(self) -> Items<Text>
-        ensures { result ≡ self }
+        ensures same { result ≡ self }
     {
         let Names { texts, places: _ } = self;
         texts
