@@ -24,12 +24,12 @@ no-true : false ≡ true → ⊥
 no-true e = absurd cc
 
 -- a new outer class gets the next table
-get-prefix : {A : Type 0} (xs ys : List A) (i : ℕ) → i < length xs → slice_get (xs ++ ys) i ≡ slice_get xs i
+pub get-prefix : {A : Type 0} (xs ys : List A) (i : ℕ) → i < length xs → slice_get (xs ++ ys) i ≡ slice_get xs i
 get-prefix [] ys i l = absurd (omega (arith, l))
 get-prefix (x ∷ xs) ys zero l = refl
 get-prefix (x ∷ xs) ys (suc i) l = get-prefix xs ys i (omega (arith, l))
 
-get-next : {A : Type 0} (xs : List A) (y : A) → slice_get (xs ++ y ∷ []) (length xs) ≡ Some y
+pub get-next : {A : Type 0} (xs : List A) (y : A) → slice_get (xs ++ y ∷ []) (length xs) ≡ Some y
 get-next [] y = refl
 get-next (x ∷ xs) y = get-next xs y
 

@@ -7,6 +7,7 @@ use Rattle.known_classes.proofs.Merging.{two, class-none, class-hit, class-on, c
 use Rattle.known_classes.proofs.Ways.{differs}
 use Rattle.known_classes.proofs.CanonicalLaws.{equation}
 use Rattle.known_classes.proofs.MergedPlaces.{there}
+use Rattle.known_classes.proofs.MemberLemmas.{get-prefix, get-next}
 use Rattle.known_classes.proofs.NumberTables.{some-there}
 
 pub last-or : (j n : ℕ) → j < n + 1 → (j < n) ⊎ (j ≡ n)
@@ -170,16 +171,6 @@ unknown_dotted cs outer text h t =
 -- the class at the place that a look gives
 pub found_class : (cs : List ClassSummary) (outer : List ℕ) (around : ℕ) → IsPlaceOf cs (class_named cs outer) (Some around) → (d : ClassSummary) × (slice_get cs around ≡ Some d) × (d.name ≡ outer)
 found_class cs outer around h = let p = there cs around h.0 in (p.0, p.1, class-name cs outer p.0 (h.1 ∙ p.1))
-
--- one name more
-get-prefix : {A : Type 0} (xs ys : List A) (i : ℕ) → i < length xs → slice_get (xs ++ ys) i ≡ slice_get xs i
-get-prefix [] ys i l = absurd (omega (arith, l))
-get-prefix (x ∷ xs) ys zero l = refl
-get-prefix (x ∷ xs) ys (suc i) l = get-prefix xs ys i (omega (arith, l))
-
-get-next : {A : Type 0} (xs : List A) (y : A) → slice_get (xs ++ y ∷ []) (length xs) ≡ Some y
-get-next [] y = refl
-get-next (x ∷ xs) y = get-next xs y
 
 pub names_none : (cs : List ClassSummary) (from place : ℕ) (texts : List (List ℕ)) → texts ≡ [] → from ≡ place → AreCanonicalNames cs from place texts
 names_none cs from place texts e f = record {
