@@ -12,11 +12,11 @@ use Rattle.succinct.specs.declared.kind.Succinct.{Succinct}
 use Rattle.succinct.proofs.Rising.{has-joined_with}
 use Rattle.patterns.specs.Patterned.{Patterned, state_sought, sought_from, ArePatterns}
 use Rattle.patterns.specs.Met.{AreMet}
-use Rattle.patterns.specs.States.{types_at, set_sought, place_in, place_sought, place_of, AreWanted, kinds_of}
+use Rattle.patterns.specs.States.{types_at, set_sought, place_in, place_sought, state_place, AreWanted, kinds_of}
 use Rattle.patterns.specs.declared.state.State.{State}
 use Rattle.patterns.specs.declared.wanted.Wanted.{Wanted}
 use Rattle.patterns.proofs.Meaning.{IsSought, needs-sought, types-rising}
-use Rattle.patterns.proofs.Mets.{place_of-is, in_ends}
+use Rattle.patterns.proofs.Mets.{state_place-is, in_ends}
 use Rattle.edges.specs.Edges.{IsOffered}
 use Rattle.edges.specs.Made.{AreFound, sources_in, sources_at}
 use Rattle.edges.proofs.Lists.{in-kind, of-kind}
@@ -24,7 +24,7 @@ use Rattle.edges.proofs.Options.{some_eq, there}
 use Rattle.edges.proofs.Places.{in-places, from-places}
 use Rattle.edges.proofs.Wanted.{same-numbers}
 
-sought-some : (d : Patterned) (i n t : ℕ) (s : State) (w : Wanted) (set : ℕ) → slice_get d.states i ≡ Some s → slice_get d.space.wanted n ≡ Some w → set_sought d.space s.set w ≡ Some set → place_of d.states (record { set = set; goal = w.goal }) ≡ Some t → state_sought d i n ≡ Some t
+sought-some : (d : Patterned) (i n t : ℕ) (s : State) (w : Wanted) (set : ℕ) → slice_get d.states i ≡ Some s → slice_get d.space.wanted n ≡ Some w → set_sought d.space s.set w ≡ Some set → state_place d.states (record { set = set; goal = w.goal }) ≡ Some t → state_sought d i n ≡ Some t
 sought-some d i n t s w set is wanted sought place =
     ap (λ o. sought_from d o n) is
     ∙ ap (λ o. place_sought d.space d.states s o) wanted
@@ -127,7 +127,7 @@ module _ (g : Parts) (c : Compression) (comp : IsCompression g c) where
         let zero_add : 0 + k ≡ k = omega arith in
         let ends : has k (kinds_of c.kinds s.goal) ≡ true = ap (λ x. has x (kinds_of c.kinds s.goal)) (sym zero_add) ∙ in_ends c.kinds s.goal k 0 kind found gives in
         let there = made.found.closed s (i, is) k kind ends found m has_m q.wanted q.to q.is q.sought in
-        (there.0, sought-some d i m there.0 s q.wanted q.to is q.is q.sought (place_of-is d.states (record { set = q.to; goal = q.wanted.goal }) there.0 made.found.distinct_states there.1))
+        (there.0, sought-some d i m there.0 s q.wanted q.to is q.is q.sought (state_place-is d.states (record { set = q.to; goal = q.wanted.goal }) there.0 made.found.distinct_states there.1))
 
     -- so each need of an offered source
     pub offered-found : (i n : ℕ) (s : State) → slice_get d.states i ≡ Some s → IsOffered c d i n → AreFound d i (get_or c.wanted n [])

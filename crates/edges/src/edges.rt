@@ -5,7 +5,7 @@ ghost use Rattle.succinct.specs.Compression.{IsCompression};
 ghost use Rattle.patterns.specs.Patterned.{ArePatterns};
 ghost use Rattle.edges.specs.Edges.{Edge, AreEdges, IsRunOf};
 
-use crate::making::{Scratch, add_state};
+use crate::state_edges::{Scratch, add_state};
 use crate::table::Table;
 use patterns::Patterns;
 use std::alloc::{AllocError, Global};

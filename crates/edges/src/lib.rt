@@ -6,8 +6,8 @@
 
 mod edges;
 mod head;
-mod making;
 mod sources;
+mod state_edges;
 mod table;
 mod tails;
 mod weights;

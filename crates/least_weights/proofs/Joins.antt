@@ -1,8 +1,5 @@
--- Two lists read in step that are made of the same two lists, and lists of pairs.
-use Rattle.std.proofs.Common.{◌≡◌, ◌⊎◌, inl, inr, ℕ, zero, suc, true, ◌&&◌, ◌==◌, List, [], ◌∷◌, ◌++◌, map, slice_get, Some, refl, ap, ◌∙◌}
-use Rattle.std.specs.List.{list_any}
-use Rattle.std.proofs.lemmas.Bool.{false≢true, and_parts, and_from, or_cases, or_left, or_right, eqb-true, eq-eqb}
-use Rattle.terms.specs.Typing.{is_pair}
+-- Two lists read in step that are made of the same two lists.
+use Rattle.std.proofs.Common.{◌≡◌, ◌⊎◌, inl, inr, ℕ, zero, suc, List, [], ◌∷◌, ◌++◌, map, slice_get, Some, refl, ap}
 use Rattle.edges.proofs.Options.{some_eq}
 
 -- an element of the first list, or of the second
@@ -48,22 +45,3 @@ at-mapped h (z ∷ ys) (suc j) y e = at-mapped h ys j y e
 pub at-second : {X Y A B : Type 0} (f : X → A) (f' : X → B) (h : Y → A) (h' : Y → B) (xs : List X) (ys : List Y) (j : ℕ) (y : Y) → slice_get ys j ≡ Some y → (n : ℕ) × (slice_get (map f xs ++ map h ys) n ≡ Some (h y)) × (slice_get (map f' xs ++ map h' ys) n ≡ Some (h' y))
 at-second f f' h h' [] ys j y e = (j, at-mapped h ys j y e, at-mapped h' ys j y e)
 at-second f f' h h' (x ∷ xs) ys j y e = (let r = at-second f f' h h' xs ys j y e in (suc r.0, r.1, r.2))
-
-pub pair-get : (pairs : List (ℕ × ℕ)) (j : ℕ) (q : ℕ × ℕ) → slice_get pairs j ≡ Some q → is_pair pairs q.0 q.1 ≡ true
-unfolding is_pair
-pair-get [] j q h = cc
-pair-get (x ∷ pairs) zero q h =
-    let e : x ≡ q = some_eq x q h in
-    or_left ((x.0 == q.0) && (x.1 == q.1)) (list_any (λ y. (y.0 == q.0) && (y.1 == q.1)) pairs) (and_from (x.0 == q.0) (x.1 == q.1) (eq-eqb x.0 q.0 (ap (λ y. y.0) e)) (eq-eqb x.1 q.1 (ap (λ y. y.1) e)))
-pair-get (x ∷ pairs) (suc j) q h = or_right ((x.0 == q.0) && (x.1 == q.1)) (list_any (λ y. (y.0 == q.0) && (y.1 == q.1)) pairs) (pair-get pairs j q h)
-
-pub get-pair : (pairs : List (ℕ × ℕ)) (a b : ℕ) → is_pair pairs a b ≡ true → (j : ℕ) × (slice_get pairs j ≡ Some (a, b))
-unfolding is_pair
-get-pair [] a b h = absurd (false≢true h)
-get-pair (x ∷ pairs) a b h = elim (or_cases ((x.0 == a) && (x.1 == b)) (list_any (λ y. (y.0 == a) && (y.1 == b)) pairs) h) [
-  | inl here ↦ (
-      let both = and_parts (x.0 == a) (x.1 == b) here in
-      let e : x ≡ (a, b) = ap (λ y. (y, x.1)) (eqb-true x.0 a both.0) ∙ ap (λ y. (a, y)) (eqb-true x.1 b both.1) in
-      (0, ap (λ y. Some y) e))
-  | inr there ↦ (let r = get-pair pairs a b there in (suc r.0, r.1))
-]

@@ -15,7 +15,7 @@ use Rattle.terms.specs.declared.parts.Parts.{Parts}
 use Rattle.terms.proofs.Valid.{valid-pair, below-itself}
 use Rattle.succinct.specs.Compression.{Compression, IsCompression}
 use Rattle.succinct.specs.Sets.{has, types_bound}
-use Rattle.patterns.specs.Derivable.{Derivable, AllDerivable}
+use Rattle.patterns.specs.Derivable.{IsDerivable, AreDerivable}
 use Rattle.patterns.specs.Patterned.{Patterned, ArePatterns}
 use Rattle.patterns.specs.States.{types_at, left_at}
 use Rattle.patterns.proofs.Contexts.{has_context}
@@ -139,15 +139,15 @@ module _ (g : Parts) (c : Compression) (d : Patterned) (edges : List Edge) (vali
   abbrev IsLowExact : Expr → Type 0
   IsLowExact e = (i : ℕ) (ctx : List (List ℕ)) (left b : ℕ) → IsAt d g.depth i ctx left b → type_in g ctx e ≡ Some b → shallow left e ≡ true → weight_in g ctx e ≤ g.limit → number_at g.limit numbers i ≤ weight_in g ctx e
 
-  derives-at : (i : ℕ) (ctx : List (List ℕ)) (left b : ℕ) (at : IsAt d g.depth i ctx left b) (a : ℕ) → Derivable g (types_bound ctx) left a → Derivable g (types_at d.space at.state.set) (left_at d.space at.state.set) a
+  derives-at : (i : ℕ) (ctx : List (List ℕ)) (left b : ℕ) (at : IsAt d g.depth i ctx left b) (a : ℕ) → IsDerivable g (types_bound ctx) left a → IsDerivable g (types_at d.space at.state.set) (left_at d.space at.state.set) a
   derives-at i ctx left b at a h =
-      let h1 : Derivable g (types_at d.space at.state.set) left a = subst (λ t. Derivable g t left a) at.types h in
-      subst (λ l. Derivable g (types_at d.space at.state.set) l a) at.left_is h1
+      let h1 : IsDerivable g (types_at d.space at.state.set) left a = subst (λ t. IsDerivable g t left a) at.types h in
+      subst (λ l. IsDerivable g (types_at d.space at.state.set) l a) at.left_is h1
 
-  all-derive-at : (i : ℕ) (ctx : List (List ℕ)) (left b : ℕ) (at : IsAt d g.depth i ctx left b) (args : List Arg) → AllDerivable g (types_bound ctx) left args → AllDerivable g (types_at d.space at.state.set) (left_at d.space at.state.set) args
+  all-derive-at : (i : ℕ) (ctx : List (List ℕ)) (left b : ℕ) (at : IsAt d g.depth i ctx left b) (args : List Arg) → AreDerivable g (types_bound ctx) left args → AreDerivable g (types_at d.space at.state.set) (left_at d.space at.state.set) args
   all-derive-at i ctx left b at args h =
-      let h1 : AllDerivable g (types_at d.space at.state.set) left args = subst (λ t. AllDerivable g t left args) at.types h in
-      subst (λ l. AllDerivable g (types_at d.space at.state.set) l args) at.left_is h1
+      let h1 : AreDerivable g (types_at d.space at.state.set) left args = subst (λ t. AreDerivable g t left args) at.types h in
+      subst (λ l. AreDerivable g (types_at d.space at.state.set) l args) at.left_is h1
 
   -- so it is with a coercion to the goal
   low-from : (e : Expr) → IsLowExact e → (i : ℕ) (ctx : List (List ℕ)) (left b : ℕ) → IsAt d g.depth i ctx left b → Fitting g ctx left b e → weight_in g ctx e + step_in g (type_in g ctx e) b ≤ g.limit → number_at g.limit numbers i ≤ weight_in g ctx e + step_in g (type_in g ctx e) b

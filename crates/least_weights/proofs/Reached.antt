@@ -23,7 +23,8 @@ use Rattle.edges.specs.Edges.{Edge, AreTails, IsSourceEdge, AreEdges, decl_cost,
 use Rattle.edges.proofs.Offered.{listed-gives}
 use Rattle.edges.proofs.Options.{some_eq}
 use Rattle.least_weights.specs.Numbers.{number_at, cost, IsSupport, IsSolution}
-use Rattle.least_weights.proofs.Joins.{split, pair-get}
+use Rattle.patterns.proofs.Meaning.{pair-get}
+use Rattle.least_weights.proofs.Joins.{split}
 use Rattle.least_weights.proofs.Lows.{SplitTails, split-tails, no-tails, Fitting, step-same}
 use Rattle.least_weights.proofs.Sought.{IsAt, IsUnder, plain-at, fun-at}
 

@@ -8,7 +8,7 @@ use Rattle.patterns.specs.declared.wanted.Wanted.{Wanted}
 use Rattle.patterns.specs.Patterned.{Patterned, state_sought, sought_from}
 use Rattle.patterns.specs.States.{Space, types_at, left_at, set_sought, place_in, place_sought, AreWanted, IsWantedAs, AreSteps}
 use Rattle.patterns.proofs.Contexts.{set_of-more}
-use Rattle.patterns.proofs.Mets.{place_of-get}
+use Rattle.patterns.proofs.Mets.{state_place-get}
 use Rattle.patterns.proofs.Meaning.{lambda-step, plain-same}
 use Rattle.succinct.proofs.Rising.{joined_with-set_of, rising-joined_with}
 use Rattle.terms.specs.Typing.{joined}
@@ -37,7 +37,7 @@ sought-at p states from n t h = go (slice_get p.wanted n) refl h
   where
     there : (w : Wanted) → slice_get p.wanted n ≡ Some w → (o : Option ℕ) → set_sought p from.set w ≡ o → place_in states w.goal o ≡ Some t → IsSought p states from n t
     there w is None e h' = absurd (none_some t h')
-    there w is (Some set) e h' = record { wanted = w; set = set; is = is; sought = e; state = place_of-get states (record { set = set; goal = w.goal }) t h' }
+    there w is (Some set) e h' = record { wanted = w; set = set; is = is; sought = e; state = state_place-get states (record { set = set; goal = w.goal }) t h' }
 
     go : (o : Option Wanted) → slice_get p.wanted n ≡ o → place_sought p states from o ≡ Some t → IsSought p states from n t
     go None is h' = absurd (none_some t h')

@@ -6,7 +6,7 @@ ghost use Rattle.patterns.specs.Patterned.{ArePatterns};
 ghost use Rattle.edges.specs.Edges.{AreEdges};
 ghost use Rattle.least_weights.specs.LeastWeight.{AreLeastWeights};
 
-use crate::solving::solve;
+use crate::fixpoint::solve;
 use edges::Edges;
 use patterns::Patterns;
 use std::alloc::{AllocError, Global};

@@ -4,9 +4,9 @@
 #![tactic(auto)]
 
 mod costs;
+mod fixpoint;
 mod least;
-mod relaxing;
-mod solving;
+mod relaxation;
 mod users;
 
 pub use least::Least;

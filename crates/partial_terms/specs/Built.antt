@@ -1,13 +1,12 @@
 -- Terms that are made of a front, which is read from its end.
 use Rattle.std.specs.Prelude.{◌≡◌, ℕ, true, List, [], ◌∷◌, ◌++◌, length, slice_get, Some}
 use Rattle.terms.specs.Code.{prefix_code}
-use Rattle.terms.specs.Expr.{Expr, var, head, Args, no_args, plain, lam}
+use Rattle.terms.specs.Expr.{Expr, var, head, Args, no_args}
 use Rattle.terms.specs.Place.{goal_place, fits_place}
 use Rattle.terms.specs.Reading.{Reading, Symbol, variable, declared, symbol, fit_all}
-use Rattle.terms.specs.Typing.{args_wanted}
+use Rattle.terms.specs.Typing.{args_wanted, placed}
 use Rattle.terms.specs.View.{expr, arg}
 use Rattle.terms.specs.declared.parts.Arg.{Arg}
-use Rattle.terms.specs.declared.parts.Arg.TheVariants.{Plain, Fun}
 use Rattle.terms.specs.declared.parts.Parts.{Parts}
 use Rattle.terms.specs.declared.term.Term.{Term}
 use Rattle.terms.specs.declared.term.TermArg.{TermArg}
@@ -22,11 +21,6 @@ stacked (t ∷ ts) = stacked ts ++ expr t ∷ []
 abbrev pub onto : List TermArg → Args → Args
 onto [] rest = rest
 onto (a ∷ more) rest = arg a (onto more rest)
-
--- a term as an argument: under a lambda where one is wanted
-abbrev pub placed : Arg → Expr → Args → Args
-placed (Plain b) e rest = plain e rest
-placed (Fun ps r) e rest = lam e rest
 
 -- the arguments that the first terms make at these places
 abbrev pub args_with : List Arg → List Expr → Args

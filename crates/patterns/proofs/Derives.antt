@@ -9,7 +9,7 @@ use Rattle.terms.specs.declared.parts.Arg.TheVariants.{Plain, Fun}
 use Rattle.terms.specs.Place.{fits_place, shallow, args_shallow}
 use Rattle.terms.proofs.Readings.{HeadFits, head_fits}
 use Rattle.succinct.specs.Sets.{has, joined_with, types_bound}
-use Rattle.patterns.specs.Derivable.{Derivable, in_set, by_pair, by_decl, AllDerivable, none, value, lambda}
+use Rattle.patterns.specs.Derivable.{IsDerivable, in_set, by_pair, by_decl, AreDerivable, none, value, lambda}
 use Rattle.patterns.proofs.Contexts.{set_of-more, has_context, at_context}
 
 -- the pairs are transitive
@@ -26,7 +26,7 @@ some_type g (Some a) b h = (a, refl, h)
 mutual
   unfolding fits_place type_in fits shallow args_shallow
 
-  pub term-derives : (g : Parts) (ctx : List (List ℕ)) (left b : ℕ) (e : Expr) → fits_place g (record { ctx = ctx; left = left; wanted = b }) e ≡ true → Derivable g (types_bound ctx) left b
+  pub term-derives : (g : Parts) (ctx : List (List ℕ)) (left b : ℕ) (e : Expr) → fits_place g (record { ctx = ctx; left = left; wanted = b }) e ≡ true → IsDerivable g (types_bound ctx) left b
   term-derives g ctx left b (var n) h =
       let t = some_type g (slice_get (joined ctx) n) b (and_parts (some_below g (slice_get (joined ctx) n) b) true h).0 in
       by_pair (types_bound ctx) left t.0 b t.2 (in_set (types_bound ctx) left t.0 (has_context ctx n t.0 t.1))
@@ -34,7 +34,7 @@ mutual
       let f : HeadFits g (record { ctx = ctx; left = left; wanted = b }) xs (slice_get g.decls d) = head_fits g (record { ctx = ctx; left = left; wanted = b }) xs (slice_get g.decls d) h in
       by_pair (types_bound ctx) left f.decl.result b f.below (by_decl (types_bound ctx) left d f.decl f.is (args-derive g ctx left xs f.decl.args f.fit f.flat))
 
-  pub args-derive : (g : Parts) (ctx : List (List ℕ)) (left : ℕ) (xs : Args) (wanted : List Arg) → fits g ctx xs wanted ≡ true → args_shallow left xs ≡ true → AllDerivable g (types_bound ctx) left wanted
+  pub args-derive : (g : Parts) (ctx : List (List ℕ)) (left : ℕ) (xs : Args) (wanted : List Arg) → fits g ctx xs wanted ≡ true → args_shallow left xs ≡ true → AreDerivable g (types_bound ctx) left wanted
   args-derive g ctx left no_args [] f s = none (types_bound ctx) left
   args-derive g ctx left no_args (Plain b ∷ ws) f s = absurd (false≢true f)
   args-derive g ctx left no_args (Fun ps r ∷ ws) f s = absurd (false≢true f)
@@ -52,7 +52,7 @@ mutual
       let fs = and_parts (nat_lt (length ctx) 3 && some_below g (type_in g inner e) r) (fits g ctx xs ws) f in
       let f0 = and_parts (nat_lt (length ctx) 3) (some_below g (type_in g inner e) r) fs.0 in
       let ss = and_parts (shallow l e) (args_shallow (suc l) xs) s in
-      let P : List ℕ → Type 0 = λ set. Derivable g set l r in
+      let P : List ℕ → Type 0 = λ set. IsDerivable g set l r in
       lambda (types_bound ctx) l ps r ws (subst P (set_of-more ctx ps) (term-derives g inner l r e (and_from (some_below g (type_in g inner e) r) (shallow l e) f0.1 ss.0))) (args-derive g ctx (suc l) xs ws fs.1 ss.1)
 
 -- a term, and arguments
@@ -71,7 +71,7 @@ pub record SomeArgs (g : Parts) (ctx : List (List ℕ)) (left : ℕ) (wanted : L
 mutual
   unfolding type_in fits shallow args_shallow
 
-  pub derives-term : (g : Parts) → IsTransitive g → IsReflexive g → (set : List ℕ) (left b : ℕ) → Derivable g set left b → (ctx : List (List ℕ)) → types_bound ctx ≡ set → length ctx + left ≤ 3 → SomeTerm g ctx left b
+  pub derives-term : (g : Parts) → IsTransitive g → IsReflexive g → (set : List ℕ) (left b : ℕ) → IsDerivable g set left b → (ctx : List (List ℕ)) → types_bound ctx ≡ set → length ctx + left ≤ 3 → SomeTerm g ctx left b
   derives-term g tr re set left b (in_set set' left' b' h) ctx is room =
       let n = at_context ctx b' (ap (has b') is ∙ h) in
       record { term = var n.0; type = b'; typed = n.1; below = re b'; flat = refl }
@@ -82,7 +82,7 @@ mutual
       let a : SomeArgs g ctx left' d.args = derives-args g tr re set' left' d.args all ctx is room in
       record { term = head n a.args; type = d.result; typed = rw (found, a.fit) refl; below = re d.result; flat = a.flat }
 
-  pub derives-args : (g : Parts) → IsTransitive g → IsReflexive g → (set : List ℕ) (left : ℕ) (wanted : List Arg) → AllDerivable g set left wanted → (ctx : List (List ℕ)) → types_bound ctx ≡ set → length ctx + left ≤ 3 → SomeArgs g ctx left wanted
+  pub derives-args : (g : Parts) → IsTransitive g → IsReflexive g → (set : List ℕ) (left : ℕ) (wanted : List Arg) → AreDerivable g set left wanted → (ctx : List (List ℕ)) → types_bound ctx ≡ set → length ctx + left ≤ 3 → SomeArgs g ctx left wanted
   derives-args g tr re set left wanted (none set' left') ctx is room = record { args = no_args; fit = refl; flat = refl }
   derives-args g tr re set left wanted (value set' left' b more d all) ctx is room =
       let t : SomeTerm g ctx left' b = derives-term g tr re set' left' b d ctx is room in

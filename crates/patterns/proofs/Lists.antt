@@ -15,7 +15,7 @@ use Rattle.patterns.specs.declared.bound_set.BoundSet.{BoundSet}
 use Rattle.patterns.specs.declared.wanted.Wanted.{Wanted}
 use Rattle.patterns.specs.Met.{AreSound}
 use Rattle.patterns.specs.Patterned.{IsListOf, AreFound, Patterned, sought_from, state_sought}
-use Rattle.patterns.specs.States.{Space, kinds_of, kind_marked, needs_marked, need_marked, IsSettled, IsListed, IsOpenState, list_of, AreLists, place_of, place_in, place_sought, set_sought, AreWanted}
+use Rattle.patterns.specs.States.{Space, kinds_of, kind_marked, needs_marked, need_marked, IsSettled, IsListed, IsOpenState, list_of, AreLists, state_place, place_in, place_sought, set_sought, AreWanted}
 use Rattle.patterns.proofs.Mets.{ends_in, in_ends, sound-needs, complete-needs}
 use Rattle.patterns.proofs.Tables.{remap}
 
@@ -107,7 +107,7 @@ pub found-same : (p : Space) (kinds kinds' : List Succinct) (goal : ℕ) (states
 found-same p kinds kinds' goal states lists same f = subst (λ k. AreFound p k goal states lists) same f
 
 -- a need whose state isn't listed
-pub none-sought : (d : Patterned) (s n : ℕ) (from : State) (w : Wanted) (to : ℕ) → slice_get d.states s ≡ Some from → slice_get d.space.wanted n ≡ Some w → set_sought d.space from.set w ≡ Some to → None ≡ place_of d.states (record { set = to; goal = w.goal }) → None ≡ state_sought d s n
+pub none-sought : (d : Patterned) (s n : ℕ) (from : State) (w : Wanted) (to : ℕ) → slice_get d.states s ≡ Some from → slice_get d.space.wanted n ≡ Some w → set_sought d.space from.set w ≡ Some to → None ≡ state_place d.states (record { set = to; goal = w.goal }) → None ≡ state_sought d s n
 none-sought d s n from w to at is sought none = none ∙ sym (ap (λ o. place_in d.states w.goal o) sought) ∙ sym (ap (place_sought d.space d.states from) is) ∙ sym (ap (λ o. sought_from d o n) at)
 
 pub wanted-same : (needs needs' : List Need) (wanted : List Wanted) → needs ≡ needs' → AreWanted needs wanted → AreWanted needs' wanted

@@ -19,7 +19,7 @@ use Rattle.succinct.specs.declared.need.Need.{Need}
 use Rattle.succinct.proofs.Rising.{has-joined_with, joined_with-set_of}
 use Rattle.patterns.specs.declared.state.State.{State}
 use Rattle.patterns.specs.declared.wanted.Wanted.{Wanted}
-use Rattle.patterns.specs.Derivable.{Derivable, in_set, by_pair, by_decl, AllDerivable, none, value, lambda}
+use Rattle.patterns.specs.Derivable.{IsDerivable, in_set, by_pair, by_decl, AreDerivable, none, value, lambda}
 use Rattle.patterns.specs.Met.{IsMet, by_set, by_kind, AreMet, met_none, met_more}
 use Rattle.patterns.specs.Patterned.{Patterned, IsListOf, ArePatterns, Agrees}
 use Rattle.patterns.specs.declared.bound_set.BoundSet.{BoundSet}
@@ -35,7 +35,7 @@ pub record IsSought (g : Parts) (p : Space) (s : State) (n : ℕ) : Type 0 where
   pub to : ℕ
   pub is : slice_get p.wanted n ≡ Some wanted
   pub sought : set_sought p s.set wanted ≡ Some to
-  pub derivable : Derivable g (types_at p to) (left_at p to) wanted.goal
+  pub derivable : IsDerivable g (types_at p to) (left_at p to) wanted.goal
 
 pub some_eq : {X : Type 0} (x y : X) → Some x ≡ Some y → x ≡ y
 some_eq x y h = cc
@@ -143,7 +143,7 @@ left-get [] ys j z h = cc
 left-get (x ∷ xs) ys zero z h = h
 left-get (x ∷ xs) ys (suc j) z h = left-get xs ys j z h
 
-pair-get : (pairs : List (ℕ × ℕ)) (j : ℕ) (q : ℕ × ℕ) → slice_get pairs j ≡ Some q → is_pair pairs q.0 q.1 ≡ true
+pub pair-get : (pairs : List (ℕ × ℕ)) (j : ℕ) (q : ℕ × ℕ) → slice_get pairs j ≡ Some q → is_pair pairs q.0 q.1 ≡ true
 unfolding is_pair
 pair-get [] j q h = cc
 pair-get (x ∷ pairs) zero q h =
@@ -151,7 +151,7 @@ pair-get (x ∷ pairs) zero q h =
     or_left ((x.0 == q.0) && (x.1 == q.1)) (list_any (λ y. (y.0 == q.0) && (y.1 == q.1)) pairs) (and_from (x.0 == q.0) (x.1 == q.1) (eq-eqb x.0 q.0 (ap (λ y. y.0) e)) (eq-eqb x.1 q.1 (ap (λ y. y.1) e)))
 pair-get (x ∷ pairs) (suc j) q h = or_right ((x.0 == q.0) && (x.1 == q.1)) (list_any (λ y. (y.0 == q.0) && (y.1 == q.1)) pairs) (pair-get pairs j q h)
 
-get-pair : (pairs : List (ℕ × ℕ)) (a b : ℕ) → is_pair pairs a b ≡ true → (j : ℕ) × (slice_get pairs j ≡ Some (a, b))
+pub get-pair : (pairs : List (ℕ × ℕ)) (a b : ℕ) → is_pair pairs a b ≡ true → (j : ℕ) × (slice_get pairs j ≡ Some (a, b))
 unfolding is_pair
 get-pair [] a b h = absurd (false≢true h)
 get-pair (x ∷ pairs) a b h = elim (or_cases ((x.0 == a) && (x.1 == b)) (list_any (λ y. (y.0 == a) && (y.1 == b)) pairs) h) [
@@ -173,12 +173,12 @@ below-pair g a b h = elim (or_cases (a == b) (is_pair g.pairs a b) h) [
   | inr pair ↦ inr pair
 ]
 
-first-want : (g : Parts) (set : List ℕ) (left b : ℕ) (more : List Arg) → AllDerivable g set left (Plain b ∷ more) → Derivable g set left b
+first-want : (g : Parts) (set : List ℕ) (left b : ℕ) (more : List Arg) → AreDerivable g set left (Plain b ∷ more) → IsDerivable g set left b
 first-want g set left b more (value set' left' b' more' d rest) = d
 
 module _ (g : Parts) (c : Compression) (p : Space) (comp : IsCompression g c) (table : AreWanted c.needs p.wanted) (steps : AreSteps c.needs p.bound p.steps (length p.bound)) (rising : (set : ℕ) → IsRising (types_at p set)) where
   -- the wants of a source are derivable where its needs are sought
-  args-from : (s : State) (numbers : List ℕ) (args : List Arg) → map (λ i. slice_get c.needs i) numbers ≡ map (λ a. Some (need_of a)) args → ((n : ℕ) → has n numbers ≡ true → IsSought g p s n) → AllDerivable g (types_at p s.set) (left_at p s.set) args
+  args-from : (s : State) (numbers : List ℕ) (args : List Arg) → map (λ i. slice_get c.needs i) numbers ≡ map (λ a. Some (need_of a)) args → ((n : ℕ) → has n numbers ≡ true → IsSought g p s n) → AreDerivable g (types_at p s.set) (left_at p s.set) args
   args-from s [] [] named each = none (types_at p s.set) (left_at p s.set)
   args-from s [] (a ∷ args) named each = cc
   args-from s (n ∷ ns) [] named each = cc
@@ -190,8 +190,8 @@ module _ (g : Parts) (c : Compression) (p : Space) (comp : IsCompression g c) (t
       let same : w.0 ≡ q.wanted = some_eq w.0 q.wanted (sym w.1 ∙ q.is) in
       let as_wanted : IsWantedAs n (need_of (Plain b)) q.wanted = subst (λ x. IsWantedAs n (need_of (Plain b)) x) same w.2 in
       let to : q.to ≡ s.set = sym (plain-same p s.set q.wanted q.to as_wanted.lambda q.sought) in
-      let d : Derivable g (types_at p s.set) (left_at p s.set) q.wanted.goal = subst (λ t. Derivable g (types_at p t) (left_at p t) q.wanted.goal) to q.derivable in
-      value (types_at p s.set) (left_at p s.set) b args (subst (λ t. Derivable g (types_at p s.set) (left_at p s.set) t) as_wanted.goal d) (args-from s ns args later (λ m h. each m (or_right (m == n) (has m ns) h)))
+      let d : IsDerivable g (types_at p s.set) (left_at p s.set) q.wanted.goal = subst (λ t. IsDerivable g (types_at p t) (left_at p t) q.wanted.goal) to q.derivable in
+      value (types_at p s.set) (left_at p s.set) b args (subst (λ t. IsDerivable g (types_at p s.set) (left_at p s.set) t) as_wanted.goal d) (args-from s ns args later (λ m h. each m (or_right (m == n) (has m ns) h)))
   args-from s (n ∷ ns) (Fun ps r ∷ args) named each =
       let first : slice_get c.needs n ≡ Some (need_of (Fun ps r)) = cc in
       let later : map (λ i. slice_get c.needs i) ns ≡ map (λ a. Some (need_of a)) args = cc in
@@ -202,29 +202,29 @@ module _ (g : Parts) (c : Compression) (p : Space) (comp : IsCompression g c) (t
       let st : IsStep p s.set (need_of (Fun ps r)) q.to = lambda-step p c.needs steps s.set n q.to (need_of (Fun ps r)) q.wanted as_wanted first refl q.sought in
       let types = types_at p s.set in
       let bound : types_at p q.to ≡ joined_with types ps = st.types ∙ joined_with-set_of types ps (rising s.set) in
-      let d0 : Derivable g (joined_with types ps) (left_at p q.to) q.wanted.goal = subst (λ t. Derivable g t (left_at p q.to) q.wanted.goal) bound q.derivable in
-      let d1 : Derivable g (joined_with types ps) (left_at p q.to) r = subst (λ t. Derivable g (joined_with types ps) (left_at p q.to) t) as_wanted.goal d0 in
-      let rest : AllDerivable g types (left_at p s.set) args = args-from s ns args later (λ m h. each m (or_right (m == n) (has m ns) h)) in
-      let rest1 : AllDerivable g types (suc (left_at p q.to)) args = subst (λ t. AllDerivable g types t args) st.left rest in
-      let all : AllDerivable g types (suc (left_at p q.to)) (Fun ps r ∷ args) = lambda types (left_at p q.to) ps r args d1 rest1 in
-      subst (λ t. AllDerivable g types t (Fun ps r ∷ args)) (sym st.left) all
+      let d0 : IsDerivable g (joined_with types ps) (left_at p q.to) q.wanted.goal = subst (λ t. IsDerivable g t (left_at p q.to) q.wanted.goal) bound q.derivable in
+      let d1 : IsDerivable g (joined_with types ps) (left_at p q.to) r = subst (λ t. IsDerivable g (joined_with types ps) (left_at p q.to) t) as_wanted.goal d0 in
+      let rest : AreDerivable g types (left_at p s.set) args = args-from s ns args later (λ m h. each m (or_right (m == n) (has m ns) h)) in
+      let rest1 : AreDerivable g types (suc (left_at p q.to)) args = subst (λ t. AreDerivable g types t args) st.left rest in
+      let all : AreDerivable g types (suc (left_at p q.to)) (Fun ps r ∷ args) = lambda types (left_at p q.to) ps r args d1 rest1 in
+      subst (λ t. AreDerivable g types t (Fun ps r ∷ args)) (sym st.left) all
 
   -- the wants of a source of a kind whose needs are sought
-  source-from : (s : State) (source : Source) (kind : Succinct) → IsKindOf c.needs source kind → ((n : ℕ) → has n kind.needs ≡ true → IsSought g p s n) → AllDerivable g (types_at p s.set) (left_at p s.set) source.args
+  source-from : (s : State) (source : Source) (kind : Succinct) → IsKindOf c.needs source kind → ((n : ℕ) → has n kind.needs ≡ true → IsSought g p s n) → AreDerivable g (types_at p s.set) (left_at p s.set) source.args
   source-from s source kind k each = args-from s k.numbers source.args k.named (λ n h. each n (ap (has n) k.wants ∙ has-joined_with n [] k.numbers ∙ h))
 
   -- what a source gives whose wants are derivable
-  gives-from : (set : List ℕ) (left n : ℕ) (source : Source) → slice_get (sources g) n ≡ Some source → AllDerivable g set left source.args → Derivable g set left source.result
+  gives-from : (set : List ℕ) (left n : ℕ) (source : Source) → slice_get (sources g) n ≡ Some source → AreDerivable g set left source.args → IsDerivable g set left source.result
   gives-from set left n source at all = elim (append-get (map of_decl g.decls) (map of_pair g.pairs) n source at) [
     | inl decl ↦ (
         let u = unmap of_decl g.decls n source decl in
-        let wants : AllDerivable g set left u.0.args = subst (λ (x : Source). AllDerivable g set left x.args) (sym u.2) all in
-        subst (λ (x : Source). Derivable g set left x.result) u.2 (by_decl set left n u.0 u.1 wants))
+        let wants : AreDerivable g set left u.0.args = subst (λ (x : Source). AreDerivable g set left x.args) (sym u.2) all in
+        subst (λ (x : Source). IsDerivable g set left x.result) u.2 (by_decl set left n u.0 u.1 wants))
     | inr pair ↦ (
         let u = unmap of_pair g.pairs pair.0 source pair.1 in
-        let wants : AllDerivable g set left (Plain u.0.0 ∷ []) = subst (λ (x : Source). AllDerivable g set left x.args) (sym u.2) all in
+        let wants : AreDerivable g set left (Plain u.0.0 ∷ []) = subst (λ (x : Source). AreDerivable g set left x.args) (sym u.2) all in
         let below : is_below g u.0.0 u.0.1 ≡ true = pair-below g u.0.0 u.0.1 (pair-get g.pairs pair.0 u.0 u.1) in
-        subst (λ (x : Source). Derivable g set left x.result) u.2 (by_pair set left u.0.0 u.0.1 below (first-want g set left u.0.0 [] wants)))
+        subst (λ (x : Source). IsDerivable g set left x.result) u.2 (by_pair set left u.0.0 u.0.1 below (first-want g set left u.0.0 [] wants)))
   ]
 
   -- a source of a kind
@@ -270,12 +270,12 @@ module _ (g : Parts) (c : Compression) (p : Space) (comp : IsCompression g c) (t
 
   mutual
     -- what is met is derivable
-    pub met-derives : (s : State) → IsMet p c.kinds s → Derivable g (types_at p s.set) (left_at p s.set) s.goal
+    pub met-derives : (s : State) → IsMet p c.kinds s → IsDerivable g (types_at p s.set) (left_at p s.set) s.goal
     met-derives s (by_set s' h) = in_set (types_at p s.set) (left_at p s.set) s.goal h
     met-derives s (by_kind s' k kind found gives all) =
         let f = source-of k kind found in
-        let wants : AllDerivable g (types_at p s.set) (left_at p s.set) f.1.args = source-from s f.1 kind f.3 (needs-sought s kind.needs all) in
-        subst (λ t. Derivable g (types_at p s.set) (left_at p s.set) t) (sym f.3.gives ∙ gives) (gives-from (types_at p s.set) (left_at p s.set) f.0 f.1 f.2 wants)
+        let wants : AreDerivable g (types_at p s.set) (left_at p s.set) f.1.args = source-from s f.1 kind f.3 (needs-sought s kind.needs all) in
+        subst (λ t. IsDerivable g (types_at p s.set) (left_at p s.set) t) (sym f.3.gives ∙ gives) (gives-from (types_at p s.set) (left_at p s.set) f.0 f.1 f.2 wants)
 
     pub needs-sought : (s : State) (ns : List ℕ) → AreMet p c.kinds s ns → (n : ℕ) → has n ns ≡ true → IsSought g p s n
     needs-sought s ns (met_none s') n h = absurd (false≢true h)
@@ -339,7 +339,7 @@ module _ (g : Parts) (c : Compression) (p : Space) (comp : IsCompression g c) (t
 
   mutual
     -- what is derivable is met
-    pub derives-met : (types : List ℕ) (left b : ℕ) → Derivable g types left b → (set : ℕ) → types_at p set ≡ types → left_at p set ≡ left → IsMet p c.kinds (record { set = set; goal = b })
+    pub derives-met : (types : List ℕ) (left b : ℕ) → IsDerivable g types left b → (set : ℕ) → types_at p set ≡ types → left_at p set ≡ left → IsMet p c.kinds (record { set = set; goal = b })
     derives-met types left b (in_set types' left' b' h) set t l = by_set (record { set = set; goal = b }) (ap (has b) t ∙ h)
     derives-met types left b (by_pair types' left' a b' below d) set t l =
         let inner : IsMet p c.kinds (record { set = set; goal = a }) = derives-met types left a d set t l in
@@ -354,7 +354,7 @@ module _ (g : Parts) (c : Compression) (p : Space) (comp : IsCompression g c) (t
         let at : slice_get (sources g) n ≡ Some (of_decl d) = left-get (map of_decl g.decls) (map of_pair g.pairs) n (of_decl d) (remap of_decl g.decls n d found) in
         source-met set n (of_decl d) at (args-met types left d.args all set t l)
 
-    pub args-met : (types : List ℕ) (left : ℕ) (args : List Arg) → AllDerivable g types left args → (set : ℕ) → types_at p set ≡ types → left_at p set ≡ left → ArgsMet set args
+    pub args-met : (types : List ℕ) (left : ℕ) (args : List Arg) → AreDerivable g types left args → (set : ℕ) → types_at p set ≡ types → left_at p set ≡ left → ArgsMet set args
     args-met types left args (none types' left') set t l = tt
     args-met types left args (value types' left' b more d rest) set t l = (derives-met types left b d set t l, args-met types left more rest set t l)
     args-met types left args (lambda types' left' ps r more d rest) set t l =
@@ -378,7 +378,7 @@ agrees g c goal depth d valid comp made i s list at is = record {
   ];
   derivable_is_listed = λ h. seen-of s (derives-met g c d.space comp made.wanted made.steps rising (types_at d.space s.set) (left_at d.space s.set) s.goal h s.set refl refl) lo;
   derivable_has_a_term = λ ctx types room h. fits-of ctx (derives-term g (below-transitive g valid) (below-itself g) (types_at d.space s.set) (left_at d.space s.set) s.goal h ctx types room);
-  a_term_is_derivable = λ ctx types e fit. subst (λ t. Derivable g t (left_at d.space s.set) s.goal) types (term-derives g ctx (left_at d.space s.set) s.goal e fit);
+  a_term_is_derivable = λ ctx types e fit. subst (λ t. IsDerivable g t (left_at d.space s.set) s.goal) types (term-derives g ctx (left_at d.space s.set) s.goal e fit);
 }
   where
     lo : IsListOf d.space c.kinds s list

@@ -14,7 +14,7 @@ use Rattle.succinct.specs.Sets.{has}
 use Rattle.succinct.specs.declared.kind.Succinct.{Succinct}
 use Rattle.patterns.specs.declared.state.State.{State}
 use Rattle.patterns.specs.declared.wanted.Wanted.{Wanted}
-use Rattle.patterns.specs.States.{Space, types_at, set_sought, place_of, place_in, place_sought, marked_at, need_marked, needs_marked, kind_marked, kinds_of, is_seen, IsSettled, IsListed, IsOpenKind, IsOpenState}
+use Rattle.patterns.specs.States.{Space, types_at, set_sought, state_place, place_in, place_sought, marked_at, need_marked, needs_marked, kind_marked, kinds_of, is_seen, IsSettled, IsListed, IsOpenKind, IsOpenState}
 use Rattle.patterns.specs.Met.{IsMet, by_set, by_kind, AreMet, met_none, met_more, AreSound}
 
 same_state : (s t : State) → (s.set == t.set) && (s.goal == t.goal) ≡ true → s ≡ t
@@ -25,8 +25,8 @@ same_state s t h =
     ap (λ n. record { set = n; goal = s.goal }) a ∙ ap (λ n. record { set = t.set; goal = n }) b
 
 -- what a place found among the states holds
-pub place_of-get : (states : List State) (s : State) (t : ℕ) → place_of states s ≡ Some t → slice_get states t ≡ Some s
-place_of-get states s t h =
+pub state_place-get : (states : List State) (s : State) (t : ℕ) → state_place states s ≡ Some t → slice_get states t ≡ Some s
+state_place-get states s t h =
     let found = position-Some (λ x. (s.set == x.set) && (s.goal == x.goal)) states t s h in
     slice_get-get_or states t s found.0 ∙ ap (λ x. Some x) (sym (same_state s (get_or states t s) found.1))
 
@@ -34,8 +34,8 @@ pub self_state : (s : State) → (s.set == s.set) && (s.goal == s.goal) ≡ true
 self_state s = and_from (s.set == s.set) (s.goal == s.goal) (eq-eqb s.set s.set refl) (eq-eqb s.goal s.goal refl)
 
 -- a listed state is found at its place
-pub place_of-is : (states : List State) (s : State) (t : ℕ) → AreDistinct states → slice_get states t ≡ Some s → place_of states s ≡ Some t
-place_of-is states s t d h =
+pub state_place-is : (states : List State) (s : State) (t : ℕ) → AreDistinct states → slice_get states t ≡ Some s → state_place states s ≡ Some t
+state_place-is states s t d h =
     let low : t < length states = slice_get_within states t s h in
     let truth : (s.set == (get_or states t s).set) && (s.goal == (get_or states t s).goal) ≡ true = ap (λ x. (s.set == x.set) && (s.goal == x.goal)) (get_or_from_slice_get states t s s h) ∙ self_state s in
     let at : position_or_len (λ x. (s.set == x.set) && (s.goal == x.goal)) states ≡ t = position_or_len_is (λ x. (s.set == x.set) && (s.goal == x.goal)) states t s (omega (arith, low)) (λ k less. before k less low ((s.set == (get_or states k s).set) && (s.goal == (get_or states k s).goal)) refl) (λ l. truth) in
@@ -89,11 +89,11 @@ sound-need p kinds states marks sound s n h = go (slice_get p.wanted n) refl h
   where
     at_set : (w : Wanted) → slice_get p.wanted n ≡ Some w → (o : Option ℕ) → set_sought p s.set w ≡ o → marked_at marks (place_in states w.goal o) ≡ true → (w' : Wanted) × (to : ℕ) × (slice_get p.wanted n ≡ Some w') × (set_sought p s.set w' ≡ Some to) × IsMet p kinds (record { set = to; goal = w'.goal })
     at_set w is None e h' = absurd (false≢true h')
-    at_set w is (Some to) e h' = at_place (place_of states (record { set = to; goal = w.goal })) refl h'
+    at_set w is (Some to) e h' = at_place (state_place states (record { set = to; goal = w.goal })) refl h'
       where
-        at_place : (o : Option ℕ) → place_of states (record { set = to; goal = w.goal }) ≡ o → marked_at marks o ≡ true → (w' : Wanted) × (to' : ℕ) × (slice_get p.wanted n ≡ Some w') × (set_sought p s.set w' ≡ Some to') × IsMet p kinds (record { set = to'; goal = w'.goal })
+        at_place : (o : Option ℕ) → state_place states (record { set = to; goal = w.goal }) ≡ o → marked_at marks o ≡ true → (w' : Wanted) × (to' : ℕ) × (slice_get p.wanted n ≡ Some w') × (set_sought p s.set w' ≡ Some to') × IsMet p kinds (record { set = to'; goal = w'.goal })
         at_place None e' h'' = absurd (false≢true h'')
-        at_place (Some t) e' h'' = (w, to, is, e, sound t (record { set = to; goal = w.goal }) (place_of-get states (record { set = to; goal = w.goal }) t e') h'')
+        at_place (Some t) e' h'' = (w, to, is, e, sound t (record { set = to; goal = w.goal }) (state_place-get states (record { set = to; goal = w.goal }) t e') h'')
 
     go : (o : Option Wanted) → slice_get p.wanted n ≡ o → marked_at marks (place_sought p states s o) ≡ true → (w : Wanted) × (to : ℕ) × (slice_get p.wanted n ≡ Some w) × (set_sought p s.set w ≡ Some to) × IsMet p kinds (record { set = to; goal = w.goal })
     go None e h' = absurd (false≢true h')
@@ -159,7 +159,7 @@ module _ (p : Space) (kinds : List Succinct) (states : List State) (marks : List
     complete-needs s ns (met_more s' n ns' w to is sought met rest) opens =
         let listed : IsListed states (record { set = to; goal = w.goal }) = opens n (or_left (n == n) (has n ns') (eq-eqb n n refl)) w to is sought in
         let mark : get_or marks listed.0 false ≡ true = complete (record { set = to; goal = w.goal }) met listed.0 listed.1 in
-        let place : place_of states (record { set = to; goal = w.goal }) ≡ Some listed.0 = place_of-is states (record { set = to; goal = w.goal }) listed.0 distinct listed.1 in
+        let place : state_place states (record { set = to; goal = w.goal }) ≡ Some listed.0 = state_place-is states (record { set = to; goal = w.goal }) listed.0 distinct listed.1 in
         let here : need_marked p states marks s n ≡ true = ap (λ o. marked_at marks (place_sought p states s o)) is ∙ ap (λ o. marked_at marks (place_in states w.goal o)) sought ∙ ap (marked_at marks) place ∙ mark in
         and_from (need_marked p states marks s n) (list_all (λ m. need_marked p states marks s m) ns') here (complete-needs s ns' rest (λ m h. opens m (or_right (m == n) (has m ns') h)))
 

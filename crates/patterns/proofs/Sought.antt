@@ -11,8 +11,8 @@ use Rattle.succinct.specs.declared.need.Need.{Need}
 use Rattle.patterns.specs.declared.state.State.{State}
 use Rattle.patterns.specs.declared.wanted.Wanted.{Wanted}
 use Rattle.patterns.specs.Patterned.{Patterned, ArePatterns, AreSought, IsSoughtAt, sought_from, state_sought}
-use Rattle.patterns.specs.States.{Space, types_at, left_at, set_sought, place_of, place_in, place_sought, kinds_of, IsListed, AreWanted, IsWantedAs, AreSteps, AreSetsInRange}
-use Rattle.patterns.proofs.Mets.{in_ends, place_of-get, place_of-is}
+use Rattle.patterns.specs.States.{Space, types_at, left_at, set_sought, state_place, place_in, place_sought, kinds_of, IsListed, AreWanted, IsWantedAs, AreSteps, AreSetsInRange}
+use Rattle.patterns.proofs.Mets.{in_ends, state_place-get, state_place-is}
 use Rattle.patterns.proofs.Meaning.{some_eq, lambda-step, lambda-there, plain-sought, plain-same, types-rising, need-is}
 
 -- a set in which a want is sought is there
@@ -65,7 +65,7 @@ module _ (g : Parts) (c : Compression) (d : Patterned) (comp : IsCompression g c
       go : (w : Wanted) → IsWantedAs n need w → (o : Option ℕ) → set_sought d.space s.set w ≡ o → place_in d.states w.goal o ≡ Some j → IsSoughtAt d.space s need t
       go w as_wanted None e h = absurd (none_some j h)
       go w as_wanted (Some to) e h =
-          let found : slice_get d.states j ≡ Some (record { set = to; goal = w.goal }) = place_of-get d.states (record { set = to; goal = w.goal }) j h in
+          let found : slice_get d.states j ≡ Some (record { set = to; goal = w.goal }) = state_place-get d.states (record { set = to; goal = w.goal }) j h in
           subst (λ x. IsSoughtAt d.space s need x) (some_eq (record { set = to; goal = w.goal }) t (sym found ∙ there)) (at-need n need is s w to as_wanted e)
 
 -- the set in which a need is sought, where it is no lambda or some are left
@@ -90,7 +90,7 @@ are-sought g c goal depth d comp made i n s need at is = record {
       let z : 0 + k ≡ k = omega arith in
       let ends : has k (kinds_of c.kinds s.goal) ≡ true = ap (λ m. has m (kinds_of c.kinds s.goal)) (sym z) ∙ in_ends c.kinds s.goal k 0 kind found gives in
       let listed : IsListed d.states (record { set = to.0; goal = w.0.goal }) = made.found.closed s (i, at) k kind ends found n in_needs w.0 to.0 w.1 to.1 in
-      let place : place_of d.states (record { set = to.0; goal = w.0.goal }) ≡ Some listed.0 = place_of-is d.states (record { set = to.0; goal = w.0.goal }) listed.0 made.found.distinct_states listed.1 in
+      let place : state_place d.states (record { set = to.0; goal = w.0.goal }) ≡ Some listed.0 = state_place-is d.states (record { set = to.0; goal = w.0.goal }) listed.0 made.found.distinct_states listed.1 in
       (listed.0, sought-is g c d comp made.wanted made.steps rising i n s w.0 at w.1 ∙ ap (place_in d.states w.0.goal) to.1 ∙ place, slice_get_within d.states listed.0 (record { set = to.0; goal = w.0.goal }) listed.1));
 }
   where

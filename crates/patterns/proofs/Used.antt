@@ -9,7 +9,7 @@ use Rattle.succinct.specs.declared.kind.Succinct.{Succinct}
 use Rattle.succinct.proofs.Needs.{has-push}
 use Rattle.succinct.proofs.Numberings.{get_append}
 use Rattle.patterns.specs.States.{Space, place_sought, kinds_of}
-use Rattle.patterns.specs.Waiting.{IsAmong, AreTargets, AreUsedBy, AreUses, needs_of}
+use Rattle.patterns.specs.Worklist.{IsAmong, AreTargets, AreUsedBy, AreUses, needs_of}
 use Rattle.patterns.specs.declared.state.State.{State}
 use Rattle.patterns.specs.declared.watchers.Use.{Use}
 use Rattle.patterns.proofs.Mets.{in_ends}

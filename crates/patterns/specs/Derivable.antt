@@ -11,13 +11,13 @@ use Rattle.terms.specs.declared.parts.Parts.{Parts}
 
 mutual
   -- a type of the set, what a pair leads to, or what a declaration gives whose wants are derivable
-  pub data Derivable (g : Parts) : List ℕ → ℕ → ℕ → Type 0 where
-    in_set : (set : List ℕ) (left b : ℕ) → has b set ≡ true → Derivable g set left b
-    by_pair : (set : List ℕ) (left a b : ℕ) → is_below g a b ≡ true → Derivable g set left a → Derivable g set left b
-    by_decl : (set : List ℕ) (left n : ℕ) (d : Decl) → slice_get g.decls n ≡ Some d → AllDerivable g set left d.args → Derivable g set left d.result
+  pub data IsDerivable (g : Parts) : List ℕ → ℕ → ℕ → Type 0 where
+    in_set : (set : List ℕ) (left b : ℕ) → has b set ≡ true → IsDerivable g set left b
+    by_pair : (set : List ℕ) (left a b : ℕ) → is_below g a b ≡ true → IsDerivable g set left a → IsDerivable g set left b
+    by_decl : (set : List ℕ) (left n : ℕ) (d : Decl) → slice_get g.decls n ≡ Some d → AreDerivable g set left d.args → IsDerivable g set left d.result
 
   -- each want: a value, or under a lambda its body over the larger set with one lambda fewer left
-  pub data AllDerivable (g : Parts) : List ℕ → ℕ → List Arg → Type 0 where
-    none : (set : List ℕ) (left : ℕ) → AllDerivable g set left []
-    value : (set : List ℕ) (left b : ℕ) (more : List Arg) → Derivable g set left b → AllDerivable g set left more → AllDerivable g set left (Plain b ∷ more)
-    lambda : (set : List ℕ) (left : ℕ) (ps : List ℕ) (r : ℕ) (more : List Arg) → Derivable g (joined_with set ps) left r → AllDerivable g set (suc left) more → AllDerivable g set (suc left) (Fun ps r ∷ more)
+  pub data AreDerivable (g : Parts) : List ℕ → ℕ → List Arg → Type 0 where
+    none : (set : List ℕ) (left : ℕ) → AreDerivable g set left []
+    value : (set : List ℕ) (left b : ℕ) (more : List Arg) → IsDerivable g set left b → AreDerivable g set left more → AreDerivable g set left (Plain b ∷ more)
+    lambda : (set : List ℕ) (left : ℕ) (ps : List ℕ) (r : ℕ) (more : List Arg) → IsDerivable g (joined_with set ps) left r → AreDerivable g set (suc left) more → AreDerivable g set (suc left) (Fun ps r ∷ more)

@@ -1,5 +1,5 @@
 pub mod Derivable
 pub mod States
 pub mod Met
-pub mod Waiting
+pub mod Worklist
 pub mod Patterned

@@ -8,7 +8,7 @@ use Rattle.terms.specs.Expr.{Expr}
 use Rattle.terms.specs.Place.{fits_place}
 use Rattle.terms.specs.Typing.{most_rows}
 use Rattle.terms.specs.declared.parts.Parts.{Parts}
-use Rattle.patterns.specs.Derivable.{Derivable, AllDerivable}
+use Rattle.patterns.specs.Derivable.{IsDerivable, AreDerivable}
 use Rattle.patterns.specs.Met.{AreMet}
 use Rattle.patterns.specs.States.{Space, types_at, left_at, place_sought, kinds_of, IsListed, IsOpenState, AreWanted, AreSteps, AreBound, AreInRange}
 use Rattle.patterns.specs.declared.state.State.{State}
@@ -76,14 +76,14 @@ pub record ArePatterns (c : Compression) (goal depth : ℕ) (d : Patterned) : Ty
 pub record AgreesAt (g : Parts) (c : Compression) (p : Space) (s : State) (list : List ℕ) : Type 0 where
   pub rising : IsRising (types_at p s.set)
   -- a kind is listed exactly where it ends in the goal and the wants of its sources are derivable
-  pub listed : (k n : ℕ) (source : Source) → slice_get (sources g) n ≡ Some source → slice_get c.kind_numbers n ≡ Some k → source.result ≡ s.goal → AllDerivable g (types_at p s.set) (left_at p s.set) source.args → has k list ≡ true
-  pub only_those : (k : ℕ) → has k list ≡ true → (kind : Succinct) × (slice_get c.kinds k ≡ Some kind) × (kind.result ≡ s.goal) × ((source : Source) → IsKindOf c.needs source kind → AllDerivable g (types_at p s.set) (left_at p s.set) source.args)
+  pub listed : (k n : ℕ) (source : Source) → slice_get (sources g) n ≡ Some source → slice_get c.kind_numbers n ≡ Some k → source.result ≡ s.goal → AreDerivable g (types_at p s.set) (left_at p s.set) source.args → has k list ≡ true
+  pub only_those : (k : ℕ) → has k list ≡ true → (kind : Succinct) × (slice_get c.kinds k ≡ Some kind) × (kind.result ≡ s.goal) × ((source : Source) → IsKindOf c.needs source kind → AreDerivable g (types_at p s.set) (left_at p s.set) source.args)
   -- the goal is derivable exactly where it is in the set or a kind is listed
-  pub listed_is_derivable : (has s.goal (types_at p s.set) ≡ true) ⊎ ((k : ℕ) × (has k list ≡ true)) → Derivable g (types_at p s.set) (left_at p s.set) s.goal
-  pub derivable_is_listed : Derivable g (types_at p s.set) (left_at p s.set) s.goal → (has s.goal (types_at p s.set) ≡ true) ⊎ ((k : ℕ) × (has k list ≡ true))
+  pub listed_is_derivable : (has s.goal (types_at p s.set) ≡ true) ⊎ ((k : ℕ) × (has k list ≡ true)) → IsDerivable g (types_at p s.set) (left_at p s.set) s.goal
+  pub derivable_is_listed : IsDerivable g (types_at p s.set) (left_at p s.set) s.goal → (has s.goal (types_at p s.set) ≡ true) ⊎ ((k : ℕ) × (has k list ≡ true))
   -- which is exactly where a term fits, in each context with these types
-  pub derivable_has_a_term : (ctx : List (List ℕ)) → types_bound ctx ≡ types_at p s.set → length ctx + left_at p s.set ≤ most_rows → Derivable g (types_at p s.set) (left_at p s.set) s.goal → (e : Expr) × (fits_place g (record { ctx = ctx; left = left_at p s.set; wanted = s.goal }) e ≡ true)
-  pub a_term_is_derivable : (ctx : List (List ℕ)) → types_bound ctx ≡ types_at p s.set → (e : Expr) → fits_place g (record { ctx = ctx; left = left_at p s.set; wanted = s.goal }) e ≡ true → Derivable g (types_at p s.set) (left_at p s.set) s.goal
+  pub derivable_has_a_term : (ctx : List (List ℕ)) → types_bound ctx ≡ types_at p s.set → length ctx + left_at p s.set ≤ most_rows → IsDerivable g (types_at p s.set) (left_at p s.set) s.goal → (e : Expr) × (fits_place g (record { ctx = ctx; left = left_at p s.set; wanted = s.goal }) e ≡ true)
+  pub a_term_is_derivable : (ctx : List (List ℕ)) → types_bound ctx ≡ types_at p s.set → (e : Expr) → fits_place g (record { ctx = ctx; left = left_at p s.set; wanted = s.goal }) e ≡ true → IsDerivable g (types_at p s.set) (left_at p s.set) s.goal
 
 -- so at each state
 abbrev pub Agrees : Parts → Compression → Patterned → Type 0

@@ -41,12 +41,12 @@ pub record StateTable : Type 0 where
   pub keys : List State
 
 -- the place of a state among the states
-abbrev pub place_of : List State → State → Option ℕ
-place_of states s = position (λ x. (s.set == x.set) && (s.goal == x.goal)) states
+abbrev pub state_place : List State → State → Option ℕ
+state_place states s = position (λ x. (s.set == x.set) && (s.goal == x.goal)) states
 
 abbrev pub place_in : List State → ℕ → Option ℕ → Option ℕ
 place_in states goal None = None
-place_in states goal (Some set) = place_of states (record { set = set; goal = goal })
+place_in states goal (Some set) = state_place states (record { set = set; goal = goal })
 
 -- the number of the state in which a want is sought from a state
 abbrev pub place_sought : Space → List State → State → Option Wanted → Option ℕ

@@ -4,7 +4,7 @@ ghost use Rattle.std.specs.Prelude.{◌≡◌, ◌<◌, ℕ, false, length, map,
 ghost use Rattle.patterns.specs.States.{AreEnds, AreLists};
 
 use crate::kinds_by_result::Ends;
-use crate::marking::kinds_met;
+use crate::marks::kinds_met;
 use crate::sets::Sets;
 use crate::states::States;
 use std::alloc::{AllocError, Global};

@@ -2,20 +2,19 @@
 
 ghost use Rattle.std.specs.Prelude.{◌≡◌, ◌<◌, ◌≤◌, suc, [], length, slice_get, slice_index_or, IfOk};
 ghost use Rattle.patterns.specs.Patterned.{Patterned, ArePatterns, Agrees, AreSought, state_sought};
-ghost use Rattle.patterns.specs.States.{types_at, left_at, set_sought, place_of};
+ghost use Rattle.patterns.specs.States.{types_at, left_at, set_sought, state_place};
 ghost use Rattle.succinct.specs.Compression.{IsCompression};
 ghost use Rattle.terms.specs.Faults.{IsValid};
 ghost use Rattle.terms.specs.Typing.{most_rows};
 ghost use Rattle.terms.specs.declared.parts.Parts.{Parts};
 
-use crate::finding::{Found, find};
+use crate::found_kinds::{Found, find};
 use crate::kinds_by_result::Ends;
 use crate::sets::Sets;
 use crate::state::State;
 use crate::states::States;
 use crate::steps::{Steps, all_steps};
-use crate::wanted::Wanted;
-use crate::wanting::all_wanted;
+use crate::wanted::{Wanted, all_wanted};
 use std::alloc::{AllocError, Global};
 use std::marker::Model;
 use succinct::Compressed;
@@ -131,7 +130,7 @@ impl Patterns {
             None => return None,
         };
         let goal = wanted.goal;
-        self.place_of(State { set, goal })
+        self.state_place(State { set, goal })
     }
 
     /// Where a need is sought.
@@ -149,8 +148,8 @@ impl Patterns {
     }
 
     /// The number of a state.
-    fn place_of(&self, state: State) -> Option<u32>
-        ensures value { result ≡ place_of self.now.states state }
+    fn state_place(&self, state: State) -> Option<u32>
+        ensures value { result ≡ state_place self.now.states state }
     {
         match self.states.get_index_of(state) {
             Some(place) => Some(place as u32),

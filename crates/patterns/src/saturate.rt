@@ -3,13 +3,13 @@
 ghost use Rattle.std.specs.Prelude.{◌≡◌, ◌<◌, ◌≤◌, ◌++◌, ◌∷◌, [], ◌+◌, ℕ, List, true, length, map, slice_get, slice_set, slice_index_or, Some, OnOk};
 ghost use Rattle.patterns.specs.Met.{AreSound};
 ghost use Rattle.patterns.specs.States.{AreEnds, is_seen, IsSettled};
-ghost use Rattle.patterns.specs.Waiting.{AreTargets, AreUses, IsQuiet};
+ghost use Rattle.patterns.specs.Worklist.{AreTargets, AreUses, IsQuiet};
 ghost use Rattle.patterns.specs.declared.watchers.Use.{Use};
 ghost use Rattle.succinct.specs.Compression.{places_of};
 ghost use Rattle.succinct.specs.Sets.{has};
 
 use crate::kinds_by_result::{Ends, list_at};
-use crate::marking::{is_marked, kind_ends_met, some_kind_is_met};
+use crate::marks::{is_marked, kind_ends_met, some_kind_is_met};
 use crate::sets::Sets;
 use crate::state::State;
 use crate::states::States;
@@ -48,12 +48,12 @@ fn is_seen(
 }
 
 /// Marks a state, which then is to be looked at.
-fn mark(marks: &mut Vec<bool>, order: &mut Vec<usize>, place: usize) -> Result<(), AllocError>
+fn mark(marks: &mut Vec<bool>, worklist: &mut Vec<usize>, place: usize) -> Result<(), AllocError>
     requires in_range { place < length marks.old.items }
     ensures marked { OnOk result (marks.new.items ≡ slice_set marks.old.items place true) }
-    ensures ordered { OnOk result (order.new.items ≡ order.old.items ++ place ∷ []) }
+    ensures listed { OnOk result (worklist.new.items ≡ worklist.old.items ++ place ∷ []) }
 {
-    order.push(place)?;
+    worklist.push(place)?;
     marks[place] = true;
     Ok(())
 }
@@ -65,7 +65,7 @@ fn mark_seen(
     ends: &Ends,
     states: &States,
     marks: &mut Vec<bool>,
-    order: &mut Vec<usize>,
+    worklist: &mut Vec<usize>,
     place: usize,
 ) -> Result<(), AllocError>
     requires ends { AreEnds kinds.now ends.now }
@@ -73,13 +73,13 @@ fn mark_seen(
     requires as_many { length marks.old.items ≡ length states.now.keys }
     ensures as_many { OnOk result (length marks.new.items ≡ length states.now.keys) }
     ensures sound { OnOk result (AreSound sets.now kinds.now states.now.keys marks.old.items → AreSound sets.now kinds.now states.now.keys marks.new.items) }
-    ensures quiet { OnOk result ((uses : List Use) → IsQuiet sets.now kinds.now states.now.keys uses marks.old.items order.old.items 0 [] place → IsQuiet sets.now kinds.now states.now.keys uses marks.new.items order.new.items 0 [] (place + 1)) }
+    ensures quiet { OnOk result ((uses : List Use) → IsQuiet sets.now kinds.now states.now.keys uses marks.old.items worklist.old.items 0 [] place → IsQuiet sets.now kinds.now states.now.keys uses marks.new.items worklist.new.items 0 [] (place + 1)) }
 {
     let from = states.as_slice()[place];
     if !is_seen(sets, kinds, ends, states, marks.as_slice(), from) {
         return Ok(());
     }
-    mark(marks, order, place)?;
+    mark(marks, worklist, place)?;
     Ok(())
 }
 
@@ -90,16 +90,16 @@ fn first_round(
     ends: &Ends,
     states: &States,
     marks: &mut Vec<bool>,
-    order: &mut Vec<usize>,
+    worklist: &mut Vec<usize>,
 ) -> Result<(), AllocError>
     requires ends { AreEnds kinds.now ends.now }
     requires as_many { length marks.old.items ≡ length states.now.keys }
     ensures as_many { OnOk result (length marks.new.items ≡ length states.now.keys) }
     ensures sound { OnOk result (AreSound sets.now kinds.now states.now.keys marks.old.items → AreSound sets.now kinds.now states.now.keys marks.new.items) }
-    ensures quiet { OnOk result ((uses : List Use) → IsQuiet sets.now kinds.now states.now.keys uses marks.new.items order.new.items 0 [] (length states.now.keys)) }
+    ensures quiet { OnOk result ((uses : List Use) → IsQuiet sets.now kinds.now states.now.keys uses marks.new.items worklist.new.items 0 [] (length states.now.keys)) }
 {
     for place in 0..states.len() {
-        mark_seen(sets, kinds, ends, states, marks, order, place)?;
+        mark_seen(sets, kinds, ends, states, marks, worklist, place)?;
     }
     Ok(())
 }
@@ -110,14 +110,14 @@ fn try_use(
     kinds: &[Succinct],
     states: &States,
     marks: &mut Vec<bool>,
-    order: &mut Vec<usize>,
+    worklist: &mut Vec<usize>,
     one: Use,
 ) -> Result<(), AllocError>
     requires as_many { length marks.old.items ≡ length states.now.keys }
     ensures as_many { OnOk result (length marks.new.items ≡ length states.now.keys) }
-    ensures longer { OnOk result (length order.old.items ≤ length order.new.items) }
+    ensures longer { OnOk result (length worklist.old.items ≤ length worklist.new.items) }
     ensures sound { OnOk result (AreSound sets.now kinds.now states.now.keys marks.old.items → AreSound sets.now kinds.now states.now.keys marks.new.items) }
-    ensures quiet { OnOk result ((uses : List Use) (number i count : ℕ) (rest : List ℕ) → slice_get uses number ≡ Some one → i ≤ length order.old.items → IsQuiet sets.now kinds.now states.now.keys uses marks.old.items order.old.items i (number ∷ rest) count → IsQuiet sets.now kinds.now states.now.keys uses marks.new.items order.new.items i rest count) }
+    ensures quiet { OnOk result ((uses : List Use) (number i count : ℕ) (rest : List ℕ) → slice_get uses number ≡ Some one → i ≤ length worklist.old.items → IsQuiet sets.now kinds.now states.now.keys uses marks.old.items worklist.old.items i (number ∷ rest) count → IsQuiet sets.now kinds.now states.now.keys uses marks.new.items worklist.new.items i rest count) }
 {
     let place = one.place;
     if place >= states.len() {
@@ -130,7 +130,7 @@ fn try_use(
     if !kind_ends_met(sets, kinds, states, marks.as_slice(), from, one.kind) {
         return Ok(());
     }
-    mark(marks, order, place)?;
+    mark(marks, worklist, place)?;
     Ok(())
 }
 
@@ -147,18 +147,18 @@ fn try_numbered(
     kinds: &[Succinct],
     states: &States,
     marks: &mut Vec<bool>,
-    order: &mut Vec<usize>,
+    worklist: &mut Vec<usize>,
     uses: &[Use],
     number: u32,
 ) -> Result<(), AllocError>
     requires as_many { length marks.old.items ≡ length states.now.keys }
     ensures as_many { OnOk result (length marks.new.items ≡ length states.now.keys) }
-    ensures longer { OnOk result (length order.old.items ≤ length order.new.items) }
+    ensures longer { OnOk result (length worklist.old.items ≤ length worklist.new.items) }
     ensures sound { OnOk result (AreSound sets.now kinds.now states.now.keys marks.old.items → AreSound sets.now kinds.now states.now.keys marks.new.items) }
-    ensures quiet { OnOk result ((i count : ℕ) (rest : List ℕ) → i ≤ length order.old.items → IsQuiet sets.now kinds.now states.now.keys uses.now marks.old.items order.old.items i (number ∷ rest) count → IsQuiet sets.now kinds.now states.now.keys uses.now marks.new.items order.new.items i rest count) }
+    ensures quiet { OnOk result ((i count : ℕ) (rest : List ℕ) → i ≤ length worklist.old.items → IsQuiet sets.now kinds.now states.now.keys uses.now marks.old.items worklist.old.items i (number ∷ rest) count → IsQuiet sets.now kinds.now states.now.keys uses.now marks.new.items worklist.new.items i rest count) }
 {
     match use_at(uses, number) {
-        Some(one) => try_use(sets, kinds, states, marks, order, one),
+        Some(one) => try_use(sets, kinds, states, marks, worklist, one),
         None => Ok(()),
     }
 }
@@ -169,17 +169,17 @@ fn wake(
     kinds: &[Succinct],
     states: &States,
     marks: &mut Vec<bool>,
-    order: &mut Vec<usize>,
+    worklist: &mut Vec<usize>,
     uses: &[Use],
     numbers: &[u32],
 ) -> Result<(), AllocError>
     requires as_many { length marks.old.items ≡ length states.now.keys }
     ensures as_many { OnOk result (length marks.new.items ≡ length states.now.keys) }
     ensures sound { OnOk result (AreSound sets.now kinds.now states.now.keys marks.old.items → AreSound sets.now kinds.now states.now.keys marks.new.items) }
-    ensures quiet { OnOk result ((i count : ℕ) → i ≤ length order.old.items → IsQuiet sets.now kinds.now states.now.keys uses.now marks.old.items order.old.items i numbers.now count → IsQuiet sets.now kinds.now states.now.keys uses.now marks.new.items order.new.items i [] count) }
+    ensures quiet { OnOk result ((i count : ℕ) → i ≤ length worklist.old.items → IsQuiet sets.now kinds.now states.now.keys uses.now marks.old.items worklist.old.items i numbers.now count → IsQuiet sets.now kinds.now states.now.keys uses.now marks.new.items worklist.new.items i [] count) }
 {
     for number in numbers {
-        try_numbered(sets, kinds, states, marks, order, uses, *number)?;
+        try_numbered(sets, kinds, states, marks, worklist, uses, *number)?;
     }
     Ok(())
 }
@@ -190,7 +190,7 @@ fn look(
     kinds: &[Succinct],
     states: &States,
     marks: &mut Vec<bool>,
-    order: &mut Vec<usize>,
+    worklist: &mut Vec<usize>,
     uses: &[Use],
     groups: &Vec<Vec<u32>>,
 ) -> Result<(), AllocError>
@@ -198,21 +198,21 @@ fn look(
     requires used { AreUses sets.now kinds.now states.now.keys uses.now }
     requires targets { AreTargets (length states.now.keys) uses.now }
     requires grouped { (j : ℕ) → j < length states.now.keys → slice_get (map (λ l. l.items) groups.now.items) j ≡ Some (places_of j (map (λ u. u.target) uses.now)) }
-    requires quiet { IsQuiet sets.now kinds.now states.now.keys uses.now marks.old.items order.old.items 0 [] (length states.now.keys) }
+    requires quiet { IsQuiet sets.now kinds.now states.now.keys uses.now marks.old.items worklist.old.items 0 [] (length states.now.keys) }
     ensures sound { OnOk result (AreSound sets.now kinds.now states.now.keys marks.old.items → AreSound sets.now kinds.now states.now.keys marks.new.items) }
     ensures settled { OnOk result (IsSettled sets.now kinds.now states.now.keys marks.new.items) }
 {
     for i in 0..4294967296usize {
-        if i >= order.len() {
+        if i >= worklist.len() {
             return Ok(());
         }
-        let place = order[i];
+        let place = worklist[i];
         wake(
             sets,
             kinds,
             states,
             marks,
-            order,
+            worklist,
             uses,
             list_at(groups, place),
         )?;
@@ -238,14 +238,14 @@ pub fn settle(
     let uses = all_uses(alloc, sets, kinds, ends, states)?;
     let targets = targets_of(alloc, uses.as_slice())?;
     let groups = sources_by_kind(alloc, states.len(), targets.as_slice())?;
-    let mut order = Vec::new(alloc);
-    first_round(sets, kinds, ends, states, marks, &mut order)?;
+    let mut worklist = Vec::new(alloc);
+    first_round(sets, kinds, ends, states, marks, &mut worklist)?;
     look(
         sets,
         kinds,
         states,
         marks,
-        &mut order,
+        &mut worklist,
         uses.as_slice(),
         &groups,
     )?;

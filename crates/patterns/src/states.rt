@@ -1,7 +1,7 @@
 // The listed states, with notes of where each of them stands.
 
 ghost use Rattle.std.specs.Prelude.{◌≡◌, ◌⊎◌, ◌<◌, [], length, slice_get, Some, IfOk, IfSome, OnOk};
-ghost use Rattle.patterns.specs.States.{IsListed, place_of};
+ghost use Rattle.patterns.specs.States.{IsListed, state_place};
 ghost use Rattle.patterns.specs.declared.state.State.{State};
 ghost use Rattle.succinct.specs.Compression.{AreDistinct};
 ghost use Rattle.succinct.specs.Numbering.{IsGrown};
@@ -112,7 +112,7 @@ impl States {
 
     /// The place of a state.
     pub fn get_index_of(&self, state: State) -> Option<usize>
-        ensures index { result ≡ place_of self.now.keys state }
+        ensures index { result ≡ state_place self.now.keys state }
         ensures within { IfSome result (λ i. i < length self.now.keys) }
     {
         let _ = self.len();

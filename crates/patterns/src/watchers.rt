@@ -2,13 +2,13 @@
 
 ghost use Rattle.std.specs.Prelude.{◌≡◌, ◌<◌, ℕ, true, length, map, slice_get, Some, IfOk, OnOk};
 ghost use Rattle.patterns.specs.States.{AreEnds, place_sought};
-ghost use Rattle.patterns.specs.Waiting.{AreTargets, AreUsedBy, AreUses, IsAmong, needs_of};
+ghost use Rattle.patterns.specs.Worklist.{AreTargets, AreUsedBy, AreUses, IsAmong, needs_of};
 ghost use Rattle.succinct.specs.Numbering.{IsGrown};
 ghost use Rattle.succinct.specs.Sets.{has};
 ghost use Rattle.succinct.specs.declared.kind.Succinct.{Succinct};
 
 use crate::kinds_by_result::Ends;
-use crate::marking::need_place;
+use crate::marks::need_place;
 use crate::sets::Sets;
 use crate::state::State;
 use crate::states::States;

@@ -5,7 +5,7 @@ use Rattle.std.proofs.lemmas.Bool.{cases_lt, cases_eq, eq-eqb, ne_eqb, le-leb, l
 use Rattle.std.proofs.lemmas.Option.{slice_get_past}
 use Rattle.std.specs.List.{range_with_len}
 use Rattle.terms.specs.Expr.{Expr, var, head, Args, no_args, plain, lam}
-use Rattle.terms.specs.Typing.{type_in, fits, some_below, is_below, result_if, args_wanted, joined}
+use Rattle.terms.specs.Typing.{type_in, fits, some_below, is_below, result_if, args_wanted, joined, placed}
 use Rattle.terms.specs.Weights.{step, weight_in, args_weight, decl_weight}
 use Rattle.terms.specs.Count.{expr_eq, args_eq, once_if, count, total}
 use Rattle.terms.specs.Place.{shallow, args_shallow, fits_place, weigh}
@@ -15,7 +15,7 @@ use Rattle.terms.specs.declared.parts.Arg.{Arg}
 use Rattle.terms.specs.declared.parts.Arg.TheVariants.{Plain, Fun}
 use Rattle.terms.proofs.Standing.{count-append, count-map}
 use Rattle.terms.proofs.Sums.{count-flat_map, count-none, count-and, total-times, total-same, total-same_within, total-none, total-hit}
-use Rattle.plain_listing.specs.Generate.{Table, Inner, bound, candidates, placed, firsts, fills, cost, headed, variable, variables, heads, made}
+use Rattle.plain_listing.specs.Generate.{Table, Inner, bound, candidates, firsts, fills, cost, headed, variable, variables, heads, made}
 use Rattle.plain_listing.specs.Tables.{stands}
 
 -- the definition of `stands`, by typing and weights

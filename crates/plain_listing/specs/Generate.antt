@@ -1,8 +1,8 @@
 -- The lists that the generator makes of what its tables hold, in its order.
 use Rattle.std.specs.Prelude.{ℕ, ◌+◌, ◌-◌, ◌==◌, ◌&&◌, nat_le, cond, List, [], ◌∷◌, ◌++◌, length, map, slice_get, Option, None, Some}
 use Rattle.std.specs.List.{range_with_len, flat_map}
-use Rattle.terms.specs.Expr.{Expr, var, head, Args, no_args, plain, lam}
-use Rattle.terms.specs.Typing.{is_below}
+use Rattle.terms.specs.Expr.{Expr, var, head, Args, no_args}
+use Rattle.terms.specs.Typing.{is_below, placed}
 use Rattle.terms.specs.Weights.{variable_weight, step_in}
 use Rattle.terms.specs.declared.parts.Arg.{Arg}
 use Rattle.terms.specs.declared.parts.Arg.TheVariants.{Plain, Fun}
@@ -25,11 +25,6 @@ bound bodies n k = cond (nat_le n k) (bodies (k - n)) []
 abbrev pub candidates : Table → Inner → Arg → ℕ → List Expr
 candidates here under (Plain b) k = here k b
 candidates here under (Fun ps r) k = bound (λ j. under ps j r) (length ps) k
-
--- a term as the first argument
-abbrev pub placed : Arg → Expr → Args → Args
-placed (Plain b) e rest = plain e rest
-placed (Fun ps r) e rest = lam e rest
 
 -- each of the terms before each of the lists
 abbrev pub firsts : Arg → List Expr → List Args → List Args

@@ -2,7 +2,7 @@ ghost use Rattle.std.specs.Prelude.{◌≡◌, ◌++◌, ◌∷◌, [], ◌<◌,
 ghost use Rattle.terms.specs.declared.parts.Arg.TheVariants.{Fun};
 ghost use Rattle.plain_listing.specs.Contexts.{Keeps, IsMet, AreMet, AreAllMet, AreShallow, AreContexts};
 
-use crate::site::number_of;
+use crate::plain_place::number_of;
 use lists::Items;
 use std::alloc::{AllocError, Global};
 use terms::{Arg, Decl, Parts};

@@ -1,10 +1,11 @@
 ghost use Rattle.std.specs.Prelude.{◌≡◌, ◌++◌, ◌∷◌, [], ◌<◌, ◌^◌, List, map, IfOk, OnOk};
 ghost use Rattle.terms.specs.Expr.{Args};
 ghost use Rattle.terms.specs.View.{expr, arg, args_view};
-ghost use Rattle.plain_listing.specs.Generate.{Table, Inner, candidates, placed, firsts, fills};
+ghost use Rattle.terms.specs.Typing.{placed};
+ghost use Rattle.plain_listing.specs.Generate.{Table, Inner, candidates, firsts, fills};
 ghost use Rattle.plain_listing.specs.Reads.{here, deeper};
 
-use crate::site::Site;
+use crate::plain_place::PlainPlace;
 use lists::Items;
 use std::alloc::{AllocError, Global};
 use terms::{Arg, Term, TermArg};
@@ -95,16 +96,16 @@ fn none_left(alloc: Global, weight: usize) -> Result<Vec<Items<TermArg>>, AllocE
 #[tactic(auto, using(crate::proofs::Making::making))]
 pub fn fills(
     alloc: Global,
-    site: &Site<'_>,
+    place: &PlainPlace<'_>,
     wanted: &[Arg],
     weight: usize,
 ) -> Result<Vec<Items<TermArg>>, AllocError>
     requires { weight < 2 ^ 32 }
-    ensures { IfOk result (λ all. map args_view all.items ≡ fills (here site.now) (deeper site.now) wanted.now weight) }
+    ensures { IfOk result (λ all. map args_view all.items ≡ fills (here place.now) (deeper place.now) wanted.now weight) }
 {
     match wanted.split_first() {
         None => none_left(alloc, weight),
-        Some((first, more)) => fills_from(alloc, site, first, more, weight),
+        Some((first, more)) => fills_from(alloc, place, first, more, weight),
     }
 }
 
@@ -113,17 +114,17 @@ pub fn fills(
 #[tactic(auto, using(crate::proofs::Making::making))]
 fn fills_from(
     alloc: Global,
-    site: &Site<'_>,
+    place: &PlainPlace<'_>,
     first: &Arg,
     more: &[Arg],
     weight: usize,
 ) -> Result<Vec<Items<TermArg>>, AllocError>
     requires { weight < 2 ^ 32 }
-    ensures { IfOk result (λ all. map args_view all.items ≡ fills (here site.now) (deeper site.now) (first.now ∷ more.now) weight) }
+    ensures { IfOk result (λ all. map args_view all.items ≡ fills (here place.now) (deeper place.now) (first.now ∷ more.now) weight) }
 {
     let mut all = Vec::new(alloc);
     for k in 0..weight + 1 {
-        push_split(alloc, &mut all, site, first, more, k, weight - k)?;
+        push_split(alloc, &mut all, place, first, more, k, weight - k)?;
     }
     Ok(all)
 }
@@ -133,20 +134,20 @@ fn fills_from(
 fn push_split(
     alloc: Global,
     all: &mut Vec<Items<TermArg>>,
-    site: &Site<'_>,
+    place: &PlainPlace<'_>,
     first: &Arg,
     more: &[Arg],
     k: usize,
     left: usize,
 ) -> Result<(), AllocError>
     requires { left < 2 ^ 32 }
-    ensures { OnOk result (map args_view all.new.items ≡ map args_view all.old.items ++ firsts first.now (candidates (here site.now) (deeper site.now) first.now k) (fills (here site.now) (deeper site.now) more.now left)) }
+    ensures { OnOk result (map args_view all.new.items ≡ map args_view all.old.items ++ firsts first.now (candidates (here place.now) (deeper place.now) first.now k) (fills (here place.now) (deeper place.now) more.now left)) }
 {
-    let terms = site.candidates(first, k);
+    let terms = place.candidates(first, k);
     if terms.is_empty() {
         return Ok(());
     }
-    let rest = fills(alloc, site, more, left)?;
+    let rest = fills(alloc, place, more, left)?;
     push_firsts(alloc, all, first, terms, rest.as_slice())?;
     Ok(())
 }

@@ -4,7 +4,7 @@ ghost use Rattle.plain_listing.specs.Generate.{cost, headed, heads, variable, va
 ghost use Rattle.plain_listing.specs.Reads.{here, deeper};
 
 use crate::fills::fills;
-use crate::site::Site;
+use crate::plain_place::PlainPlace;
 use lists::{Items, at};
 use std::alloc::{AllocError, Global};
 use terms::{Decl, Env, Term};
@@ -12,18 +12,18 @@ use terms::{Decl, Env, Term};
 /// Adds the variable, where its type stands for the wanted one and it weighs just `weight` there.
 fn push_typed(
     all: &mut Items<Term>,
-    site: &Site<'_>,
+    place: &PlainPlace<'_>,
     weight: usize,
     wanted: u32,
     n: u32,
     of: u32,
 ) -> Result<(), AllocError>
-    ensures { OnOk result (map expr all.new ≡ map expr all.old ++ variable site.now.env.now weight wanted n (Some of)) }
+    ensures { OnOk result (map expr all.new ≡ map expr all.old ++ variable place.now.env.now weight wanted n (Some of)) }
 {
-    if !site.env.is_below(of, wanted) {
+    if !place.env.is_below(of, wanted) {
         return Ok(());
     }
-    let weighs = site.env.variable_weight() as usize + site.env.step(of, wanted) as usize;
+    let weighs = place.env.variable_weight() as usize + place.env.step(of, wanted) as usize;
     if weighs != weight {
         return Ok(());
     }
@@ -34,15 +34,15 @@ fn push_typed(
 /// Adds variable `n`, where there is one that fits.
 fn push_variable(
     all: &mut Items<Term>,
-    site: &Site<'_>,
+    place: &PlainPlace<'_>,
     weight: usize,
     wanted: u32,
     n: u32,
 ) -> Result<(), AllocError>
-    ensures { OnOk result (map expr all.new ≡ map expr all.old ++ variable site.now.env.now weight wanted n (slice_get site.now.variables.now n)) }
+    ensures { OnOk result (map expr all.new ≡ map expr all.old ++ variable place.now.env.now weight wanted n (slice_get place.now.variables.now n)) }
 {
-    match at(site.variables, n as usize) {
-        Some(of) => push_typed(all, site, weight, wanted, n, *of),
+    match at(place.variables, n as usize) {
+        Some(of) => push_typed(all, place, weight, wanted, n, *of),
         None => Ok(()),
     }
 }
@@ -51,15 +51,15 @@ fn push_variable(
 #[tactic(auto, using(crate::proofs::Making::making))]
 fn push_variables(
     all: &mut Items<Term>,
-    site: &Site<'_>,
+    place: &PlainPlace<'_>,
     weight: usize,
     wanted: u32,
 ) -> Result<(), AllocError>
-    requires { length site.now.variables.now < 2 ^ 32 }
-    ensures { OnOk result (map expr all.new ≡ map expr all.old ++ variables site.now.env.now site.now.variables.now weight wanted) }
+    requires { length place.now.variables.now < 2 ^ 32 }
+    ensures { OnOk result (map expr all.new ≡ map expr all.old ++ variables place.now.env.now place.now.variables.now weight wanted) }
 {
-    for n in 0..site.variables.len() {
-        push_variable(all, site, weight, wanted, n as u32)?;
+    for n in 0..place.variables.len() {
+        push_variable(all, place, weight, wanted, n as u32)?;
     }
     Ok(())
 }
@@ -75,20 +75,20 @@ fn cost(env: &Env, decl: &Decl, wanted: u32) -> usize
 fn push_declared(
     alloc: Global,
     all: &mut Items<Term>,
-    site: &Site<'_>,
+    place: &PlainPlace<'_>,
     weight: usize,
     wanted: u32,
     n: u32,
     decl: &Decl,
 ) -> Result<(), AllocError>
     requires { weight < 2 ^ 32 }
-    ensures { OnOk result (map expr all.new ≡ map expr all.old ++ headed site.now.env.now (here site.now) (deeper site.now) weight wanted n (Some decl.now)) }
+    ensures { OnOk result (map expr all.new ≡ map expr all.old ++ headed place.now.env.now (here place.now) (deeper place.now) weight wanted n (Some decl.now)) }
 {
-    let cost = cost(site.env, decl, wanted);
-    if !site.env.is_below(decl.result, wanted) || cost > weight {
+    let cost = cost(place.env, decl, wanted);
+    if !place.env.is_below(decl.result, wanted) || cost > weight {
         return Ok(());
     }
-    let lists = fills(alloc, site, decl.args.as_slice(), weight - cost)?;
+    let lists = fills(alloc, place, decl.args.as_slice(), weight - cost)?;
     for args in lists {
         all.push(Term::Head(n, args))?;
     }
@@ -99,16 +99,16 @@ fn push_declared(
 fn push_headed(
     alloc: Global,
     all: &mut Items<Term>,
-    site: &Site<'_>,
+    place: &PlainPlace<'_>,
     weight: usize,
     wanted: u32,
     n: u32,
 ) -> Result<(), AllocError>
     requires { weight < 2 ^ 32 }
-    ensures { OnOk result (map expr all.new ≡ map expr all.old ++ headed site.now.env.now (here site.now) (deeper site.now) weight wanted n (slice_get site.now.env.now.decls n)) }
+    ensures { OnOk result (map expr all.new ≡ map expr all.old ++ headed place.now.env.now (here place.now) (deeper place.now) weight wanted n (slice_get place.now.env.now.decls n)) }
 {
-    match site.env.parts().decls.get(n as usize) {
-        Some(decl) => push_declared(alloc, all, site, weight, wanted, n, decl),
+    match place.env.parts().decls.get(n as usize) {
+        Some(decl) => push_declared(alloc, all, place, weight, wanted, n, decl),
         None => Ok(()),
     }
 }
@@ -118,16 +118,16 @@ fn push_headed(
 fn push_heads(
     alloc: Global,
     all: &mut Items<Term>,
-    site: &Site<'_>,
+    place: &PlainPlace<'_>,
     weight: usize,
     wanted: u32,
 ) -> Result<(), AllocError>
     requires { weight < 2 ^ 32 }
-    ensures { OnOk result (map expr all.new ≡ map expr all.old ++ heads site.now.env.now (here site.now) (deeper site.now) weight wanted) }
+    ensures { OnOk result (map expr all.new ≡ map expr all.old ++ heads place.now.env.now (here place.now) (deeper place.now) weight wanted) }
 {
-    let count = site.env.parts().decls.len();
+    let count = place.env.parts().decls.len();
     for n in 0..count {
-        push_headed(alloc, all, site, weight, wanted, n as u32)?;
+        push_headed(alloc, all, place, weight, wanted, n as u32)?;
     }
     Ok(())
 }
@@ -135,16 +135,16 @@ fn push_heads(
 /// All terms for the wanted type that weigh exactly `weight`.
 pub fn made(
     alloc: Global,
-    site: &Site<'_>,
+    place: &PlainPlace<'_>,
     weight: usize,
     wanted: u32,
 ) -> Result<Items<Term>, AllocError>
-    requires variables { length site.now.variables.now < 2 ^ 32 }
+    requires variables { length place.now.variables.now < 2 ^ 32 }
     requires weight { weight < 2 ^ 32 }
-    ensures { IfOk result (λ terms. map expr terms ≡ made site.now.env.now site.now.variables.now (here site.now) (deeper site.now) weight wanted) }
+    ensures { IfOk result (λ terms. map expr terms ≡ made place.now.env.now place.now.variables.now (here place.now) (deeper place.now) weight wanted) }
 {
     let mut all = Items::new(alloc);
-    push_variables(&mut all, site, weight, wanted)?;
-    push_heads(alloc, &mut all, site, weight, wanted)?;
+    push_variables(&mut all, place, weight, wanted)?;
+    push_heads(alloc, &mut all, place, weight, wanted)?;
     Ok(all)
 }

@@ -8,8 +8,8 @@ mod contexts;
 mod fills;
 mod heads;
 mod plain;
+mod plain_place;
 mod rows;
-mod site;
 mod tables;
 
 pub use plain::Plain;

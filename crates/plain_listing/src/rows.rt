@@ -5,22 +5,26 @@ ghost use Rattle.plain_listing.specs.Tables.{listed, IsColumn, IsRow};
 ghost use Rattle.plain_listing.specs.Reads.{here, deeper};
 
 use crate::heads::made;
-use crate::site::Site;
+use crate::plain_place::PlainPlace;
 use lists::Items;
 use std::alloc::{AllocError, Global};
 use terms::{Env, Term};
 
 /// The terms of one weight in one context, for each type.
-fn column(alloc: Global, site: &Site<'_>, weight: usize) -> Result<Items<Items<Term>>, AllocError>
-    requires variables { length site.now.variables.now < 2 ^ 32 }
+fn column(
+    alloc: Global,
+    place: &PlainPlace<'_>,
+    weight: usize,
+) -> Result<Items<Items<Term>>, AllocError>
+    requires variables { length place.now.variables.now < 2 ^ 32 }
     requires weight { weight < 2 ^ 32 }
-    ensures each { IfOk result (λ column. (b : ℕ) → b < length site.now.env.now.types →
-        listed (slice_get column b) ≡ made site.now.env.now site.now.variables.now (here site.now) (deeper site.now) weight b) }
+    ensures each { IfOk result (λ column. (b : ℕ) → b < length place.now.env.now.types →
+        listed (slice_get column b) ≡ made place.now.env.now place.now.variables.now (here place.now) (deeper place.now) weight b) }
 {
     let mut all = Items::new(alloc);
-    let types = site.env.parts().types.len() as u32;
+    let types = place.env.parts().types.len() as u32;
     for wanted in 0..types {
-        all.push(made(alloc, site, weight, wanted)?)?;
+        all.push(made(alloc, place, weight, wanted)?)?;
     }
     Ok(all)
 }
@@ -64,7 +68,7 @@ fn column_in(
     if variables.len() >= 4_294_967_296 {
         return Err(AllocError);
     }
-    let site = Site {
+    let place = PlainPlace {
         env,
         depth,
         rows,
@@ -73,7 +77,7 @@ fn column_in(
         variables: variables.as_slice(),
         contexts,
     };
-    column(alloc, &site, rows.len())
+    column(alloc, &place, rows.len())
 }
 
 /// The terms of the next weight: for each context, for each type.

@@ -5,8 +5,8 @@ ghost use Rattle.terms.specs.Count.{expr_eq, once_if, count};
 ghost use Rattle.terms.specs.Listing.{Progress, level_of};
 
 use crate::contexts::contexts_of;
+use crate::plain_place::in_context;
 use crate::rows::row;
-use crate::site::in_context;
 use lists::Items;
 use std::alloc::{AllocError, Global};
 use std::marker::Model;
@@ -61,6 +61,7 @@ impl Tables {
         })
     }
 
+    /// The environment that is listed.
     pub fn env(&self) -> &Env
         ensures { result.now ≡ self.now.parts }
     {

@@ -2,8 +2,8 @@ ghost use Rattle.std.specs.Prelude.{◌<◌};
 
 use crate::Plain;
 use crate::contexts::contexts_of;
+use crate::plain_place::in_context;
 use crate::rows::row;
-use crate::site::in_context;
 use lists::{Items, Text};
 use std::alloc::{AllocError, Global};
 use terms::{Arg, Decl, Env, EnvFault, Form, Level, Levels, Parts, Term, TermArg};

@@ -1,5 +1,5 @@
 -- The first items of a search.
-use Rattle.std.proofs.Common.{◌≡◌, ℕ, ◌<◌, ◌≤◌, List, [], ◌∷◌, length, get_or, Some, refl, sym, ap, subst, ◌∙◌, arith}
+use Rattle.std.proofs.Common.{reverse, ◌≡◌, ℕ, ◌<◌, ◌≤◌, List, [], ◌∷◌, length, get_or, Some, refl, sym, ap, subst, ◌∙◌, arith}
 use Rattle.std.proofs.lemmas.List.Elements.{All-nil, All-cons}
 use Rattle.std.specs.List.Sorted.{IsPermutation}
 use Rattle.terms.specs.Count.{total}
@@ -9,7 +9,7 @@ use Rattle.terms.specs.declared.parts.Parts.{Parts}
 use Rattle.partial_terms.specs.Fronts.{reading}
 use Rattle.partial_terms.specs.Search.{IsSearch}
 use Rattle.reconstruction.specs.NumberedPlaces.{no_lambdas, IsNumbered}
-use Rattle.reconstruction.specs.Tabled.{place_of, places_of, least_of, AreNumbered, backwards, front_of, stack_of, IsHeld, seen}
+use Rattle.reconstruction.specs.Tabled.{place_by_numbers, places_of, least_of, AreNumbered, front_of, stack_of, IsHeld, seen}
 use Rattle.reconstruction.specs.Levelled.{AreComplete, IsAt}
 use Rattle.reconstruction.specs.declared.item.Item.{Item}
 use Rattle.reconstruction.specs.declared.item.Arena.{Arena}
@@ -26,12 +26,12 @@ unfolding reading read
 reading-none g root = refl
 
 -- the empty front
-pub begun_one : (t : Tables) (a : Arena) (key : ℕ) (i : Item) (old new : List (ℕ × Item)) → AreComplete t → key ≡ least_of t (place_of t first_place_of) → key ≤ t.env.limit → a.fronts ≡ [] ∷ [] → i.front ≡ 0 → i.stack < length a.stacks → get_or a.stacks i.stack [] ≡ first_place_of ∷ []
+pub begun_one : (t : Tables) (a : Arena) (key : ℕ) (i : Item) (old new : List (ℕ × Item)) → AreComplete t → key ≡ least_of t (place_by_numbers t first_place_of) → key ≤ t.env.limit → a.fronts ≡ [] ∷ [] → i.front ≡ 0 → i.stack < length a.stacks → get_or a.stacks i.stack [] ≡ first_place_of ∷ []
     → old ≡ [] → IsPermutation ((key, i) ∷ old) new → IsAt t a 0 new []
 begun_one t a key i old new ready is within fronts zero stack_in stack empty perm =
     let root = goal_place t.env in
     let same : key ≡ least_of t root = is ∙ ap (least_of t) ready.start_is in
-    let none : front_of a i.front ≡ [] = ap (λ n. front_of a n) zero ∙ ap (λ (l : List (List ℕ)). backwards (get_or l 0 [])) fronts in
+    let none : front_of a i.front ≡ [] = ap (λ n. front_of a n) zero ∙ ap (λ (l : List (List ℕ)). reverse (get_or l 0 [])) fronts in
     let places : places_of t (stack_of a i.stack) ≡ root ∷ [] = ap (places_of t) stack ∙ ap (λ p. p ∷ []) ready.start_is in
     let long : length a.fronts ≡ 1 = ap (λ (l : List (List ℕ)). length l) fronts in
     let held : IsHeld t a key i = record {

@@ -14,7 +14,7 @@ use Rattle.terms.proofs.Halves.{symbol-even}
 use Rattle.patterns.specs.declared.state.State.{State}
 use Rattle.partial_terms.specs.Fronts.{key_within}
 use Rattle.reconstruction.specs.NumberedPlaces.{row_of_args, row_of_decl, types_of, rows_at, at_state, IsNumbered}
-use Rattle.reconstruction.specs.Tabled.{place_of, places_of, least_of, front_of, stack_of, AreHeld, IsParent, IsTurn, may, Grew}
+use Rattle.reconstruction.specs.Tabled.{place_by_numbers, places_of, least_of, front_of, stack_of, AreHeld, IsParent, IsTurn, may, Grew}
 use Rattle.reconstruction.specs.Variables.{variables, bound_at}
 use Rattle.reconstruction.specs.declared.item.Item.{Item}
 use Rattle.reconstruction.specs.declared.item.Arena.{Arena}
@@ -57,30 +57,30 @@ pub row_past : (g : Parts) (n : ℕ) (ds : List Decl) → n ≢ 0 → ds ≡ g.d
 row_past g n ds h same past = let is : slice_get ds (n - 1) ≡ None = slice_get_past ds (n - 1) past in sym (row_of g n h ∙ ap (λ l. row_of_decl (slice_get l (n - 1))) (sym same) ∙ ap row_of_decl is)
 
 -- a numbered place's rows are those of its place
-pub place-rows : (t : Tables) (p : NumberedPlace) → (place_of t p).ctx ≡ rows_at t.env p.lambdas
+pub place-rows : (t : Tables) (p : NumberedPlace) → (place_by_numbers t p).ctx ≡ rows_at t.env p.lambdas
 place-rows t p = go (slice_get t.patterns.states p.state)
   where
     go : (o : Option State) → (at_state t.patterns o (rows_at t.env p.lambdas)).ctx ≡ rows_at t.env p.lambdas
     go None = refl
     go (Some s) = refl
 
-turn-is : (t : Tables) (p : NumberedPlace) (n a : ℕ) → slice_get (joined (rows_at t.env p.lambdas)) n ≡ Some a → turn t.env (place_of t p) (2 * n) ≡ variable_at t.env (place_of t p) (Some a)
+turn-is : (t : Tables) (p : NumberedPlace) (n a : ℕ) → slice_get (joined (rows_at t.env p.lambdas)) n ≡ Some a → turn t.env (place_by_numbers t p) (2 * n) ≡ variable_at t.env (place_by_numbers t p) (Some a)
 unfolding turn
-turn-is t p n a is = ap (turn_by t.env (place_of t p)) (symbol-even n) ∙ ap (λ c. variable_at t.env (place_of t p) (slice_get (joined c) n)) (place-rows t p) ∙ ap (variable_at t.env (place_of t p)) is
+turn-is t p n a is = ap (turn_by t.env (place_by_numbers t p)) (symbol-even n) ∙ ap (λ c. variable_at t.env (place_by_numbers t p) (slice_get (joined c) n)) (place-rows t p) ∙ ap (variable_at t.env (place_by_numbers t p)) is
 
 -- a variable below the wanted type is a turn
-pub variable-turn : (t : Tables) (p : NumberedPlace) (n a w : ℕ) → slice_get (joined (rows_at t.env p.lambdas)) n ≡ Some a → is_below t.env a (place_of t p).wanted ≡ true → w ≡ variable_weight t.env + step_in t.env (Some a) (place_of t p).wanted → IsTurn t (place_of t p) (2 * n) w []
+pub variable-turn : (t : Tables) (p : NumberedPlace) (n a w : ℕ) → slice_get (joined (rows_at t.env p.lambdas)) n ≡ Some a → is_below t.env a (place_by_numbers t p).wanted ≡ true → w ≡ variable_weight t.env + step_in t.env (Some a) (place_by_numbers t p).wanted → IsTurn t (place_by_numbers t p) (2 * n) w []
 variable-turn t p n a w is below weighs = record {
-  weight = variable_weight t.env + step_in t.env (Some a) (place_of t p).wanted;
-  is = turn-is t p n a is ∙ ap (λ b. some_when b (record { weight = variable_weight t.env + step_in t.env (Some a) (place_of t p).wanted; open_places = [] })) below;
+  weight = variable_weight t.env + step_in t.env (Some a) (place_by_numbers t p).wanted;
+  is = turn-is t p n a is ∙ ap (λ b. some_when b (record { weight = variable_weight t.env + step_in t.env (Some a) (place_by_numbers t p).wanted; open_places = [] })) below;
   opened = All-nil (IsNumbered t.env t.patterns);
   capped = inl (omega (arith, weighs));
 }
 
 -- another one adds nothing
-pub no_variable : (t : Tables) (a : Arena) (p : Parent) (n b : ℕ) (items : List (ℕ × Item)) → IsParent t a p → AreHeld t a items → slice_get (joined (rows_at t.env p.place.lambdas)) n ≡ Some b → is_below t.env b (place_of t p.place).wanted ≡ false → Grew t a a (front_of a p.front) ((2 * n) ∷ []) items items
+pub no_variable : (t : Tables) (a : Arena) (p : Parent) (n b : ℕ) (items : List (ℕ × Item)) → IsParent t a p → AreHeld t a items → slice_get (joined (rows_at t.env p.place.lambdas)) n ≡ Some b → is_below t.env b (place_by_numbers t p.place).wanted ≡ false → Grew t a a (front_of a p.front) ((2 * n) ∷ []) items items
 no_variable t a p n b items parent all is below =
-    let at = place_of t p.place in
+    let at = place_by_numbers t p.place in
     let none : turn t.env at (2 * n) ≡ None = turn-is t p.place n b is ∙ ap (λ c. some_when c (record { weight = variable_weight t.env + step_in t.env (Some b) at.wanted; open_places = [] })) below in
     let dead : may t (front_of a p.front) (2 * n) ≡ false =
     ap (key_within t.env.limit (least_of t)) (next_reading t.env (goal_place t.env) (front_of a p.front) (2 * n) parent.weight at (places_of t (stack_of a p.rest)) parent.is ∙ ap (λ o. and_then o (after parent.weight (places_of t (stack_of a p.rest)))) none) in

@@ -14,7 +14,7 @@ use Rattle.terms.proofs.Standing.{count-append}
 use Rattle.terms.proofs.Valid.{valid-pair}
 use Rattle.succinct.specs.Compression.{Compression, IsCompression, Source, sources, of_decl, of_pair}
 use Rattle.succinct.specs.Sets.{types_bound}
-use Rattle.patterns.specs.Derivable.{Derivable, AllDerivable, none, value, by_decl}
+use Rattle.patterns.specs.Derivable.{IsDerivable, AreDerivable, none, value, by_decl}
 use Rattle.patterns.specs.Patterned.{ArePatterns}
 use Rattle.patterns.specs.States.{types_at, left_at}
 use Rattle.patterns.specs.declared.state.State.{State}
@@ -23,7 +23,8 @@ use Rattle.edges.specs.Edges.{Edge, IsOffered, HasEdge, ComesBefore, AreEdges, r
 use Rattle.edges.proofs.Costs.{cost-pair}
 use Rattle.edges.proofs.Options.{some_eq, none_some}
 use Rattle.least_weights.specs.LeastWeight.{AreLeastWeights, place_at}
-use Rattle.least_weights.proofs.Joins.{at-first, get-pair, pair-get}
+use Rattle.patterns.proofs.Meaning.{get-pair, pair-get}
+use Rattle.least_weights.proofs.Joins.{at-first}
 use Rattle.least_weights.proofs.Lows.{below-pair, step-apart}
 use Rattle.reconstruction.specs.Levelled.{AreComplete}
 use Rattle.reconstruction.specs.NumberedPlaces.{rows_at, at_state, IsNumbered}
@@ -296,7 +297,7 @@ module _ (t : Tables) (c : Compression) (valid : IsValid t.env) (lengths : HasLe
       go (declared k) e = subst (λ x. often x (numbers_at t p) ≤ 1) (sym (ap number e) ∙ number-symbol n) (odd k)
 
   -- a source that gives a state's type and whose wants are derivable is offered there
-  offered : (i : ℕ) (s : State) → slice_get t.patterns.states i ≡ Some s → (n : ℕ) (source : Source) → slice_get (sources t.env) n ≡ Some source → source.result ≡ s.goal → AllDerivable t.env (types_at t.patterns.space s.set) (left_at t.patterns.space s.set) source.args → IsOffered c t.patterns i n
+  offered : (i : ℕ) (s : State) → slice_get t.patterns.states i ≡ Some s → (n : ℕ) (source : Source) → slice_get (sources t.env) n ≡ Some source → source.result ≡ s.goal → AreDerivable t.env (types_at t.patterns.space s.set) (left_at t.patterns.space s.set) source.args → IsOffered c t.patterns i n
   offered i s is n source at gives wants =
       let d = t.patterns in
       let low = slice_get_within (sources t.env) n source at in
@@ -309,7 +310,7 @@ module _ (t : Tables) (c : Compression) (valid : IsValid t.env) (lengths : HasLe
       record { kind = k; is = number_is; listed = (agrees t.env c t.env.goal t.env.depth d valid comp made i s (get_or d.lists i []) is list).listed k n source at number_is gives wants }
 
   -- a declaration that gives a state's type and that fits within the limit has its edge there
-  decl-edge : (i : ℕ) (s : State) → slice_get t.patterns.states i ≡ Some s → (k : ℕ) (decl : Decl) → slice_get t.env.decls k ≡ Some decl → decl.result ≡ s.goal → AllDerivable t.env (types_at t.patterns.space s.set) (left_at t.patterns.space s.set) decl.args → decl_cost t.env decl ≤ t.env.limit → HasEdge i (Some k) t.edges
+  decl-edge : (i : ℕ) (s : State) → slice_get t.patterns.states i ≡ Some s → (k : ℕ) (decl : Decl) → slice_get t.env.decls k ≡ Some decl → decl.result ≡ s.goal → AreDerivable t.env (types_at t.patterns.space s.set) (left_at t.patterns.space s.set) decl.args → decl_cost t.env decl ≤ t.env.limit → HasEdge i (Some k) t.edges
   decl-edge i s is k decl found gives wants within = are.complete i k (decl_cost t.env decl) (offered i s is k (of_decl decl) (at-first of_decl t.env.decls (map of_pair t.env.pairs) k decl found) gives wants) (at-first (decl_cost t.env) t.env.decls (map (pair_cost t.env) t.env.pairs) k decl found) within
 
   edge-adds : (i : ℕ) (s : State) → slice_get t.patterns.states i ≡ Some s → (k : ℕ) (h : HasEdge i (Some k) t.edges) (decl : Decl) → slice_get t.env.decls k ≡ Some decl → (declared_in t.env h.edge.source ≡ Some k) × (way_numbers t.env t.edges h.edge ≡ (2 * k + 1) ∷ [])
@@ -344,7 +345,7 @@ module _ (t : Tables) (c : Compression) (valid : IsValid t.env) (lengths : HasLe
     is : slice_get t.patterns.states below ≡ Some (record { set = s.set; goal = a })
     holds : (x : ℕ) → often x (heads_at t.env t.edges below) ≤ often x (ways_at t.env t.edges i)
 
-  under : (i : ℕ) (s : State) → slice_get t.patterns.states i ≡ Some s → (a : ℕ) → is_pair t.env.pairs a s.goal ≡ true → Derivable t.env (types_at t.patterns.space s.set) (left_at t.patterns.space s.set) a → coercion_weight t.env ≤ t.env.limit → Under i s a
+  under : (i : ℕ) (s : State) → slice_get t.patterns.states i ≡ Some s → (a : ℕ) → is_pair t.env.pairs a s.goal ≡ true → IsDerivable t.env (types_at t.patterns.space s.set) (left_at t.patterns.space s.set) a → coercion_weight t.env ≤ t.env.limit → Under i s a
   under i s is a pair derives coerces =
       let j = get-pair t.env.pairs a s.goal pair in
       let n = length t.env.decls + j.0 in
@@ -381,12 +382,12 @@ module _ (t : Tables) (c : Compression) (valid : IsValid t.env) (lengths : HasLe
       let s = sp.state in
       let ctx = rows_at t.env p.lambdas in
       let left = left_at d.space s.set in
-      let bound : AllDerivable t.env (types_bound ctx) left decl.args = wants_derive t.env d t.least right ctx left decl.args room (omega (arith, fits)) in
-      let wants : AllDerivable t.env (types_at d.space s.set) left decl.args = subst (λ l. AllDerivable t.env l left decl.args) sp.types bound in
+      let bound : AreDerivable t.env (types_bound ctx) left decl.args = wants_derive t.env d t.least right ctx left decl.args room (omega (arith, fits)) in
+      let wants : AreDerivable t.env (types_at d.space s.set) left decl.args = subst (λ l. AreDerivable t.env l left decl.args) sp.types bound in
       elim (below-pair t.env decl.result s.goal below) [
         | inl same ↦ way-there p.state s sp.is k decl found (decl-edge p.state s sp.is k decl found same wants (omega (arith, fits)))
         | inr pair ↦ (
-            let derives : Derivable t.env (types_at d.space s.set) left decl.result = by_decl (types_at d.space s.set) left k decl found wants in
+            let derives : IsDerivable t.env (types_at d.space s.set) left decl.result = by_decl (types_at d.space s.set) left k decl found wants in
             let apart = (valid-pair t.env valid decl.result s.goal pair).2 in
             let ten : step_in t.env (Some decl.result) s.goal ≡ coercion_weight t.env = step-apart t.env decl.result s.goal apart in
             let u = under p.state s sp.is decl.result pair derives (omega (arith, fits, ten)) in
@@ -400,18 +401,18 @@ module _ (t : Tables) (c : Compression) (valid : IsValid t.env) (lengths : HasLe
   all-there p n x same split h = subst (λ y. 1 ≤ often y (numbers_at t p)) (sym same) (omega (arith, split, h))
 
   -- each number that may come to a term within the limit is there
-  numbers-there : (p : NumberedPlace) → IsNumbered t.env t.patterns p → (n : ℕ) (r : Reading) → turn t.env (tabled.place_of t p) n ≡ Some r → r.weight + total (least_of t) r.open_places ≤ t.env.limit → 1 ≤ often n (numbers_at t p)
+  numbers-there : (p : NumberedPlace) → IsNumbered t.env t.patterns p → (n : ℕ) (r : Reading) → turn t.env (tabled.place_by_numbers t p) n ≡ Some r → r.weight + total (least_of t) r.open_places ≤ t.env.limit → 1 ≤ often n (numbers_at t p)
   unfolding turn
   numbers-there p sp n r h fits = go (symbol n) refl h
     where
       split : (x : ℕ) → often x (numbers_at t p) ≡ often x (variables (bound_at t p)) + often x (ways_at t.env t.edges p.state)
       split x = count-append (λ y. y == x) (variables (bound_at t p)) (ways_at t.env t.edges p.state)
 
-      bound : (m : ℕ) (o : Option ℕ) → slice_get (joined (tabled.place_of t p).ctx) m ≡ o → variable_at t.env (tabled.place_of t p) o ≡ Some r → m < bound_at t p
+      bound : (m : ℕ) (o : Option ℕ) → slice_get (joined (tabled.place_by_numbers t p).ctx) m ≡ o → variable_at t.env (tabled.place_by_numbers t p) o ≡ Some r → m < bound_at t p
       bound m None is v = absurd (none_of r v)
       bound m (Some a) is v =
-          let low = slice_get_within (joined (tabled.place_of t p).ctx) m a is in
-          let same : length (joined (tabled.place_of t p).ctx) ≡ bound_at t p = ap (λ x. length (joined x)) (place-rows t p) in
+          let low = slice_get_within (joined (tabled.place_by_numbers t p).ctx) m a is in
+          let same : length (joined (tabled.place_by_numbers t p).ctx) ≡ bound_at t p = ap (λ x. length (joined x)) (place-rows t p) in
           omega (arith, low, same)
 
       heavy : (k : ℕ) (decl : Decl) → slice_get t.env.decls k ≡ Some decl → (a b : Bool) → is_below t.env decl.result sp.state.goal ≡ a → has_room (left_at t.patterns.space sp.state.set) decl.args ≡ b → some_when (a && b) (record { weight = decl.weight + binders_weight t.env (binders decl.args) + step_in t.env (Some decl.result) sp.state.goal; open_places = places (rows_at t.env p.lambdas) (left_at t.patterns.space sp.state.set) decl.args }) ≡ Some r → 1 ≤ often (2 * k + 1) (ways_at t.env t.edges p.state)
@@ -427,9 +428,9 @@ module _ (t : Tables) (c : Compression) (valid : IsValid t.env) (lengths : HasLe
       head k None is v = absurd (none_of r v)
       head k (Some decl) is v = heavy k decl is (is_below t.env decl.result sp.state.goal) (has_room (left_at t.patterns.space sp.state.set) decl.args) refl refl v
 
-      go : (y : Symbol) → symbol n ≡ y → turn_by t.env (tabled.place_of t p) y ≡ Some r → 1 ≤ often n (numbers_at t p)
+      go : (y : Symbol) → symbol n ≡ y → turn_by t.env (tabled.place_by_numbers t p) y ≡ Some r → 1 ≤ often n (numbers_at t p)
       go (variable m) e v =
-          let low = bound m (slice_get (joined (tabled.place_of t p).ctx) m) refl v in
+          let low = bound m (slice_get (joined (tabled.place_by_numbers t p).ctx) m) refl v in
           let one = variables-within (bound_at t p) m low in
           all-there p n (2 * m) (sym (number-symbol n) ∙ ap number e) (split (2 * m)) (omega (arith, one))
       go (declared k) e v =

@@ -1,5 +1,5 @@
 -- The items after more numbers.
-use Rattle.std.proofs.Common.{◌≡◌, ℕ, ◌+◌, cond, Bool, true, false, List, [], ◌∷◌, ◌++◌, Some, refl, sym, ap, subst, ◌∙◌, arith, append_assoc}
+use Rattle.std.proofs.Common.{reverse, ◌≡◌, ℕ, ◌+◌, cond, Bool, true, false, List, [], ◌∷◌, ◌++◌, Some, refl, sym, ap, subst, ◌∙◌, arith, append_assoc}
 use Rattle.std.proofs.lemmas.List.Elements.{All-cons, All-head, All-tail, All-weaker}
 use Rattle.std.specs.List.Sorted.{IsPermutation}
 use Rattle.std.proofs.lemmas.List.Sorted.{All-permutation, IsPermutation-map, IsPermutation-trans, IsPermutation-append_left, IsPermutation-append_right, IsPermutation-append_comm, IsPermutation-refl}
@@ -8,7 +8,7 @@ use Rattle.terms.specs.Place.{Place, goal_place}
 use Rattle.terms.specs.declared.parts.Parts.{Parts}
 use Rattle.partial_terms.specs.Fronts.{reading}
 use Rattle.partial_terms.specs.Search.{key_of, children}
-use Rattle.reconstruction.specs.Tabled.{places_of, least_of, AreNumbered, backwards, front_of, stack_of, IsHeld, AreHeld, IsParent, AreGrown, child, may, PushesIf, Pushes, seen, picked, Grew}
+use Rattle.reconstruction.specs.Tabled.{places_of, least_of, AreNumbered, front_of, stack_of, IsHeld, AreHeld, IsParent, AreGrown, child, may, PushesIf, Pushes, seen, picked, Grew}
 use Rattle.reconstruction.specs.declared.item.Item.{Item}
 use Rattle.reconstruction.specs.declared.item.Arena.{Arena}
 use Rattle.reconstruction.specs.declared.item.Parent.{Parent}
@@ -24,7 +24,7 @@ all-grown-trans a b c h k = record { fronts = grown-trans a.fronts b.fronts c.fr
 -- items that were kept stay
 pub held-grown : (t : Tables) (a b : Arena) → AreGrown a b → (k : ℕ) (i : Item) → IsHeld t a k i → IsHeld t b k i
 held-grown t a b s k i h =
-    let front : front_of a i.front ≡ front_of b i.front = ap backwards (sym (s.fronts.same i.front h.front_in)) in
+    let front : front_of a i.front ≡ front_of b i.front = ap reverse (sym (s.fronts.same i.front h.front_in)) in
     let stack : stack_of a i.stack ≡ stack_of b i.stack = sym (s.stacks.same i.stack h.stack_in) in
     let f_in = h.front_in in
     let s_in = h.stack_in in
@@ -45,14 +45,14 @@ are-held-grown t a b s items all = All-weaker (λ (q : ℕ × Item). IsHeld t a 
 
 -- a parent's front stays
 pub front-same : (t : Tables) (a b : Arena) (p : Parent) → AreGrown a b → IsParent t a p → front_of b p.front ≡ front_of a p.front
-front-same t a b p s h = ap backwards (s.fronts.same p.front h.front_in)
+front-same t a b p s h = ap reverse (s.fronts.same p.front h.front_in)
 
 pub seen-grown : (t : Tables) (a b : Arena) → AreGrown a b → (items : List (ℕ × Item)) → AreHeld t a items → seen b items ≡ seen a items
 seen-grown t a b s [] all = refl
 seen-grown t a b s (q ∷ items) all =
     let P : ℕ × Item → Type 0 = λ x. IsHeld t a x.0 x.1 in
     let here : IsHeld t a q.0 q.1 = All-head P q items all in
-    ap (λ c. (q.0, backwards c) ∷ seen b items) (s.fronts.same q.1.front here.front_in) ∙ ap (λ l. (q.0, front_of a q.1.front) ∷ l) (seen-grown t a b s items (All-tail P q items all))
+    ap (λ c. (q.0, reverse c) ∷ seen b items) (s.fronts.same q.1.front here.front_in) ∙ ap (λ l. (q.0, front_of a q.1.front) ∷ l) (seen-grown t a b s items (All-tail P q items all))
 
 pub children-append : (g : Parts) (least : Place → ℕ) (r : Place) (f : List ℕ) (a b : List ℕ) → children g least r f (a ++ b) ≡ children g least r f a ++ children g least r f b
 children-append g least r f [] b = refl

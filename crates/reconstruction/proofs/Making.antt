@@ -1,5 +1,5 @@
 -- The steps that make a level.
-use Rattle.std.proofs.Common.{◌≡◌, inl, inr, ℕ, zero, ◌+◌, ◌<◌, ◌≤◌, cond, Bool, true, false, ◌==◌, List, [], ◌∷◌, ◌++◌, length, map, Option, Some, None, All, refl, sym, ap, subst, ◌∙◌, append-nil, arith}
+use Rattle.std.proofs.Common.{reverse, ◌≡◌, inl, inr, ℕ, zero, ◌+◌, ◌<◌, ◌≤◌, cond, Bool, true, false, ◌==◌, List, [], ◌∷◌, ◌++◌, length, map, Option, Some, None, All, refl, sym, ap, subst, ◌∙◌, append-nil, arith}
 use Rattle.std.proofs.lemmas.Bool.{cases_lt, lt-leb, leb-true, eqb-true, false≢true}
 use Rattle.std.proofs.lemmas.List.Elements.{All-nil, All-cons, All-head, All-tail, All-push, All-append, All-weaker}
 use Rattle.std.specs.List.Sorted.{IsPermutation}
@@ -14,7 +14,7 @@ use Rattle.partial_terms.specs.Leasts.{key}
 use Rattle.partial_terms.specs.Fronts.{begins, reading, IsItem, key_within, IsGrowth}
 use Rattle.partial_terms.specs.Search.{IsSearch, fronts, children}
 use Rattle.reconstruction.specs.NumberedPlaces.{IsKept, IsNumbered}
-use Rattle.reconstruction.specs.Tabled.{place_of, places_of, least_of, AreNumbered, backwards, front_of, stack_of, IsHeld, AreHeld, IsParent, AreGrown, child, may, seen, picked, Grew}
+use Rattle.reconstruction.specs.Tabled.{place_by_numbers, places_of, least_of, AreNumbered, front_of, stack_of, IsHeld, AreHeld, IsParent, AreGrown, child, may, seen, picked, Grew}
 use Rattle.reconstruction.specs.Variables.{numbers_at}
 use Rattle.reconstruction.specs.Levelled.{AreComplete, IsAt}
 use Rattle.reconstruction.specs.declared.item.Item.{Item}
@@ -66,14 +66,14 @@ all-picked ok (m ∷ ns) = go (ok m) refl (all-picked ok ns)
     go false is h = h
 
 -- the numbers that are added to a front are those that may follow it, each once
-pub growth : (t : Tables) → AreComplete t → (f : List ℕ) (w : ℕ) (p : NumberedPlace) (rest : List Place) → IsNumbered t.env t.patterns p → reading t.env (goal_place t.env) f ≡ Some (record { weight = w; open_places = place_of t p ∷ rest })
+pub growth : (t : Tables) → AreComplete t → (f : List ℕ) (w : ℕ) (p : NumberedPlace) (rest : List Place) → IsNumbered t.env t.patterns p → reading t.env (goal_place t.env) f ≡ Some (record { weight = w; open_places = place_by_numbers t p ∷ rest })
     → IsGrowth t.env t.env.limit (least_of t) (goal_place t.env) f (picked (may t f) (numbers_at t p))
 growth t ready f w p rest place is n = count-picked (may t f) (numbers_at t p) n ∙ go (may t f n) refl
   where
-    follows : child t f n ≡ and_then (turn t.env (place_of t p) n) (after w rest)
-    follows = next_reading t.env (goal_place t.env) f n w (place_of t p) rest is
+    follows : child t f n ≡ and_then (turn t.env (place_by_numbers t p) n) (after w rest)
+    follows = next_reading t.env (goal_place t.env) f n w (place_by_numbers t p) rest is
 
-    there : (o : Option Reading) → turn t.env (place_of t p) n ≡ o → key_within t.env.limit (least_of t) (and_then o (after w rest)) ≡ true → 1 ≤ count (λ m. m == n) (numbers_at t p)
+    there : (o : Option Reading) → turn t.env (place_by_numbers t p) n ≡ o → key_within t.env.limit (least_of t) (and_then o (after w rest)) ≡ true → 1 ≤ count (λ m. m == n) (numbers_at t p)
     there None e h = absurd (false≢true h)
     there (Some r) e h =
         let low : key (least_of t) (record { weight = w + r.weight; open_places = r.open_places ++ rest }) ≤ t.env.limit = leb-true (key (least_of t) (record { weight = w + r.weight; open_places = r.open_places ++ rest })) t.env.limit h in
@@ -84,7 +84,7 @@ growth t ready f w p rest place is n = count-picked (may t f) (numbers_at t p) n
     go false e = refl
     go true e =
         let few = ready.once p place n in
-        let some = there (turn t.env (place_of t p) n) refl (ap (key_within t.env.limit (least_of t)) (sym follows) ∙ e) in
+        let some = there (turn t.env (place_by_numbers t p) n) refl (ap (key_within t.env.limit (least_of t)) (sym follows) ∙ e) in
         omega (arith, few, some)
 
 -- the items in another order
@@ -132,7 +132,7 @@ step_taken t a from k i rest found ready h l none =
     map-push (x ∷ xs) = ap (λ l. front_of a x ∷ l) (map-push xs)
 
 -- an item with its first open place taken off
-pub parent_of : (t : Tables) (a : Arena) (k : ℕ) (p : NumberedPlace) (r base : ℕ) (i : Item) → IsHeld t a k i → stack_of a i.stack ≡ p ∷ stack_of a r → r < length a.stacks → base + least_of t (place_of t p) ≡ k → IsParent t a (record { front = i.front; base = base; place = p; rest = r })
+pub parent_of : (t : Tables) (a : Arena) (k : ℕ) (p : NumberedPlace) (r base : ℕ) (i : Item) → IsHeld t a k i → stack_of a i.stack ≡ p ∷ stack_of a r → r < length a.stacks → base + least_of t (place_by_numbers t p) ≡ k → IsParent t a (record { front = i.front; base = base; place = p; rest = r })
 parent_of t a k p r base i h first l sum =
     let numbered : AreNumbered t (p ∷ stack_of a r) = subst (AreNumbered t) first h.numbered in
     let keyed = h.keyed in
@@ -146,12 +146,12 @@ parent_of t a k p r base i h first l sum =
       base = omega (arith, keyed, ap (λ x. total (least_of t) (places_of t x)) first, sum);
     }
 
-pub first_below : (t : Tables) (a : Arena) (k : ℕ) (p : NumberedPlace) (r : ℕ) (i : Item) → IsHeld t a k i → stack_of a i.stack ≡ p ∷ stack_of a r → least_of t (place_of t p) ≤ k
+pub first_below : (t : Tables) (a : Arena) (k : ℕ) (p : NumberedPlace) (r : ℕ) (i : Item) → IsHeld t a k i → stack_of a i.stack ≡ p ∷ stack_of a r → least_of t (place_by_numbers t p) ≤ k
 first_below t a k p r i h first = (let keyed = h.keyed in omega (arith, keyed, ap (λ x. total (least_of t) (places_of t x)) first))
 
 pub same_fronts : (a b : Arena) → AreGrown a b → (xs : List ℕ) → All (λ x. x < length a.fronts) xs → map (front_of b) xs ≡ map (front_of a) xs
 same_fronts a b s [] all = refl
-same_fronts a b s (x ∷ xs) all = ap (λ c. backwards c ∷ map (front_of b) xs) (s.fronts.same x (All-head (λ y. y < length a.fronts) x xs all)) ∙ ap (λ l. front_of a x ∷ l) (same_fronts a b s xs (All-tail (λ y. y < length a.fronts) x xs all))
+same_fronts a b s (x ∷ xs) all = ap (λ c. reverse c ∷ map (front_of b) xs) (s.fronts.same x (All-head (λ y. y < length a.fronts) x xs all)) ∙ ap (λ l. front_of a x ∷ l) (same_fronts a b s xs (All-tail (λ y. y < length a.fronts) x xs all))
 
 inside-grown : (a b : Arena) → AreGrown a b → (xs : List ℕ) → All (λ x. x < length a.fronts) xs → All (λ x. x < length b.fronts) xs
 inside-grown a b s xs all = All-weaker (λ x. x < length a.fronts) (λ x. x < length b.fronts) (λ x l. (let long = s.fronts.longer in omega (arith, l, long))) xs all
@@ -189,7 +189,7 @@ step_grown t a b from k r p i rest none aside new found ready h first empty grew
     let g = t.env in
     let root = goal_place t.env in
     let place : IsNumbered t.env t.patterns p = All-head (IsNumbered t.env t.patterns) p (stack_of a r) (subst (AreNumbered t) first kept.numbered) in
-    let at : Reading = record { weight = kept.weight; open_places = place_of t p ∷ places_of t (stack_of a r) } in
+    let at : Reading = record { weight = kept.weight; open_places = place_by_numbers t p ∷ places_of t (stack_of a r) } in
     let is : reading g root f ≡ Some at = kept.is ∙ ap (λ x. Some (record { weight = kept.weight; open_places = places_of t x })) first in
     let ns = picked (may t f) (numbers_at t p) in
     let grows = children g (least_of t) root f ns in
@@ -200,7 +200,7 @@ step_grown t a b from k r p i rest none aside new found ready h first empty grew
       inside = inside-grown a b grew.grown found h.inside;
       search = subst (λ l. IsSearch g t.env.limit (least_of t) root from (seen b new) l) (sym (same_fronts a b grew.grown found h.inside))
           (grown g t.env.limit (IsKept t.env t.patterns) (least_of t) root ready.least ready.root from (seen a ((k, i) ∷ rest)) (seen a rest) (seen b new) (map (front_of a) found) k f at ns
-          h.search (IsPermutation-refl (seen a ((k, i) ∷ rest))) is (nonempty (place_of t p) (places_of t (stack_of a r))) (growth t ready f kept.weight p (places_of t (stack_of a r)) place is) (all-picked (may t f) (numbers_at t p)) three);
+          h.search (IsPermutation-refl (seen a ((k, i) ∷ rest))) is (nonempty (place_by_numbers t p) (places_of t (stack_of a r))) (growth t ready f kept.weight p (places_of t (stack_of a r)) place is) (all-picked (may t f) (numbers_at t p)) three);
     }
   where
     nonempty : (q : Place) (ps : List Place) → q ∷ ps ≡ [] → ⊥

@@ -1,7 +1,6 @@
 -- A head at a place that is kept opens kept places alone.
 use Rattle.std.proofs.Common.{◌≡◌, inl, inr, ℕ, zero, suc, ◌+◌, Bool, true, false, ◌&&◌, ◌==◌, List, [], ◌∷◌, ◌++◌, length, map, slice_get, get_or, Option, Some, None, refl, sym, ap, subst, ◌∙◌, arith, length-append}
-use Rattle.std.specs.List.{list_any}
-use Rattle.std.proofs.lemmas.Bool.{and_parts, false≢true, eq-eqb, eqb-true, or_cases, or_left, or_right}
+use Rattle.std.proofs.lemmas.Bool.{false≢true, eq-eqb, eqb-true, or_cases, or_left, or_right}
 use Rattle.std.proofs.lemmas.Option.{slice_get_within, slice_get-get_or}
 use Rattle.terms.specs.Faults.{IsValid}
 use Rattle.terms.specs.Place.{Place}
@@ -49,17 +48,6 @@ map-get f (y ∷ xs) ys (suc n) x h = map-get f xs ys n x h
 pub map-after : {X Y Z : Type 0} (f : X → Z) (h : Y → Z) (xs : List X) (ys : List Y) (j : ℕ) (y : Y) → slice_get ys j ≡ Some y → slice_get (map f xs ++ map h ys) (length xs + j) ≡ Some (h y)
 map-after f h [] ys j y is = (let e : 0 + j ≡ j = omega arith in ap (slice_get (map h ys)) e ∙ remap h ys j y is)
 map-after f h (x ∷ xs) ys j y is = (let e : suc (length xs) + j ≡ suc (length xs + j) = omega arith in ap (slice_get (f x ∷ (map f xs ++ map h ys))) e ∙ map-after f h xs ys j y is)
-
-pub get-pair : (pairs : List (ℕ × ℕ)) (a b : ℕ) → is_pair pairs a b ≡ true → (j : ℕ) × (slice_get pairs j ≡ Some (a, b))
-unfolding is_pair
-get-pair [] a b h = absurd (false≢true h)
-get-pair (x ∷ pairs) a b h = elim (or_cases ((x.0 == a) && (x.1 == b)) (list_any (λ y. (y.0 == a) && (y.1 == b)) pairs) h) [
-  | inl here ↦ (
-      let both = and_parts (x.0 == a) (x.1 == b) here in
-      let e : x ≡ (a, b) = ap (λ y. (y, x.1)) (eqb-true x.0 a both.0) ∙ ap (λ y. (a, y)) (eqb-true x.1 b both.1) in
-      (0, ap (λ y. Some y) e))
-  | inr there ↦ (let r = get-pair pairs a b there in (suc r.0, r.1))
-]
 
 -- a state that describes places under these rows
 pub record IsUnder (g : Parts) (d : Patterned) (s : State) (ctx : List (List ℕ)) : Type 0 where

@@ -12,7 +12,7 @@ use Rattle.terms.specs.declared.parts.Parts.{Parts}
 use Rattle.terms.specs.Typing.{joined}
 use Rattle.succinct.specs.Compression.{Compression, IsCompression}
 use Rattle.succinct.specs.Sets.{types_bound}
-use Rattle.patterns.specs.Derivable.{Derivable, AllDerivable, none, value, lambda}
+use Rattle.patterns.specs.Derivable.{IsDerivable, AreDerivable, none, value, lambda}
 use Rattle.patterns.specs.Patterned.{Patterned, ArePatterns}
 use Rattle.patterns.specs.States.{types_at, left_at, no_set}
 use Rattle.patterns.specs.declared.bound_set.BoundSet.{BoundSet}
@@ -63,7 +63,7 @@ root_kept g c d made =
     }
 
 -- where the least weights of wants are within the limit together, the wants are derivable
-pub wants_derive : (g : Parts) (d : Patterned) (weights : List (Option ℕ)) → AreLeastWeights g d weights → (ctx : List (List ℕ)) (left : ℕ) (args : List Arg) → has_room left args ≡ true → total (least_at g d weights) (places ctx left args) ≤ g.limit → AllDerivable g (types_bound ctx) left args
+pub wants_derive : (g : Parts) (d : Patterned) (weights : List (Option ℕ)) → AreLeastWeights g d weights → (ctx : List (List ℕ)) (left : ℕ) (args : List Arg) → has_room left args ≡ true → total (least_at g d weights) (places ctx left args) ≤ g.limit → AreDerivable g (types_bound ctx) left args
 unfolding has_room places
 wants_derive g d weights right ctx left [] room l = none (types_bound ctx) left
 wants_derive g d weights right ctx left (Plain b ∷ more) room l =
@@ -75,5 +75,5 @@ wants_derive g d weights right ctx (suc left) (Fun ps r ∷ more) room l =
     let inner = ctx ++ ps ∷ [] in
     let p : Place = record { ctx = inner; left = left; wanted = r } in
     let m = least-met g d weights right p (omega (arith, l)) in
-    let P : List ℕ → Type 0 = λ set. Derivable g set left r in
+    let P : List ℕ → Type 0 = λ set. IsDerivable g set left r in
     lambda (types_bound ctx) left ps r more (subst P (set_of-more ctx ps) (term-derives g inner left r m.0 m.1)) (wants_derive g d weights right ctx (suc left) more room (omega (arith, l)))

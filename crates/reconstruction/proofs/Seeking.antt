@@ -5,7 +5,7 @@ use Rattle.std.proofs.lemmas.List.Sorted.{IsPermutation-trans, IsPermutation-app
 use Rattle.least_weights.specs.LeastWeight.{place_at}
 use Rattle.reconstruction.specs.NumberedPlaces.{IsNumbered, rows_at, at_state, number}
 use Rattle.std.proofs.lemmas.List.Elements.{All-head}
-use Rattle.reconstruction.specs.Tabled.{place_of, least_of, AreNumbered, stack_of, IsHeld, AreHeld}
+use Rattle.reconstruction.specs.Tabled.{place_by_numbers, least_of, AreNumbered, stack_of, IsHeld, AreHeld}
 use Rattle.reconstruction.specs.Levelled.{AreComplete}
 use Rattle.reconstruction.specs.declared.item.Arena.{Arena}
 use Rattle.reconstruction.specs.declared.item.Item.{Item}
@@ -14,10 +14,10 @@ use Rattle.reconstruction.specs.declared.tables.Tables.{Tables}
 use Rattle.reconstruction.proofs.Weights.{least-is}
 
 -- the weight of a numbered place's state is the least weight at its place
-pub place-least : (t : Tables) → AreComplete t → (p : NumberedPlace) → IsNumbered t.env t.patterns p → (o : Option ℕ) → o ≡ get_or t.least p.state None → number t.env.limit o ≡ least_of t (place_of t p)
+pub place-least : (t : Tables) → AreComplete t → (p : NumberedPlace) → IsNumbered t.env t.patterns p → (o : Option ℕ) → o ≡ get_or t.least p.state None → number t.env.limit o ≡ least_of t (place_by_numbers t p)
 place-least t ready p place o is =
     let rows = rows_at t.env p.lambdas in
-    let at : place_of t p ≡ place_at t.patterns place.state rows = ap (λ s. at_state t.patterns s rows) place.is in
+    let at : place_by_numbers t p ≡ place_at t.patterns place.state rows = ap (λ s. at_state t.patterns s rows) place.is in
     ap (number t.env.limit) is
     ∙ sym (least-is t.env t.patterns t.least ready.weights p.state place.state rows place.is place.types place.depth)
     ∙ ap (least_of t) (sym at)

@@ -1,16 +1,18 @@
 -- The stack of terms, and the arguments that are taken from it.
-use Rattle.std.proofs.Common.{◌≡◌, ℕ, zero, suc, ◌+◌, ◌<◌, ◌≤◌, List, [], ◌∷◌, ◌++◌, length, get_or, drop, take, map, All, refl, sym, ap, subst, ◌∙◌, arith, length-append}
+use Rattle.std.proofs.Common.{reverse, ◌≡◌, ℕ, zero, suc, ◌+◌, ◌<◌, ◌≤◌, List, [], ◌∷◌, ◌++◌, length, get_or, drop, take, map, All, refl, sym, ap, subst, ◌∙◌, arith, length-append}
 use Rattle.std.proofs.Math.Seq.{drop-cons}
 use Rattle.std.proofs.lemmas.List.{take_more}
 use Rattle.std.proofs.lemmas.List.Elements.{All-head, All-tail}
+use Rattle.std.proofs.lemmas.Grind.{reverse_onto}
 use Rattle.terms.specs.Expr.{Expr, Args, no_args}
 use Rattle.terms.specs.View.{expr, arg, args_view}
 use Rattle.terms.specs.declared.parts.Arg.{Arg}
 use Rattle.terms.specs.declared.parts.Parts.{Parts}
 use Rattle.terms.specs.declared.term.Term.{Term}
 use Rattle.terms.specs.declared.term.TermArg.{TermArg}
-use Rattle.reconstruction.specs.Tabled.{backwards, front_of}
-use Rattle.partial_terms.specs.Built.{stacked, onto, placed, args_with, left_over, IsEnded, IsTermOf, AreTermsOf}
+use Rattle.reconstruction.specs.Tabled.{front_of}
+use Rattle.terms.specs.Typing.{placed}
+use Rattle.partial_terms.specs.Built.{stacked, onto, args_with, left_over, IsEnded, IsTermOf, AreTermsOf}
 use Rattle.reconstruction.specs.declared.item.Arena.{Arena}
 
 -- what is pushed comes first
@@ -76,10 +78,10 @@ all_rest wanted i args before now h l = sym (h.rest_so_far ∙ ap (λ w. left_ov
 
 -- the last number of a front
 pub front-last : (a : Arena) (i n r : ℕ) → get_or a.fronts i [] ≡ n ∷ get_or a.fronts r [] → front_of a i ≡ front_of a r ++ n ∷ []
-front-last a i n r h = ap backwards h
+front-last a i n r h = ap reverse h ∙ reverse_onto (get_or a.fronts r []) n []
 
 pub front-none : (a : Arena) (i : ℕ) → get_or a.fronts i [] ≡ [] → front_of a i ≡ []
-front-none a i h = ap backwards h
+front-none a i h = ap reverse h
 
 -- one front of several
 pub ended_at : (g : Parts) (a : Arena) (found : List ℕ) (k d : ℕ) → k < length found → All (IsEnded g) (map (front_of a) found) → IsEnded g (front_of a (get_or found k d))

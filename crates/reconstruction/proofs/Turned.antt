@@ -17,13 +17,13 @@ use Rattle.terms.proofs.Halves.{symbol-odd}
 use Rattle.terms.proofs.Valid.{valid-decl, valid-limit, valid-pair, below-itself}
 use Rattle.succinct.specs.Compression.{Compression, need_of}
 use Rattle.patterns.specs.Patterned.{Patterned, ArePatterns, state_sought, sought_from}
-use Rattle.patterns.specs.States.{left_at, place_in, place_sought, place_of}
+use Rattle.patterns.specs.States.{left_at, place_in, place_sought, state_place}
 use Rattle.patterns.specs.declared.state.State.{State}
 use Rattle.patterns.proofs.Meaning.{plain-sought}
-use Rattle.patterns.proofs.Mets.{place_of-get}
+use Rattle.patterns.proofs.Mets.{state_place-get}
 use Rattle.edges.specs.Edges.{Edge, IsTail, AreTails}
 use Rattle.least_weights.specs.LeastWeight.{AreLeastWeights, place_at}
-use Rattle.least_weights.proofs.Joins.{pair-get}
+use Rattle.patterns.proofs.Meaning.{pair-get}
 use Rattle.least_weights.proofs.Lows.{split-tails, no-tails, step-same, step-apart}
 use Rattle.least_weights.proofs.Sought.{IsAt, plain-at, fun-at}
 use Rattle.reconstruction.specs.NumberedPlaces.{row_of_args, row_of_decl, rows_at, with_lambda, at_state, IsNumbered}
@@ -48,7 +48,7 @@ pub record Opened (t : Tables) (ps : List Place) (numbered : List NumberedPlace)
 -- a place by its numbers, with its least weight
 pub record IsNumberedAs (t : Tables) (q : Place) (p : NumberedPlace) (n : ℕ) : Type 0 where
   pub place : IsNumbered t.env t.patterns p
-  pub is : q ≡ tabled.place_of t p
+  pub is : q ≡ tabled.place_by_numbers t p
   pub least : least_of t q ≡ n
 
 pub opened-none : (t : Tables) → Opened t [] [] 0
@@ -56,7 +56,7 @@ opened-none t = record { places = refl; opened = All-nil (IsNumbered t.env t.pat
 
 pub opened-more : (t : Tables) (q : Place) (p : NumberedPlace) (n : ℕ) (qs : List Place) (ps : List NumberedPlace) (sum : ℕ) → IsNumberedAs t q p n → Opened t qs ps sum → Opened t (q ∷ qs) (p ∷ ps) (n + sum)
 opened-more t q p n qs ps sum first rest = record {
-  places = ap (λ x. x ∷ qs) first.is ∙ ap (λ l. tabled.place_of t p ∷ l) rest.places;
+  places = ap (λ x. x ∷ qs) first.is ∙ ap (λ l. tabled.place_by_numbers t p ∷ l) rest.places;
   opened = All-cons (IsNumbered t.env t.patterns) p ps first.place rest.opened;
   least = (let a = first.least in let b = rest.least in omega (arith, a, b));
 }
@@ -79,9 +79,9 @@ places-fun ctx left ps r = refl
 pub value-state : (g : Parts) (c : Compression) (d : Patterned) → ArePatterns c g.goal g.depth d → (i : ℕ) (s : State) (b t : ℕ) → slice_get d.states i ≡ Some s → IsTail c d i (Plain b) t → slice_get d.states t ≡ Some (record { set = s.set; goal = b })
 value-state g c d made i s b t is tail =
     let w = made.wanted tail.need (need_of (Plain b)) tail.is in
-    let chain : state_sought d i tail.need ≡ place_of d.states (record { set = s.set; goal = w.0.goal }) =
+    let chain : state_sought d i tail.need ≡ state_place d.states (record { set = s.set; goal = w.0.goal }) =
     ap (λ o. sought_from d o tail.need) is ∙ ap (λ o. place_sought d.space d.states s o) w.1 ∙ ap (λ o. place_in d.states w.0.goal o) (plain-sought d.space s.set w.0 w.2.lambda) in
-    let found = place_of-get d.states (record { set = s.set; goal = w.0.goal }) t (sym chain ∙ tail.to) in
+    let found = state_place-get d.states (record { set = s.set; goal = w.0.goal }) t (sym chain ∙ tail.to) in
     subst (λ x. slice_get d.states t ≡ Some (record { set = s.set; goal = x })) w.2.goal found
 
 single : (ts : List ℕ) → length ts ≡ 1 → (b : ℕ) × (ts ≡ b ∷ [])
@@ -184,7 +184,7 @@ module _ (t : Tables) (c : Compression) (valid : IsValid t.env) (lengths : HasLe
   small-weight w h = (let l = valid-limit t.env valid in let top = l.1 in omega (arith, h, top))
 
   -- the place of the numbers, written out
-  pub numbered-place : (p : NumberedPlace) (s : IsNumbered t.env t.patterns p) → tabled.place_of t p ≡ place_at t.patterns s.state (rows_at t.env p.lambdas)
+  pub numbered-place : (p : NumberedPlace) (s : IsNumbered t.env t.patterns p) → tabled.place_by_numbers t p ≡ place_at t.patterns s.state (rows_at t.env p.lambdas)
   numbered-place p s = ap (λ o. at_state t.patterns o (rows_at t.env p.lambdas)) s.is
 
   pub numbered-at : (p : NumberedPlace) (s : IsNumbered t.env t.patterns p) → IsAt t.patterns t.env.depth p.state (rows_at t.env p.lambdas) (left_at t.patterns.space s.state.set) s.state.goal
@@ -207,7 +207,7 @@ module _ (t : Tables) (c : Compression) (valid : IsValid t.env) (lengths : HasLe
       turned around is room o = record {
         number = small-number q.number q.decl q.is;
         small = small-weight w (totals.each m e there).small;
-        head = subst (λ r. IsTurn t (tabled.place_of t p) (2 * q.number + 1) (w + extra) (numbered_under r e.tails)) (sym is) (subst (λ y. IsTurn t y (2 * q.number + 1) (w + extra) (numbered_under around e.tails)) (sym (numbered-place p s))
+        head = subst (λ r. IsTurn t (tabled.place_by_numbers t p) (2 * q.number + 1) (w + extra) (numbered_under r e.tails)) (sym is) (subst (λ y. IsTurn t y (2 * q.number + 1) (w + extra) (numbered_under around e.tails)) (sym (numbered-place p s))
             (opened-turn i p.lambdas left s.state.goal goal q.number w extra e.tails (numbered_under around e.tails) q.decl q.is (q.gives ∙ same) sum room o below weighs));
       }
 

@@ -8,7 +8,7 @@ use Rattle.least_weights.specs.LeastWeight.{AreLeastWeights}
 use Rattle.partial_terms.specs.Leasts.{AreLeast}
 use Rattle.partial_terms.specs.Search.{IsSearch}
 use Rattle.reconstruction.specs.NumberedPlaces.{no_lambdas, IsNumbered, IsKept}
-use Rattle.reconstruction.specs.Tabled.{place_of, least_of, front_of, AreHeld, seen}
+use Rattle.reconstruction.specs.Tabled.{place_by_numbers, least_of, front_of, AreHeld, seen}
 use Rattle.reconstruction.specs.Totals.{AreTotals}
 use Rattle.reconstruction.specs.Usable.{AreFloors, AreUsable}
 use Rattle.reconstruction.specs.Ways.{AreWaysAt}
@@ -27,13 +27,13 @@ pub record AreComplete (t : Tables) : Type 0 where
   pub least : AreLeast t.env t.env.limit (IsKept t.env t.patterns) (least_of t)
   pub root : IsKept t.env t.patterns (goal_place t.env)
   pub start : IsNumbered t.env t.patterns (record { lambdas = no_lambdas; state = 0 })
-  pub start_is : place_of t (record { lambdas = no_lambdas; state = 0 }) ≡ goal_place t.env
+  pub start_is : place_by_numbers t (record { lambdas = no_lambdas; state = 0 }) ≡ goal_place t.env
   pub ways : (p : NumberedPlace) → IsNumbered t.env t.patterns p → AreWaysAt t p p.state
   pub once : (p : NumberedPlace) → IsNumbered t.env t.patterns p → (n : ℕ) → count (λ m. m == n) (numbers_at t p) ≤ 1
   pub totals : AreTotals t.env.limit t.least t.edges t.totals
   pub floors : AreFloors t.env t.edges t.totals t.floors
   pub usable : AreUsable t.env.limit t.floors t.edges t.usable
-  pub complete : (p : NumberedPlace) → IsNumbered t.env t.patterns p → (n : ℕ) (r : Reading) → turn t.env (place_of t p) n ≡ Some r → r.weight + total (least_of t) r.open_places ≤ t.env.limit → 1 ≤ count (λ m. m == n) (numbers_at t p)
+  pub complete : (p : NumberedPlace) → IsNumbered t.env t.patterns p → (n : ℕ) (r : Reading) → turn t.env (place_by_numbers t p) n ≡ Some r → r.weight + total (least_of t) r.open_places ≤ t.env.limit → 1 ≤ count (λ m. m == n) (numbers_at t p)
 
 -- the popped item that is held, before the items of the queue
 abbrev pub with_held : Option (ℕ × Item) → List (ℕ × Item) → List (ℕ × Item)

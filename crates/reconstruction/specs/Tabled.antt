@@ -1,5 +1,5 @@
 -- What a search's tables say of places and of partial terms.
-use Rattle.std.specs.Prelude.{◌≡◌, ℕ, ◌+◌, ◌<◌, ◌≤◌, Bool, true, false, cond, All, List, [], ◌∷◌, ◌++◌, length, get_or, map, Option, Some, IsPermutation}
+use Rattle.std.specs.Prelude.{◌≡◌, ℕ, ◌+◌, ◌<◌, ◌≤◌, Bool, true, false, cond, All, List, [], ◌∷◌, ◌++◌, length, get_or, map, reverse, Option, Some, IsPermutation}
 use Rattle.terms.specs.Count.{total}
 use Rattle.terms.specs.Place.{Place, goal_place}
 use Rattle.terms.specs.Reading.{Reading, turn}
@@ -16,11 +16,11 @@ use Rattle.reconstruction.specs.declared.numbered_place.NumberedPlace.{NumberedP
 use Rattle.reconstruction.specs.declared.tables.Tables.{Tables}
 
 -- the place that the numbers stand for
-abbrev pub place_of : Tables → NumberedPlace → Place
-place_of t p = numbered_place_in t.env t.patterns p
+abbrev pub place_by_numbers : Tables → NumberedPlace → Place
+place_by_numbers t p = numbered_place_in t.env t.patterns p
 
 abbrev pub places_of : Tables → List NumberedPlace → List Place
-places_of t ps = map (place_of t) ps
+places_of t ps = map (place_by_numbers t) ps
 
 -- the least weight at a place
 abbrev pub least_of : Tables → Place → ℕ
@@ -29,13 +29,9 @@ least_of t p = least_at t.env t.patterns t.least p
 abbrev pub AreNumbered : Tables → List NumberedPlace → Type 0
 AreNumbered t ps = All (IsNumbered t.env t.patterns) ps
 
--- the last number of a front stands first in its list
-abbrev pub backwards : List ℕ → List ℕ
-backwards [] = []
-backwards (x ∷ xs) = backwards xs ++ x ∷ []
-
+-- a front, whose last number stands first in its list
 abbrev pub front_of : Arena → ℕ → List ℕ
-front_of a i = backwards (get_or a.fronts i [])
+front_of a i = reverse (get_or a.fronts i [])
 
 abbrev pub stack_of : Arena → ℕ → List NumberedPlace
 stack_of a i = get_or a.stacks i []
@@ -60,7 +56,7 @@ pub record IsParent (t : Tables) (a : Arena) (p : Parent) : Type 0 where
   pub first : IsNumbered t.env t.patterns p.place
   pub others : AreNumbered t (stack_of a p.rest)
   pub weight : ℕ
-  pub is : reading t.env (goal_place t.env) (front_of a p.front) ≡ Some (record { weight = weight; open_places = place_of t p.place ∷ places_of t (stack_of a p.rest) })
+  pub is : reading t.env (goal_place t.env) (front_of a p.front) ≡ Some (record { weight = weight; open_places = place_by_numbers t p.place ∷ places_of t (stack_of a p.rest) })
   pub base : p.base ≡ weight + total (least_of t) (places_of t (stack_of a p.rest))
 
 -- lists are only added

@@ -4,7 +4,7 @@ use Rattle.terms.specs.Count.{count}
 use Rattle.terms.specs.Weights.{coercion_weight}
 use Rattle.terms.specs.declared.parts.Parts.{Parts}
 use Rattle.edges.specs.Edges.{Edge}
-use Rattle.reconstruction.specs.Tabled.{IsTurn, numbered_under, place_of}
+use Rattle.reconstruction.specs.Tabled.{IsTurn, numbered_under, place_by_numbers}
 use Rattle.reconstruction.specs.Totals.{declared_in, lower_in, lambdas_under}
 use Rattle.reconstruction.specs.declared.numbered_place.NumberedPlace.{NumberedPlace}
 use Rattle.reconstruction.specs.declared.tables.Tables.{Tables}
@@ -48,7 +48,7 @@ often n ns = count (λ m. m == n) ns
 pub record Turns (t : Tables) (p : NumberedPlace) (step k w : ℕ) (numbered : List NumberedPlace) : Type 0 where
   pub number : k < 2147483648
   pub small : w ≤ 10001
-  pub head : IsTurn t (place_of t p) (2 * k + 1) (w + step) numbered
+  pub head : IsTurn t (place_by_numbers t p) (2 * k + 1) (w + step) numbered
 
 -- the declaration of an edge is a turn at the numbered place
 abbrev pub IsHeadBy : Tables → NumberedPlace → ℕ → Option ℕ → ℕ → List ℕ → Type 0

@@ -3,14 +3,14 @@
 ghost use Rattle.std.specs.Prelude.{◌≡◌, ◌+◌, ◌*◌, ◌<◌, ◌≤◌, ◌∷◌, [], OnOk, slice_index_or, length};
 ghost use Rattle.terms.specs.Faults.{IsValid};
 ghost use Rattle.terms.specs.Weights.{coercion_weight};
-ghost use Rattle.reconstruction.specs.Tabled.{front_of, place_of, numbered_under, IsParent, IsTurn, AreHeld, AreGrown, Grew};
+ghost use Rattle.reconstruction.specs.Tabled.{front_of, place_by_numbers, numbered_under, IsParent, IsTurn, AreHeld, AreGrown, Grew};
 ghost use Rattle.reconstruction.specs.Totals.{lower_in, lambdas_by, lambdas_under, AreTotals};
 ghost use Rattle.reconstruction.specs.Usable.{AreFloors, AreUsable, IsWithin};
 ghost use Rattle.reconstruction.specs.Ways.{edge_at, head_numbers, heads_at, way_numbers, ways_at, IsHeadOf, AreHeadsAt, IsWayOf, AreWaysAt};
 
-use crate::building::wanted_by;
-use crate::growing::grow_by;
+use crate::built_terms::wanted_by;
 use crate::item::{Arena, Head, Item, Parent};
+use crate::longer_fronts::grow_by;
 use crate::numbered_place::Lambdas;
 use crate::tables::Tables;
 use crate::totals::{declared, number_at};
@@ -88,7 +88,7 @@ fn grow_decl(
     requires parent { IsParent tables.now arena.old parent }
     requires children { AreHeld tables.now arena.old children.old.items }
     requires number { decl < 2147483648 }
-    requires turn { IsTurn tables.now (place_of tables.now parent.place) (2 * decl + 1) total (numbered_under (lambdas_under tables.now.env parent.place.lambdas decl) tails.now) }
+    requires turn { IsTurn tables.now (place_by_numbers tables.now parent.place) (2 * decl + 1) total (numbered_under (lambdas_under tables.now.env parent.place.lambdas decl) tails.now) }
     ensures grew { OnOk result (Grew tables.now arena.old arena.new (front_of arena.old parent.front) ((2 * decl + 1) ∷ []) children.old.items children.new.items) }
     ensures grown { AreGrown arena.old arena.new }
 {

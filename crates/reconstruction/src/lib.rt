@@ -5,13 +5,13 @@
 #![tactic(auto)]
 
 mod agenda;
-mod building;
-mod growing;
+mod built_terms;
 mod heads;
 mod item;
+mod longer_fronts;
 mod numbered_place;
 mod rebuild;
-mod starting;
+mod start;
 mod tables;
 mod totals;
 mod usable;

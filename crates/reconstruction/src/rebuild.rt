@@ -6,9 +6,9 @@ ghost use Rattle.reconstruction.specs.Rebuilding.{AreGiven};
 ghost use Rattle.partial_terms.specs.Search.{fronts};
 
 use crate::agenda::Agenda;
-use crate::building::terms_of;
+use crate::built_terms::terms_of;
 use crate::item::{Arena, Item, Parent};
-use crate::starting::{begin, least_at};
+use crate::start::{begin, least_at};
 use crate::tables::{Tables, tables_of};
 use crate::variables::grow;
 use partial_terms::Chains;

@@ -5,15 +5,15 @@ ghost use Rattle.terms.specs.Faults.{IsValid};
 ghost use Rattle.terms.specs.Typing.{joined, most_rows, rows};
 ghost use Rattle.terms.specs.Weights.{variable_weight, step_in};
 ghost use Rattle.reconstruction.specs.NumberedPlaces.{row_of_args, rows_at, types_of};
-ghost use Rattle.reconstruction.specs.Tabled.{place_of, front_of, IsParent, AreHeld, AreGrown, Grew};
+ghost use Rattle.reconstruction.specs.Tabled.{place_by_numbers, front_of, IsParent, AreHeld, AreGrown, Grew};
 ghost use Rattle.reconstruction.specs.Totals.{AreTotals};
 ghost use Rattle.reconstruction.specs.Usable.{AreFloors, AreUsable};
 ghost use Rattle.reconstruction.specs.Ways.{AreWaysAt};
 ghost use Rattle.reconstruction.specs.Variables.{variables, bound_at, numbers_at};
 
-use crate::growing::grow_by;
 use crate::heads::grow_edges;
 use crate::item::{Arena, Head, Item, Parent};
+use crate::longer_fronts::grow_by;
 use crate::numbered_place::{Lambdas, NO_LAMBDAS, NumberedPlace};
 use crate::tables::Tables;
 use std::alloc::AllocError;
@@ -68,7 +68,7 @@ fn context(tables: &Tables, lambdas: Lambdas) -> Ctx<'_>
 
 /// The type that is wanted at a numbered place.
 fn goal_at(tables: &Tables, place: NumberedPlace) -> u32
-    ensures value { result ≡ (place_of tables.now place).wanted }
+    ensures value { result ≡ (place_by_numbers tables.now place).wanted }
 {
     match tables.patterns.states().get(place.state as usize) {
         Some(state) => state.goal,

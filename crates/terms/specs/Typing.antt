@@ -45,6 +45,11 @@ abbrev pub args_wanted : Option Decl → List Arg
 args_wanted None = []
 args_wanted (Some d) = d.args
 
+-- a term as an argument before others: under a lambda where one is wanted
+abbrev pub placed : Arg → Expr → Args → Args
+placed (Plain b) e rest = plain e rest
+placed (Fun ps r) e rest = lam e rest
+
 unfoldable mutual
   -- the type of a term under at most three rows, or none
   pub type_in : Parts → List (List ℕ) → Expr → Option ℕ

@@ -60,7 +60,7 @@ impl Ctx<'_> {
     #[tactic(auto, unfolding(crate::specs::Typing::rows, crate::specs::Typing::joined))]
     pub fn variable(&self, number: u32) -> Option<u32>
         requires { self.now.used ≤ 3 }
-        ensures { result ≡ slice_get (joined (rows self.now)) number }
+        ensures value { result ≡ slice_get (joined (rows self.now)) number }
     {
         let n = number as usize;
         if self.used == 0 {

@@ -127,7 +127,7 @@ impl Env {
     /// Whether a value of the one type may stand where the other is wanted. Takes logarithmic time.
     #[tactic(auto, unfolding(crate::specs::Typing::is_below))]
     pub fn is_below(&self, lower: u32, upper: u32) -> bool
-        ensures { result ≡ is_below self.now lower upper }
+        ensures value { result ≡ is_below self.now lower upper }
     {
         if lower == upper {
             return true;
@@ -138,7 +138,7 @@ impl Env {
     /// The type of a term in a context. It is none also where rows and nested lambdas are more than 3
     /// together. Takes no memory.
     pub fn type_of(&self, ctx: &Ctx<'_>, term: &Term) -> Option<u32>
-        ensures { result ≡ type_of self.now ctx.now (expr term.now) }
+        ensures value { result ≡ type_of self.now ctx.now (expr term.now) }
     {
         if ctx.used > MOST_ROWS {
             return None;
@@ -152,7 +152,7 @@ impl Env {
     /// The weight of a term in a context, without the coercion to the goal. It is none where there is no
     /// type or the sum passes 4,294,967,295. Takes no memory.
     pub fn weight(&self, ctx: &Ctx<'_>, term: &Term) -> Option<u32>
-        ensures { result ≡ weight_of self.now ctx.now (expr term.now) }
+        ensures value { result ≡ weight_of self.now ctx.now (expr term.now) }
     {
         if ctx.used > MOST_ROWS {
             return None;
@@ -165,7 +165,7 @@ impl Env {
 
     /// Whether the term is one of the list: it fits the goal within the depth and the limit. Takes no memory.
     pub fn is_inhabitant(&self, term: &Term) -> bool
-        ensures { result ≡ is_inhabitant self.now (expr term.now) }
+        ensures value { result ≡ is_inhabitant self.now (expr term.now) }
     {
         let parts = self.parts();
         match self.rate(&Ctx::empty(), term) {

@@ -42,28 +42,28 @@ pub(crate) fn told(weight: u64) -> Option<u32>
 impl Env {
     /// What a use of a variable weighs.
     pub fn variable_weight(&self) -> u32
-        ensures { result ≡ variable_weight self.now }
+        ensures value { result ≡ variable_weight self.now }
     {
         1
     }
 
     /// What a binder of a lambda weighs.
     pub fn binder_weight(&self) -> u32
-        ensures { result ≡ binder_weight self.now }
+        ensures value { result ≡ binder_weight self.now }
     {
         1
     }
 
     /// What a coercion weighs.
     pub fn coercion_weight(&self) -> u32
-        ensures { result ≡ coercion_weight self.now }
+        ensures value { result ≡ coercion_weight self.now }
     {
         10
     }
 
     /// What the coercion from the one type to the other weighs: nothing where they are one.
     pub fn step(&self, from: u32, to: u32) -> u32
-        ensures { result ≡ step_in self.now (Some from) to }
+        ensures value { result ≡ step_in self.now (Some from) to }
     {
         if from == to {
             0

@@ -18,7 +18,7 @@ returns-then-place-decls-2 c =
     let limit : c.parts-parts.result.now.limit ≡ g.limit = ap (λ (p : Parts). p.limit) c.parts-parts.ensures.value in
     let past = c.if-place-decls.false in
     let low = c.if-place-decls-2.true in
-    let ten : c.coercion_weight.result ≡ coercion_weight g = c.coercion_weight.ensures in
+    let ten : c.coercion_weight.result ≡ coercion_weight g = c.coercion_weight.ensures.value in
     let at : slice_get (source_costs g) c.args.number ≡ Some c.coercion_weight.result = cost-pair g c.args.number (omega (arith, past, decls, d)) (omega (arith, low, decls, d, pairs, p)) ∙ ap (λ n. Some n) (sym ten) in
     let none = binders-none in
     record {

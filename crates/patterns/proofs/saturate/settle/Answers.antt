@@ -1,6 +1,6 @@
 use Rattle.std.proofs.Common.{◌<◌, ◌∙◌, length, map, sym, ap, subst}
 use Rattle.succinct.proofs.Places.{each-same}
-use Rattle.patterns.specs.Waiting.{AreTargets, AreUses}
+use Rattle.patterns.specs.Worklist.{AreTargets, AreUses}
 use Rattle.patterns.proofs.Used.{targets-in_range}
 use Rattle.patterns.proofs.saturate.settle.Goals as goal
 

@@ -15,4 +15,4 @@ pub returns-clause-sound : goal.returns-clause-sound
 returns-clause-sound c = tried-sound c.args.sets.now c.args.kinds.now c.args.states.now.keys c.as_slice-2.result.now c.args.marks.now.items _ c.as_slice-3.result.now c.args.one.place c.args.one.kind _ _ _ c.as_slice-2.ensures.keys c.as_slice-3.ensures.value refl (omega (arith, c.if-place-len.false, c.len.ensures.len)) c.kind_ends_met.ensures.value c.if-not-kind_ends_met.false c.in_ok-mark.ensures.marked
 
 pub returns-clause-quiet : goal.returns-clause-quiet
-returns-clause-quiet c uses number i count rest is low = tried-quiet c.args.sets.now c.args.kinds.now c.args.states.now.keys uses _ _ _ _ i number rest count c.args.one is c.in_ok-mark.ensures.marked c.in_ok-mark.ensures.ordered (omega (arith, c.if-place-len.false, c.len.ensures.len, c.requires.as_many)) low
+returns-clause-quiet c uses number i count rest is low = tried-quiet c.args.sets.now c.args.kinds.now c.args.states.now.keys uses _ _ _ _ i number rest count c.args.one is c.in_ok-mark.ensures.marked c.in_ok-mark.ensures.listed (omega (arith, c.if-place-len.false, c.len.ensures.len, c.requires.as_many)) low

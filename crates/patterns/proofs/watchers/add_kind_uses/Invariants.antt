@@ -1,6 +1,6 @@
 use Rattle.std.proofs.Common.{take, length}
 use Rattle.succinct.specs.Numbering.{IsGrown}
-use Rattle.patterns.specs.Waiting.{AreTargets, AreUsedBy}
+use Rattle.patterns.specs.Worklist.{AreTargets, AreUsedBy}
 use Rattle.patterns.proofs.watchers.add_kind_uses.Given as goal
 
 abbrev pub invariant-loop-need : goal.invariant-loop-need

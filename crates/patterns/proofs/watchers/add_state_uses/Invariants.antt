@@ -2,7 +2,7 @@ use Rattle.std.proofs.Common.{◌≡◌, ℕ, true, take, length, slice_get, Som
 use Rattle.succinct.specs.Numbering.{IsGrown}
 use Rattle.succinct.specs.Sets.{has}
 use Rattle.succinct.specs.declared.kind.Succinct.{Succinct}
-use Rattle.patterns.specs.Waiting.{AreTargets, AreUsedBy}
+use Rattle.patterns.specs.Worklist.{AreTargets, AreUsedBy}
 use Rattle.patterns.proofs.watchers.add_state_uses.Given as goal
 
 abbrev pub invariant-loop-kind : goal.invariant-loop-kind

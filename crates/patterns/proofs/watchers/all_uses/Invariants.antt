@@ -1,6 +1,6 @@
 use Rattle.std.proofs.Common.{◌≡◌, ◌<◌, ℕ, length, slice_get, Some}
 use Rattle.succinct.specs.declared.kind.Succinct.{Succinct}
-use Rattle.patterns.specs.Waiting.{AreTargets, AreUsedBy}
+use Rattle.patterns.specs.Worklist.{AreTargets, AreUsedBy}
 use Rattle.patterns.specs.declared.state.State.{State}
 use Rattle.patterns.proofs.watchers.all_uses.Given as goal
 

@@ -1,6 +1,6 @@
 use Rattle.std.proofs.Common.{◌≡◌, ◌++◌, map, take}
 use Rattle.terms.specs.View.{expr, args_view}
-use Rattle.plain_listing.specs.Generate.{placed}
+use Rattle.terms.specs.Typing.{placed}
 use Rattle.plain_listing.proofs.fills.push_first.Given as goal
 
 abbrev pub invariant-loop-rest : goal.invariant-loop-rest

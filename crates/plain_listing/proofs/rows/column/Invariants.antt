@@ -7,5 +7,5 @@ use Rattle.plain_listing.proofs.rows.column.Given as goal
 abbrev pub invariant-loop-wanted : goal.invariant-loop-wanted
 invariant-loop-wanted l = record {
   long : length l.all ≡ l.wanted;
-  each : (b : ℕ) → b < l.wanted → listed (slice_get l.all b) ≡ made l.site.env.now l.site.variables.now (here l.site) (deeper l.site) l.weight b;
+  each : (b : ℕ) → b < l.wanted → listed (slice_get l.all b) ≡ made l.place.env.now l.place.variables.now (here l.place) (deeper l.place) l.weight b;
 }

@@ -1,7 +1,7 @@
 use Rattle.std.proofs.Common.{◌≡◌, ◌+◌, ◌*◌, ℕ, List, Some, None, get_or, ◌∙◌, sym, ap, subst, arith}
 use Rattle.std.proofs.lemmas.Result.{on_ok_weaker}
 use Rattle.terms.proofs.Valid.{valid-limit}
-use Rattle.reconstruction.specs.Tabled.{place_of, numbered_under, IsTurn}
+use Rattle.reconstruction.specs.Tabled.{place_by_numbers, numbered_under, IsTurn}
 use Rattle.reconstruction.specs.Totals.{declared_in, lambdas_under}
 use Rattle.reconstruction.specs.Ways.{edge_at, numbers_of_head}
 use Rattle.reconstruction.proofs.Growths.{grew-none}
@@ -34,9 +34,9 @@ grow_decl-requires-clause-turn c =
     let at = edge-get t.edges c.args.edge c.requires.in_range in
     let is : declared_in t.env e.source ≡ Some k = sym (c.in-Some.ensures.value ∙ ap (λ g. declared_in g c.source.result) c.parts.ensures.value ∙ ap (declared_in t.env) (c.source.ensures.value e at)) in
     let w : ℕ = get_or t.totals c.args.edge 0 in
-    let turn : IsTurn t (place_of t p) (2 * k + 1) (w + c.args.step) (numbered_under (lambdas_under t.env p.lambdas k) e.tails) = (head-turn t p c.args.step k w (declared_in t.env e.source) e.tails c.requires.turn is).head in
-    subst (λ (n : ℕ). IsTurn t (place_of t p) (2 * k + 1) (n + c.args.step) (numbered_under (lambdas_under t.env p.lambdas k) c.tails.result.now)) (sym c.total_at.ensures.value)
-    (subst (λ (l : List ℕ). IsTurn t (place_of t p) (2 * k + 1) (w + c.args.step) (numbered_under (lambdas_under t.env p.lambdas k) l)) (sym (c.tails.ensures.value e at)) turn)
+    let turn : IsTurn t (place_by_numbers t p) (2 * k + 1) (w + c.args.step) (numbered_under (lambdas_under t.env p.lambdas k) e.tails) = (head-turn t p c.args.step k w (declared_in t.env e.source) e.tails c.requires.turn is).head in
+    subst (λ (n : ℕ). IsTurn t (place_by_numbers t p) (2 * k + 1) (n + c.args.step) (numbered_under (lambdas_under t.env p.lambdas k) c.tails.result.now)) (sym c.total_at.ensures.value)
+    (subst (λ (l : List ℕ). IsTurn t (place_by_numbers t p) (2 * k + 1) (w + c.args.step) (numbered_under (lambdas_under t.env p.lambdas k) l)) (sym (c.tails.ensures.value e at)) turn)
 
 pub returns-in-Some-clause-grew : goal.returns-in-Some-clause-grew
 returns-in-Some-clause-grew c =
