@@ -5,7 +5,7 @@ use Rattle.reconstruction.proofs.Ways.{grew-as}
 use Rattle.reconstruction.proofs.heads.grow_edge.Goals as goal
 
 pub grow_heads-requires-clause-turns : goal.grow_heads-requires-clause-turns
-grow_heads-requires-clause-turns c = subst (λ n. AreHeadsAt c.args.tables.now c.args.parent.place n c.in-Some.lower) (sym c.coercion_weight-coercion.ensures) (subst (IsWayBy c.args.tables.now c.args.parent.place c.args.edge (edge_at c.args.tables.now.edges c.args.edge)) (sym c.in-Some.ensures.value) c.requires.way)
+grow_heads-requires-clause-turns c = subst (λ n. AreHeadsAt c.args.tables.now c.args.parent.place n c.in-Some.lower) (sym c.coercion_weight-coercion.ensures.value) (subst (IsWayBy c.args.tables.now c.args.parent.place c.args.edge (edge_at c.args.tables.now.edges c.args.edge)) (sym c.in-Some.ensures.value) c.requires.way)
 
 pub grow_head-requires-clause-turn : goal.grow_head-requires-clause-turn
 grow_head-requires-clause-turn c = subst (IsWayBy c.args.tables.now c.args.parent.place c.args.edge (edge_at c.args.tables.now.edges c.args.edge)) (sym c.in-None.ensures.value) c.requires.way

@@ -20,7 +20,7 @@ loop-edge-preserved c =
           let u = c.lower_floor-under.ensures.under lower (ap (λ x. lower_in x c.source-source.result c.tails.result.now) c.parts-parts.ensures.value ∙ ap (λ o. lower_in g o c.tails.result.now) (c.source-source.ensures.value e at) ∙ ap (lower_in g e.source) (c.tails.ensures.value e at) ∙ is) in
           let l = c.requires.light n k f at_f declared in
           let s = ap (λ i. get_or c.args.lightest.now i 0) here_f in
-          omega (arith, u, l, s, c.lighter.ensures.least, c.coercion_weight-coercion.ensures));
+          omega (arith, u, l, s, c.lighter.ensures.least, c.coercion_weight-coercion.ensures.value));
     } in
     record {
       as_many = ap (λ (l : List ℕ). length l) push ∙ length-append c.loop-edge.floors (c.lighter.result ∷ []) ∙ ap (λ n. n + 1) long;

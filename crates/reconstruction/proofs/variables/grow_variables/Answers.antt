@@ -11,11 +11,11 @@ pub loop-number-init : goal.loop-number-init
 loop-number-init c = record { grew = grew-no_variables _ _ _ _ c.requires.children; most = omega arith }
 
 pub grow_variable-requires-clause-bound : goal.grow_variable-requires-clause-bound
-grow_variable-requires-clause-bound c = ap (λ r. slice_get (joined r) c.loop-number.number) (sym c.context-context.ensures.rows) ∙ sym c.variable.ensures ∙ c.in-Some.is
+grow_variable-requires-clause-bound c = ap (λ r. slice_get (joined r) c.loop-number.number) (sym c.context-context.ensures.rows) ∙ sym c.variable.ensures.value ∙ c.in-Some.is
 
 pub loop-number-preserved : goal.loop-number-preserved
 loop-number-preserved c =
-    let at = ap (λ r. slice_get (joined r) c.loop-number.number) (sym c.context-context.ensures.rows) ∙ sym c.variable.ensures ∙ c.in-Some.is in
+    let at = ap (λ r. slice_get (joined r) c.loop-number.number) (sym c.context-context.ensures.rows) ∙ sym c.variable.ensures.value ∙ c.in-Some.is in
     let low = slice_get_within (joined (rows_at c.args.tables.now.env c.args.parent.place.lambdas)) c.loop-number.number _ at in
     record {
       grew = grew-more _ _ _ _ c.args.parent _ _ _ _ _ _ c.requires.parent c.loop-number.invariant.grew c.in_ok-grow_variable.ensures.grew (variables-more c.loop-number.number);
@@ -24,6 +24,6 @@ loop-number-preserved c =
 
 pub returns-in_default-clause-grew : goal.returns-in_default-clause-grew
 returns-in_default-clause-grew c =
-    let none : slice_get (joined (rows_at c.args.tables.now.env c.args.parent.place.lambdas)) c.loop-number.number ≡ None = ap (λ r. slice_get (joined r) c.loop-number.number) (sym c.context-context.ensures.rows) ∙ sym c.in_default.ensures in
+    let none : slice_get (joined (rows_at c.args.tables.now.env c.args.parent.place.lambdas)) c.loop-number.number ≡ None = ap (λ r. slice_get (joined r) c.loop-number.number) (sym c.context-context.ensures.rows) ∙ sym c.in_default.ensures.value in
     let all = all-variables c.args.tables.now c.args.parent.place c.loop-number.number c.loop-number.invariant.most none in
     grew-as _ _ _ _ (variables (bound_at c.args.tables.now c.args.parent.place)) (variables c.loop-number.number) _ _ (ap variables (sym all)) c.loop-number.invariant.grew
