@@ -16,6 +16,3 @@ mod texts;
 pub use laws::{fits_or_faults, layout_laws, one_shape};
 pub use reader::read_class;
 pub use shapes::{ClassShape, InnerRow, MemberKind, MemberShape};
-
-#[cfg(test)]
-mod tests;

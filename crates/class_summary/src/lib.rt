@@ -24,6 +24,3 @@ pub use known_classes::{
 pub use paths::{around, canonical_name, internal_name};
 pub use resolver::{Resolver, from_unit, resolve_name};
 pub use shape::from_shape;
-
-#[cfg(test)]
-mod tests;

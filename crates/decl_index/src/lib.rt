@@ -17,8 +17,3 @@ mod sorted_classes;
 pub use change::{Change, ChangeFault};
 pub use index::Index;
 pub use laws::history_laws;
-
-#[cfg(test)]
-mod merged_tests;
-#[cfg(test)]
-mod tests;

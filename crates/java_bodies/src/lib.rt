@@ -23,6 +23,3 @@ mod wanted;
 
 pub use laws::{names_stand_once, prefix_ends_at_place};
 pub use site::{HoleSite, Local, hole_at};
-
-#[cfg(test)]
-mod tests;

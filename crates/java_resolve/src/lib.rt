@@ -24,6 +24,3 @@ pub use fault::ReadFault;
 pub use reader::read_shape;
 pub use shape::{Argument, Before, Shape};
 pub use word::Word;
-
-#[cfg(test)]
-mod tests;

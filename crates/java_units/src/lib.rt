@@ -31,8 +31,3 @@ pub use types::{
     ClassKind, Import, Param, SourceClass, SourceField, SourceMethod, TypeText, TypeVar, Unit,
 };
 pub use unit::read_unit;
-
-#[cfg(test)]
-mod identifier_tests;
-#[cfg(test)]
-mod tests;

@@ -20,6 +20,3 @@ pub use message::{Id, Message, Refused, RpcFault, RpcRefusal};
 pub use read::read_message;
 pub use whole::read_frames;
 pub use write::{write_frame, write_no_memory};
-
-#[cfg(test)]
-mod tests;

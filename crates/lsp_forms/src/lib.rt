@@ -24,6 +24,3 @@ pub use forms::{
 };
 pub use options::read_initialize;
 pub use results::{make_capabilities, make_list, make_version};
-
-#[cfg(test)]
-mod tests;

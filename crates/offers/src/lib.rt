@@ -52,6 +52,3 @@ pub use texts::is_among;
 pub use view::{View, of_class};
 pub use weights::Weights;
 pub use written::{owner_text, static_text};
-
-#[cfg(test)]
-mod tests;

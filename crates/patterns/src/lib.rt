@@ -24,6 +24,3 @@ mod watchers;
 
 pub use patterns::Patterns;
 pub use state::State;
-
-#[cfg(test)]
-mod tests;

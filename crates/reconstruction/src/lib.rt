@@ -18,6 +18,3 @@ mod usable;
 mod variables;
 
 pub use rebuild::Rebuild;
-
-#[cfg(test)]
-mod tests;

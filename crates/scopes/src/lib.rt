@@ -16,6 +16,3 @@ mod weighing;
 pub use hole::environment;
 pub use laws::{hole_sites, valid};
 pub use rows::worked;
-
-#[cfg(test)]
-mod tests;

@@ -14,10 +14,3 @@ pub use command::run;
 pub use sheets::{SheetFault, read_sheet};
 pub use status::{Ending, Serving, Status};
 pub use words::{Command, UsageFault, read_command};
-
-#[cfg(test)]
-mod run_tests;
-#[cfg(test)]
-mod serve_tests;
-#[cfg(test)]
-mod word_tests;

@@ -41,20 +41,3 @@ pub use serving::serve;
 pub use session::Session;
 pub use shared_pages::shared_page;
 pub use world::World;
-
-#[cfg(test)]
-mod client_tests;
-#[cfg(test)]
-mod frame_tests;
-#[cfg(test)]
-mod hub_tests;
-#[cfg(test)]
-mod method_tests;
-#[cfg(test)]
-mod part_tests;
-#[cfg(test)]
-mod shared_page_tests;
-#[cfg(test)]
-mod step_tests;
-#[cfg(test)]
-mod version_tests;

@@ -12,6 +12,3 @@ mod sheet;
 mod words;
 
 pub use reading::{SheetFault, read_sheet};
-
-#[cfg(test)]
-mod tests;

@@ -10,6 +10,3 @@ mod text;
 
 pub use fault::StartFault;
 pub use start::read_start;
-
-#[cfg(test)]
-mod tests;

@@ -24,6 +24,3 @@ pub use laws::{list_laws, pair_laws, text_laws};
 pub use levels::{Level, Levels};
 pub use parts::{Arg, Decl, Form, GREATEST_DEPTH, Parts};
 pub use term::{Term, TermArg};
-
-#[cfg(test)]
-mod tests;

@@ -28,8 +28,3 @@ pub use receipt::{Receipt, Refusal};
 pub use shown::Shown;
 pub use snapshot::Snapshot;
 pub use start::start_board;
-
-#[cfg(test)]
-mod board_tests;
-#[cfg(test)]
-mod tests;

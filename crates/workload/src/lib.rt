@@ -16,6 +16,3 @@ mod writer;
 pub use checks::is_whole;
 pub use fault::WriteFault;
 pub use writer::write_class;
-
-#[cfg(test)]
-mod tests;

@@ -1,0 +1,9 @@
+// Tests of what a hole sees: the members that are offered, and its environment.
+// There is no other code here: a test is proved with the crate that it stands in, and a crate that held its own
+// tests would be proved twice.
+#![tactic(auto)]
+
+#[cfg(test)]
+mod offer_tests;
+#[cfg(test)]
+mod scope_tests;

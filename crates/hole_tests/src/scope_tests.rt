@@ -1,0 +1,300 @@
+// Holes in small texts, and the environments that they have among a few published classes.
+ghost use Rattle.std.specs.Prelude.{◌≡◌, ◌+◌, ◌<◌, ◌≤◌, ◌^◌, length, Some, IfOk};
+ghost use Rattle.std.specs.Str.{IsCharBoundary};
+ghost use Rattle.java_tokens.specs.Tokens.{AreTokensOf, Tile};
+ghost use Rattle.java_bodies.specs.Sites.{hole_of};
+ghost use Rattle.java_units.specs.Units.{IsUnit};
+ghost use Rattle.java_units.specs.UnitLaws.{IsNested};
+ghost use Rattle.java_units.specs.Dimensions.{dims_of_bounds, greatest, type_dims};
+ghost use Rattle.scopes.specs.Holes.{IsHoleIn};
+
+use scopes::environment;
+use class_summary::Resolver;
+use decl_index::{Change, Index};
+use java_bodies::{HoleSite, hole_at};
+use java_tokens::{Token, tokens};
+use java_units::{Unit, read_unit};
+use lists::{Items, Text};
+use std::alloc::{AllocError, Global};
+use std::test::Fail;
+use terms::{Arg, Decl, Env, Form};
+
+/// A text's unit, and the site of a hole in it.
+#[derive(Drop)]
+struct Hole {
+    unit: Unit,
+    site: HoleSite,
+}
+
+/// The site of the hole at a place of a text with these tokens and this unit.
+fn site_in(
+    alloc: Global,
+    text: &str,
+    tokens: &[Token],
+    unit: &Unit,
+    place: u32,
+) -> Result<HoleSite, Fail>
+    requires own_tokens { AreTokensOf text.now tokens.now }
+    requires own_unit { IsUnit text.now tokens.now unit.now }
+    requires boundary { IsCharBoundary text.now place }
+    ensures { IfOk result (λ site. hole_of text.now tokens.now unit.now place ≡ Some site) }
+{
+    match hole_at(alloc, text, tokens, unit, place)? {
+        Some(site) => Ok(site),
+        None => Err(Fail::from("a hole")),
+    }
+}
+
+/// The hole at a place of a text with these tokens.
+fn hole_among(alloc: Global, text: &str, tokens: &[Token], place: u32) -> Result<Hole, Fail>
+    requires short { length text.now ≤ 16777216 }
+    requires own_tokens { AreTokensOf text.now tokens.now }
+    requires tile { Tile 0 (length text.now) tokens.now }
+    requires boundary { IsCharBoundary text.now place }
+    ensures { IfOk result (λ hole. IsHoleIn hole.unit hole.site) }
+{
+    let unit = read_unit(alloc, text, tokens)?;
+    let site = site_in(alloc, text, tokens, &unit, place)?;
+    Ok(Hole { unit, site })
+}
+
+/// The hole at a place of a text.
+fn hole_in(alloc: Global, text: &str, place: u32) -> Result<Hole, Fail>
+    ensures { IfOk result (λ hole. IsHoleIn hole.unit hole.site) }
+{
+    if text.len() > 16_777_216 || !text.is_char_boundary(place as usize) {
+        return Err(Fail::from("a place of a short text"));
+    }
+    let all = tokens(alloc, text)?;
+    let hole = hole_among(alloc, text, all.as_slice(), place)?;
+    Ok(hole)
+}
+
+/// The unit of a text.
+fn unit_of(alloc: Global, text: &str) -> Result<Unit, AllocError>
+    ensures nested { IfOk result (λ u. IsNested u.classes) }
+    ensures dims { IfOk result (λ u. greatest type_dims u.classes + dims_of_bounds u.classes < 2 ^ 64) }
+{
+    if text.len() > 16_777_216 {
+        return Err(AllocError);
+    }
+    let all = tokens(alloc, text)?;
+    read_unit(alloc, text, all.as_slice())
+}
+
+/// The index after one more publication.
+fn with_change(alloc: Global, index: &Index, change: &Change) -> Result<Index, Fail> {
+    if index.number() == u32::MAX {
+        return Err(Fail::from("few texts"));
+    }
+    index
+        .apply(alloc, change)
+        .map_err(|_| Fail::from("an index"))
+}
+
+/// The index of the classes of these texts, each of which sees those of the texts before it.
+fn published(alloc: Global, texts: [&str; 3]) -> Result<Index, Fail> {
+    let mut index = Index::empty(alloc)?;
+    for text in texts {
+        let unit = unit_of(alloc, text)?;
+        let change = Change::Publish {
+            puts: Resolver::new(alloc, &unit, &index)?.summaries(alloc)?,
+            removes: Items::new(alloc),
+            counts: Items::new(alloc),
+        };
+        index = with_change(alloc, &index, &change)?;
+    }
+    Ok(index)
+}
+
+/// The environment at a place of a text.
+fn made(alloc: Global, index: &Index, text: &str, place: u32) -> Result<Env, Fail> {
+    let hole = hole_in(alloc, text, place)?;
+    Ok(environment(alloc, index, &hole.unit, &hole.site, 45, 1)?)
+}
+
+/// The environment at the end of a text among the classes of other texts.
+fn made_among(alloc: Global, texts: [&str; 3], text: &str) -> Result<Env, Fail> {
+    let index = published(alloc, texts)?;
+    let place = u32::try_from(text.len()).map_err(|_| Fail::from("a short text"))?;
+    made(alloc, &index, text, place)
+}
+
+fn push_word(text: &mut Text, word: &str) -> Result<(), AllocError> {
+    text.push_str(word)?;
+    text.push_str(" ")
+}
+
+/// How a declaration is written.
+fn push_form(text: &mut Text, form: &Form) -> Result<(), AllocError> {
+    let (kind, name) = match form {
+        Form::Name(name) => ("name", name.as_str()),
+        Form::This => ("this", "this"),
+        Form::Call(name) => ("call", name.as_str()),
+        Form::New(name) => ("new", name.as_str()),
+        Form::Method(name) => ("method", name.as_str()),
+        Form::Field(name, true) => ("hidden", name.as_str()),
+        Form::Field(name, false) => ("field", name.as_str()),
+        Form::Lambda(name) => ("lambda", name.as_str()),
+    };
+    push_word(text, kind)?;
+    push_word(text, name)
+}
+
+fn push_type(text: &mut Text, env: &Env, number: u32) -> Result<(), AllocError> {
+    match env.parts().types.get(number as usize) {
+        Some(kind) => push_word(text, kind.as_str()),
+        None => Ok(()),
+    }
+}
+
+fn push_arg(text: &mut Text, env: &Env, arg: &Arg) -> Result<(), AllocError> {
+    match arg {
+        Arg::Plain(kind) => push_type(text, env, *kind),
+        Arg::Fun(params, result) => {
+            push_word(text, "fun")?;
+            for param in params.as_slice() {
+                push_type(text, env, *param)?;
+            }
+            push_type(text, env, *result)
+        }
+    }
+}
+
+/// A declaration as `WEIGHT FORM ARGUMENTS -> RESULT`, with `crowded` behind its weight where it is.
+fn push_decl(alloc: Global, text: &mut Text, env: &Env, decl: &Decl) -> Result<(), AllocError> {
+    let weight = decl.weight;
+    push_word(text, format!(in alloc; "{weight}")?.as_str())?;
+    if decl.crowded {
+        push_word(text, "crowded")?;
+    }
+    push_form(text, &decl.form)?;
+    for arg in decl.args.as_slice() {
+        push_arg(text, env, arg)?;
+    }
+    push_word(text, "->")?;
+    push_type(text, env, decl.result)?;
+    text.push_str("\n")
+}
+
+fn shown(alloc: Global, env: &Env) -> Result<Text, AllocError> {
+    let mut text = Text::new(alloc);
+    for kind in env.parts().types.as_slice() {
+        push_word(&mut text, kind.as_str())?;
+    }
+    text.push_str("\n")?;
+    for pair in env.parts().pairs.as_slice() {
+        push_type(&mut text, env, pair.0)?;
+        text.push_str("< ")?;
+        push_type(&mut text, env, pair.1)?;
+    }
+    text.push_str("\n")?;
+    for decl in env.parts().decls.as_slice() {
+        push_decl(alloc, &mut text, env, decl)?;
+    }
+    push_type(&mut text, env, env.parts().goal)?;
+    text.push_str(env.parts().binder.as_str())?;
+    Ok(text)
+}
+
+/// Classes of published texts, a text that ends in a hole, and its environment: types, pairs, declarations, goal and
+/// binder.
+const ROWS: [([&str; 3], &str, &str); 9] = [
+    (
+        [
+            "package q; public class A { public int m() {} }",
+            "package q; public class B extends A { public int m() {} }",
+            "",
+        ],
+        "package q; class Use { static void go(B b) { int r = ",
+        "int String A B Use boolean \nB < A \n5 name b -> B \n200 name 0 -> int \n200 name true -> boolean \n200 name false -> boolean \n200 name \"\" -> String \n25 method m A -> int \n25 crowded new A -> A \n25 crowded new B -> B \n20 new Use -> Use \nint p",
+    ),
+    (
+        [
+            "package q; public class T { public static int m(Object o) {} public static int m(String o) {} private T() {} }",
+            "",
+            "",
+        ],
+        "package q; class Use { static void go(String s) { int r = ",
+        "int Object String T Use boolean \nString < Object T < Object Use < Object \n5 name s -> String \n200 name 0 -> int \n200 name true -> boolean \n200 name false -> boolean \n200 name \"\" -> String \n25 crowded call T.m Object -> int \n25 crowded call T.m String -> int \n20 new Use -> Use \nint p",
+    ),
+    (
+        [
+            "package q; public interface I { int m(); }",
+            "package q; public interface J { int m(); }",
+            "package q; public class B implements I, J { private B() {} }",
+        ],
+        "package q; class Use { static void go(B b) { int r = ",
+        "int String B I J Use boolean \nB < I B < J \n5 name b -> B \n200 name 0 -> int \n200 name true -> boolean \n200 name false -> boolean \n200 name \"\" -> String \n25 crowded method m I -> int \n25 crowded method m J -> int \n20 new Use -> Use \n10 lambda I fun int -> I \n10 lambda J fun int -> J \nint p",
+    ),
+    (
+        [
+            "package java.io; public abstract class Reader { public Reader() {} }",
+            "package java.io; public class FileReader extends Reader { public FileReader(String s) {} }",
+            "package java.io; public class BufferedReader extends Reader { public BufferedReader(Reader r) {} }",
+        ],
+        "import java.io.*; class Demo { static void go(String name) { Reader r = ",
+        "int Demo BufferedReader FileReader Reader String boolean \nBufferedReader < Reader FileReader < Reader \n5 name name -> String \n200 name 0 -> int \n200 name true -> boolean \n200 name false -> boolean \n200 name \"\" -> String \n20 new Demo -> Demo \n1000 new BufferedReader Reader -> BufferedReader \n1000 new FileReader String -> FileReader \nReader p",
+    ),
+    (
+        ["", "", ""],
+        "class P { int k; void f(int k) { int z = ",
+        "int P String boolean \n\n5 this this -> P \n5 name k -> int \n200 name 0 -> int \n200 name true -> boolean \n200 name false -> boolean \n200 name \"\" -> String \n20 hidden k P -> int \n20 new P -> P \nint p",
+    ),
+    (
+        ["", "", ""],
+        "class P { int pp2; P(int p1) { int z = ",
+        "int P String boolean \n\n5 this this -> P \n5 name p1 -> int \n200 name 0 -> int \n200 name true -> boolean \n200 name false -> boolean \n200 name \"\" -> String \n20 field pp2 P -> int \n20 new P int -> P \nint ppp",
+    ),
+    (
+        [
+            "package q; public class A { public static int s; private A() {} }",
+            "",
+            "",
+        ],
+        "package p; import q.A; class Use { static void go(int B) { int r = ",
+        "int String Use A boolean \n\n5 name B -> int \n200 name 0 -> int \n200 name true -> boolean \n200 name false -> boolean \n200 name \"\" -> String \n20 new Use -> Use \n1000 name A.s -> int \nint p",
+    ),
+    (
+        [
+            "package q; public class A { public static int s; private A() {} }",
+            "",
+            "",
+        ],
+        "package p; import q.A; class Use { static void go(int A) { int r = ",
+        "int String Use A boolean \n\n5 name A -> int \n200 name 0 -> int \n200 name true -> boolean \n200 name false -> boolean \n200 name \"\" -> String \n20 new Use -> Use \nint p",
+    ),
+    (
+        [
+            "package q; public class A { public long[] f; private A() {} }",
+            "package q; public interface I { A m(long[] x); }",
+            "",
+        ],
+        "package p; import q.I; class Use { static void go(I i) { long[] r = ",
+        "int String Use q.A I boolean long[] \n\n5 name i -> I \n200 name 0 -> int \n200 name true -> boolean \n200 name false -> boolean \n200 name \"\" -> String \n20 new Use -> Use \n1000 method m I long[] -> q.A \n10 lambda I fun long[] q.A -> I \nlong[] p",
+    ),
+];
+
+#[test]
+fn each_hole_has_its_environment(rt: HostRuntime) -> Result<(), Fail> {
+    for (library, text, expected) in ROWS {
+        let env = made_among(rt.alloc(), library, text)?;
+        let all = shown(rt.alloc(), &env)?;
+        assert_eq!(rt; all.as_str(), expected);
+    }
+    Ok(())
+}
+
+/// A hole behind a comment with a character of four bytes, in a text whose lines end in two characters.
+#[test]
+fn a_hole_stands_behind_a_comment(rt: HostRuntime) -> Result<(), Fail> {
+    let text = "class D {\r\n  void f() {\r\n    /*\u{1F600}*/ int k = \r\n  }\r\n}\r\n";
+    let index = Index::empty(rt.alloc())?;
+    let env = made(rt.alloc(), &index, text, 46)?;
+    let all = shown(rt.alloc(), &env)?;
+    assert_eq!(rt;
+        all.as_str(),
+        "int D String boolean \n\n5 this this -> D \n200 name 0 -> int \n200 name true -> boolean \n200 name false -> boolean \n200 name \"\" -> String \n20 new D -> D \nint p"
+    );
+    Ok(())
+}

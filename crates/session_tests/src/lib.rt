@@ -1,0 +1,33 @@
+// Tests of versions, start texts, sessions and the program over ends in memory.
+// There is no other code here: a test is proved with the crate that it stands in, and a crate that held its own
+// tests would be proved twice.
+#![tactic(auto)]
+
+#[cfg(test)]
+mod board_tests;
+#[cfg(test)]
+mod client_tests;
+#[cfg(test)]
+mod frame_tests;
+#[cfg(test)]
+mod hub_tests;
+#[cfg(test)]
+mod method_tests;
+#[cfg(test)]
+mod part_tests;
+#[cfg(test)]
+mod run_tests;
+#[cfg(test)]
+mod serve_tests;
+#[cfg(test)]
+mod shared_page_tests;
+#[cfg(test)]
+mod snapshot_tests;
+#[cfg(test)]
+mod start_tests;
+#[cfg(test)]
+mod step_tests;
+#[cfg(test)]
+mod version_tests;
+#[cfg(test)]
+mod word_tests;

@@ -1,0 +1,103 @@
+ghost use Rattle.std.specs.Prelude.{◌≡◌, [], IfOk};
+ghost use Rattle.std.specs.Arc.{arc_value};
+ghost use Rattle.version_board.specs.Versions.{IsVersion};
+
+use sessions::{FixedWorld, Outcome, Session, World};
+use std::alloc::{AllocError, Global};
+use std::marker::Brand;
+use std::sync::{Arc, Wait};
+use std::test::Fail;
+use version_board::Snapshot;
+
+const INITIALIZE: &str = r#"{"jsonrpc":"2.0","id":1,"method":"initialize","params":{}}"#;
+
+const SHUTDOWN: &str = r#"{"jsonrpc":"2.0","id":2,"method":"shutdown"}"#;
+
+const EXIT: &str = r#"{"jsonrpc":"2.0","method":"exit"}"#;
+
+const EARLY: &str = r#"{"jsonrpc":"2.0","id":1,"method":"textDocument/completion","params":{}}"#;
+
+const STOPPED: &str = r#"{"id":2,"jsonrpc":"2.0","result":null}"#;
+
+const NO_JSON: &str =
+    r#"{"error":{"code":-32700,"message":"parse error"},"id":null,"jsonrpc":"2.0"}"#;
+
+const TOO_EARLY: &str =
+    r#"{"error":{"code":-32002,"message":"not initialized"},"id":1,"jsonrpc":"2.0"}"#;
+
+/// The version 0.
+fn version(alloc: Global) -> Result<Arc<Snapshot, Global>, AllocError>
+    ensures { IfOk result (λ at. IsVersion [] (arc_value at)) }
+{
+    let snapshot = Snapshot::empty(alloc)?;
+    Arc::new(alloc, snapshot).map_err(|_| AllocError)
+}
+
+/// The outcome of the last of these bodies.
+fn step_each<W: World>(
+    alloc: Global,
+    session: &mut Session,
+    world: &mut W,
+    bodies: &[&str],
+) -> Result<Outcome, AllocError> {
+    let mut outcome = Outcome::Silent;
+    for body in bodies {
+        outcome = session.step(alloc, body.as_bytes(), world)?;
+    }
+    Ok(outcome)
+}
+
+/// The same in a new session over the version 0.
+fn last<R: Wait>(rt: &R, alloc: Global, bodies: &[&str]) -> Result<Outcome, AllocError> {
+    let at = version(alloc)?;
+    let mut world = FixedWorld::<Brand, R>::new(rt, alloc, &at)?;
+    let mut session = Session::new(alloc);
+    step_each(alloc, &mut session, &mut world, bodies)
+}
+
+/// Whether the last of these bodies is replied so.
+fn replies<R: Wait>(
+    rt: &R,
+    alloc: Global,
+    bodies: &[&str],
+    reply: &str,
+) -> Result<bool, AllocError> {
+    match last(rt, alloc, bodies)? {
+        Outcome::Reply(bytes) => Ok(bytes.as_slice() == reply.as_bytes()),
+        _ => Ok(false),
+    }
+}
+
+/// Whether the last of these bodies ends the session, after `shutdown` or not.
+fn exits<R: Wait>(
+    rt: &R,
+    alloc: Global,
+    bodies: &[&str],
+    is_stopped: bool,
+) -> Result<bool, AllocError> {
+    match last(rt, alloc, bodies)? {
+        Outcome::Exit(stopped) => Ok(stopped == is_stopped),
+        _ => Ok(false),
+    }
+}
+
+#[test]
+fn a_completion_before_initialize_is_refused(rt: HostRuntime) -> Result<(), Fail> {
+    assert!(rt; replies(&rt, rt.alloc(), &[EARLY], TOO_EARLY)?);
+    Ok(())
+}
+
+#[test]
+fn a_body_that_is_no_json_does_not_end_the_session(rt: HostRuntime) -> Result<(), Fail> {
+    assert!(rt; replies(&rt, rt.alloc(), &["{"], NO_JSON)?);
+    assert!(rt; replies(&rt, rt.alloc(), &["{", EARLY], TOO_EARLY)?);
+    Ok(())
+}
+
+#[test]
+fn an_exit_tells_whether_shutdown_came_before(rt: HostRuntime) -> Result<(), Fail> {
+    assert!(rt; replies(&rt, rt.alloc(), &[INITIALIZE, SHUTDOWN], STOPPED)?);
+    assert!(rt; exits(&rt, rt.alloc(), &[INITIALIZE, SHUTDOWN, EXIT], true)?);
+    assert!(rt; exits(&rt, rt.alloc(), &[EXIT], false)?);
+    Ok(())
+}
