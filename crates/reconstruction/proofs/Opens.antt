@@ -21,7 +21,7 @@ use Rattle.patterns.specs.States.{types_at, left_at, kinds_of, IsListed, IsOpenN
 use Rattle.patterns.specs.declared.state.State.{State}
 use Rattle.patterns.specs.declared.wanted.Wanted.{Wanted}
 use Rattle.patterns.proofs.Contexts.{set_of-more}
-use Rattle.patterns.proofs.Meaning.{lambda-there, plain-sought}
+use Rattle.patterns.proofs.Meaning.{get-pair, lambda-there, plain-sought}
 use Rattle.patterns.proofs.Mets.{in_ends}
 use Rattle.patterns.proofs.Tables.{remap}
 use Rattle.partial_terms.specs.Leasts.{AllPlaces}
