@@ -1,9 +1,10 @@
 -- The classes of a version with one publication, published, give that version.
+use Rattle.std.specs.Option.{option_or}
 use Rattle.std.proofs.Common.{◌≡◌, Bool, true, false, List, [], ◌∷◌, map, Option, Some, None, refl, sym, ap, subst, ◌∙◌, append-nil, bytes_eq}
 use Rattle.std.specs.Prelude.{if◌then◌else◌}
 use Rattle.known_classes.specs.declared.summary.ClassSummary.{ClassSummary}
 use Rattle.known_classes.specs.Known.{class_named}
-use Rattle.decl_index.specs.History.{Name, put, or_else, decided, told, class_in, Rises}
+use Rattle.decl_index.specs.History.{Name, put, decided, told, class_in, Rises}
 use Rattle.decl_index.proofs.Names.{same-true, apart_back}
 use Rattle.decl_index.proofs.Sorted.{Above}
 use Rattle.version_board.specs.declared.snapshot.Snapshot.{Snapshot}
@@ -17,12 +18,12 @@ unfolding decided
 unsaid n [] h = refl
 unsaid n (c ∷ cs) h = rw (unsaid n cs h.1, apart_back n c.name h.0) refl
 
-or-none : (o : Option (Option ClassSummary)) → told (or_else o None) ≡ told o
+or-none : (o : Option (Option ClassSummary)) → told (option_or o None) ≡ told o
 or-none None = refl
 or-none (Some c) = refl
 
 one-said : (b : Bool) (n : Name) (c : ClassSummary) (cs : List ClassSummary) → bytes_eq n c.name ≡ b → Above c.name cs → class_named cs n ≡ told (decided n (map put cs))
-    → (if b then Some c else class_named cs n) ≡ told (or_else (decided n (map put cs)) (if b then Some (Some c) else None))
+    → (if b then Some c else class_named cs n) ≡ told (option_or (decided n (map put cs)) (if b then Some (Some c) else None))
 one-said true n c cs e above h =
     let is : c.name ≡ n = same-true c.name n e in
     rw (unsaid n cs (subst (λ m. Above m cs) is above)) refl

@@ -11,7 +11,7 @@ use Rattle.decl_index.specs.Refusals.{Refuses}
 use Rattle.decl_index.specs.declared.change.Change.{Change}
 use Rattle.decl_index.specs.declared.change.ChangeFault.{ChangeFault}
 use Rattle.decl_index.specs.declared.change.ChangeFault.TheVariants as change
-use Rattle.decl_index.specs.History.{or_else}
+use Rattle.std.specs.Option.{option_or}
 use Rattle.version_board.specs.Versions.{IsVersion}
 use Rattle.decl_index.proofs.HistoryLaws.{one_refusal}
 use Rattle.version_board.specs.declared.snapshot.Snapshot.{Snapshot}
@@ -88,8 +88,8 @@ answered-whole unique files name (Err fault) classes (inl free) start lawful = f
 answered-whole unique files name (Err fault) classes (inr wrong) start lawful = absurd (none-wrong unique files name fault (record { classes = classes; start = start; lawful = lawful }) wrong)
 
 -- A start by its text and its files.
-whole-sound : (files : List HeldFile) (text : List ℕ) (held : Option (List ℕ)) → held ≡ Some text → text_fault held ≡ None → first_file_fault files (paths_in text) ≡ None → or_else (text_fault held) (first_file_fault files (paths_of held)) ≡ None
-whole-sound files text held is sound rest = ap (λ t. or_else t (first_file_fault files (paths_of held))) sound ∙ ap (λ o. first_file_fault files (paths_of o)) is ∙ rest
+whole-sound : (files : List HeldFile) (text : List ℕ) (held : Option (List ℕ)) → held ≡ Some text → text_fault held ≡ None → first_file_fault files (paths_in text) ≡ None → option_or (text_fault held) (first_file_fault files (paths_of held)) ≡ None
+whole-sound files text held is sound rest = ap (λ t. option_or t (first_file_fault files (paths_of held))) sound ∙ ap (λ o. first_file_fault files (paths_of o)) is ∙ rest
 
 pub starts : (files : List HeldFile) (name text : List ℕ) (r : Result (List ClassSummary) StartFault) → held_under files name ≡ Some text → text_fault (held_under files name) ≡ None → Meets (first_file_fault files (paths_in text)) r → IfOk r (λ classes. AreClassesOf files (paths_in text) classes) → IfOk r (λ classes. IsStart files name classes)
 starts files name text (Ok classes) held sound meets are = record {

@@ -9,7 +9,7 @@ use Rattle.class_shape.specs.Violations.{first_violation}
 use Rattle.class_shape.specs.declared.shapes.ClassShape.{ClassShape}
 use Rattle.class_summary.specs.Summaries.{summary_of}
 use Rattle.known_classes.specs.declared.summary.ClassSummary.{ClassSummary}
-use Rattle.decl_index.specs.History.{or_else}
+use Rattle.std.specs.Option.{option_or}
 use Rattle.decl_index.specs.Refusals.{Refuses}
 use Rattle.decl_index.specs.declared.change.Change.{Change}
 use Rattle.decl_index.specs.declared.change.Change.TheVariants.{Publish}
@@ -34,7 +34,7 @@ first_file_fault files paths = slice_get (filter_map (λ path. file_fault path.0
 
 -- What is wrong with the text held under a name, and then with the files of its paths.
 abbrev pub first_fault : List HeldFile → List ℕ → Option StartFault
-first_fault files name = or_else (text_fault (held_under files name)) (first_file_fault files (paths_of (held_under files name)))
+first_fault files name = option_or (text_fault (held_under files name)) (first_file_fault files (paths_of (held_under files name)))
 
 -- The bytes held are a class file, and the class is its summary.
 pub record IsClassOf (held : Option (List ℕ)) (class : ClassSummary) : Type 0 where
