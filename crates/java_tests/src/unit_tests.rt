@@ -1,7 +1,7 @@
+use java_tokens::tokens;
 use java_units::{
     ClassKind, Import, SourceClass, SourceField, SourceMethod, TypeText, TypeVar, Unit, read_unit,
 };
-use java_tokens::tokens;
 use lists::{Items, Text};
 use std::alloc::{AllocError, Global};
 use std::test::Fail;

@@ -1,9 +1,9 @@
+use json_rpc::Refused;
+use lists::Text;
 use lsp_forms::{
     Command, ItemForm, ParamFault, make_capabilities, make_list, make_version, read_command,
     read_completion, read_did_change, read_did_close, read_did_open, read_initialize,
 };
-use json_rpc::Refused;
-use lists::Text;
 use serde_json::Value;
 use std::alloc::Global;
 use std::test::Fail;

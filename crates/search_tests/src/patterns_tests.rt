@@ -1,7 +1,7 @@
 ghost use Rattle.std.specs.Prelude.{◌≤◌};
 
-use patterns::Patterns;
 use lists::{Items, Text};
+use patterns::Patterns;
 use std::alloc::{AllocError, Global};
 use succinct::Compressed;
 use terms::{Arg, Decl, Env, EnvFault, Form, Parts};

@@ -1,5 +1,5 @@
-use reconstruction::Rebuild;
 use lists::{Items, Text};
+use reconstruction::Rebuild;
 use std::alloc::{AllocError, Global};
 use terms::{Arg, Decl, Env, EnvFault, Form, Level, Levels, Parts, Term, TermArg};
 

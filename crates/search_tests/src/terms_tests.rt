@@ -1,7 +1,7 @@
-use terms::{Arg, Ctx, Decl, Env, EnvFault, Form, Parts, Term, TermArg};
 use lists::{Copies, Items, Text};
 use std::alloc::Global;
 use std::process::Abort;
+use terms::{Arg, Ctx, Decl, Env, EnvFault, Form, Parts, Term, TermArg};
 
 /// What is told of a small environment: the types int, long and short, `decl 5 int name x` and one more
 /// declaration.
