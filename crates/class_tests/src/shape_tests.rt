@@ -1,5 +1,5 @@
-use class_shape::{ClassShape, read_class};
 use class_pool::{ClassCause, ClassFault};
+use class_shape::{ClassShape, read_class};
 use std::test::*;
 
 /// `class A extends java/lang/Object`, without members.

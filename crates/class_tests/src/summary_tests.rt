@@ -1,5 +1,5 @@
-use class_summary::{ClassSummary, canonical_name, from_shape, internal_name};
 use class_shape::{ClassShape, InnerRow, MemberShape, read_class};
+use class_summary::{ClassSummary, canonical_name, from_shape, internal_name};
 use java_units::{ClassKind, SourceClass, Unit};
 use lists::{Copies, Items, Text};
 use std::alloc::{AllocError, Global};

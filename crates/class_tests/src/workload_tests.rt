@@ -1,8 +1,8 @@
-use workload::{WriteFault, is_whole, write_class};
 use class_shape::{ClassShape, MemberShape, read_class};
 use lists::{Items, Text};
 use std::alloc::{AllocError, Global};
 use std::test::*;
+use workload::{WriteFault, is_whole, write_class};
 
 /// `class A extends java/lang/Object`, without members.
 const A: [u8; 53] = [
