@@ -4,13 +4,13 @@ ghost use Rattle.java_units.specs.UnitLaws.{IsNested};
 ghost use Rattle.java_units.specs.Dimensions.{dims_of_bounds, greatest, type_dims};
 ghost use Rattle.offers.specs.Sites.{IsSiteOf};
 
-use offers::{Offer, offered_members};
 use class_summary::Resolver;
 use decl_index::{Change, Index};
 use java_bodies::HoleSite;
 use java_tokens::tokens;
 use java_units::{TypeText, Unit, read_unit};
 use lists::{Items, Text};
+use offers::{Offer, offered_members};
 use std::alloc::{AllocError, Global};
 use std::test::Fail;
 use type_names::descriptor;

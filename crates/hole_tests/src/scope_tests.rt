@@ -8,13 +8,13 @@ ghost use Rattle.java_units.specs.UnitLaws.{IsNested};
 ghost use Rattle.java_units.specs.Dimensions.{dims_of_bounds, greatest, type_dims};
 ghost use Rattle.scopes.specs.Holes.{IsHoleIn};
 
-use scopes::environment;
 use class_summary::Resolver;
 use decl_index::{Change, Index};
 use java_bodies::{HoleSite, hole_at};
 use java_tokens::{Token, tokens};
 use java_units::{Unit, read_unit};
 use lists::{Items, Text};
+use scopes::environment;
 use std::alloc::{AllocError, Global};
 use std::test::Fail;
 use terms::{Arg, Decl, Env, Form};
