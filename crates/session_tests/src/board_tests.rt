@@ -2,7 +2,6 @@ ghost use Rattle.std.specs.Prelude.{◌≡◌};
 ghost use Rattle.version_board.specs.Versions.{IsVersion};
 
 use crate::snapshot_tests::one_class;
-use version_board::{Naming, Opened, Pass, Publisher, Receipt, Refusal, Snapshot, start_board};
 use decl_index::Change;
 use known_classes::Classes;
 use std::alloc::{AllocError, Global};
@@ -10,6 +9,7 @@ use std::marker::Brand;
 use std::process::Abort;
 use std::sync::{Mutex, Wait};
 use std::test::Fail;
+use version_board::{Naming, Opened, Pass, Publisher, Receipt, Refusal, Snapshot, start_board};
 
 /// The number of the receipt and 0, or that of the refusal's receipt and the number of its cause.
 fn told<J: Naming>(answer: &Result<Receipt<J>, Refusal<J>>) -> (u32, u32) {

@@ -2,10 +2,10 @@ ghost use Rattle.std.specs.Prelude.{◌≤◌, [], IfOk};
 ghost use Rattle.std.specs.Arc.{arc_value};
 ghost use Rattle.version_board.specs.Versions.{IsVersion};
 
-use sessions::{Client, Ended, FixedWorld, Past, Session, World, serve_client};
 use json_rpc::{Frames, write_frame};
 use lists::Items;
 use outside::{End, FaultPlan, MemSink, MemSource};
+use sessions::{Client, Ended, FixedWorld, Past, Session, World, serve_client};
 use std::alloc::{AllocError, Global};
 use std::marker::Brand;
 use std::sync::{Arc, Wait};

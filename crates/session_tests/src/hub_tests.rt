@@ -2,12 +2,12 @@ ghost use Rattle.std.specs.Prelude.{◌≡◌, ◌<◌, ◌≤◌};
 ghost use Rattle.version_board.specs.Versions.{IsVersion};
 
 use crate::shared_page_tests::{calls, names, pops};
-use sessions::{Hub, RunningWorld, World, print_of, shared_page};
 use answers::Page;
 use listing::Listing;
 use lists::Items;
 use outside::SteadyShelf;
 use reconstruction::Rebuild;
+use sessions::{Hub, RunningWorld, World, print_of, shared_page};
 use shared_shelf::SharedShelf;
 use std::alloc::{AllocError, Global};
 use std::marker::Brand;

@@ -1,11 +1,11 @@
-use sessions::{
-    Cursors, Failure, OpenDocuments, failure_reply, makes_change, result_reply, text_in, uri_in,
-};
 use answers::DocumentState;
 use json_rpc::Id;
 use lists::{Items, Text};
 use lsp_forms::ChangeForm;
 use serde_json::Value;
+use sessions::{
+    Cursors, Failure, OpenDocuments, failure_reply, makes_change, result_reply, text_in, uri_in,
+};
 use std::alloc::{AllocError, Global};
 use std::test::Fail;
 

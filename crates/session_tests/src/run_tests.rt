@@ -1,6 +1,6 @@
-use serving::{Status, run};
 use lists::Items;
 use outside::{End, FaultPlan, MemSink, MemSource, SteadyShelf, SteadySink, SteadySource};
+use serving::{Status, run};
 use std::alloc::{AllocError, Global};
 use std::sync::Wait;
 

@@ -1,6 +1,6 @@
-use serving::{Status, run};
 use lists::{Items, Text};
 use outside::{End, FaultPlan, HeldFile, MemShelf, MemSink, MemSource};
+use serving::{Status, run};
 use std::alloc::{AllocError, Global};
 use std::sync::Wait;
 use std::test::Fail;

@@ -1,10 +1,10 @@
 ghost use Rattle.std.specs.Prelude.{◌<◌, ◌≤◌};
 
-use sessions::{print_of, shared_page};
 use answers::Page;
 use listing::Listing;
 use lists::{Items, Text};
 use reconstruction::Rebuild;
+use sessions::{print_of, shared_page};
 use shared_shelf::SharedShelf;
 use std::alloc::{AllocError, Global};
 use std::sync::Wait;

@@ -1,9 +1,9 @@
-use version_board::{Snapshot, version_laws};
 use decl_index::{Change, ChangeFault};
 use known_classes::{ClassSummary, Classes};
 use lists::{Items, Text};
 use std::alloc::{AllocError, Global};
 use std::test::Fail;
+use version_board::{Snapshot, version_laws};
 
 /// A public class with this super class.
 fn class(alloc: Global, name: &str, parent: &str) -> Result<ClassSummary, AllocError> {

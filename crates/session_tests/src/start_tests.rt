@@ -1,8 +1,8 @@
-use start_text::{StartFault, read_start};
 use decl_index::Index;
 use known_classes::Classes;
 use lists::{Items, Text};
 use outside::{FaultPlan, HeldFile, LONGEST_LOAD, MemShelf, Shelf};
+use start_text::{StartFault, read_start};
 use std::alloc::{AllocError, Global};
 use std::test::Fail;
 use version_board::Snapshot;

@@ -2,13 +2,13 @@ ghost use Rattle.std.specs.Prelude.{◌≡◌, ◌∷◌, [], IfOk};
 ghost use Rattle.std.specs.Arc.{arc_value};
 ghost use Rattle.version_board.specs.Versions.{IsVersion};
 
-use sessions::Past;
 use crate::client_tests::{Left, serve_at};
 use crate::frame_tests::{CAPABILITIES, INITIALIZE, framed};
 use decl_index::Change;
 use known_classes::{ClassSummary, MethodSummary};
 use lists::{Items, Text};
 use outside::{FaultPlan, MemSink, MemSource};
+use sessions::Past;
 use std::alloc::{AllocError, Global};
 use std::marker::Brand;
 use std::sync::{Arc, Wait};

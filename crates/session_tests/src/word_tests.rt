@@ -1,4 +1,4 @@
-use serving::words::{Command, read_command};
+use serving::{Command, read_command};
 use std::alloc::{AllocError, Global};
 
 /// Words, and the start text of their `serve`, if they have one.
