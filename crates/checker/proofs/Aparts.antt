@@ -1,27 +1,11 @@
 -- Floors of one state, and the whole check.
-use Rattle.std.proofs.Common.{◌≡◌, ◌≢◌, ◌≤◌, ◌<◌, ℕ, ◌+◌, true, false, List, [], ◌∷◌, length, drop, get_or, slice_get, Some, refl, sym, ap, ◌∙◌, subst, arith}
+use Rattle.std.proofs.Common.{◌≡◌, ◌≢◌, ◌≤◌, ◌<◌, ℕ, zero, suc, ◌+◌, Bool, true, false, List, [], ◌∷◌, length, drop, get_or, slice_get, Some, refl, sym, ap, ◌∙◌, subst, arith}
 use Rattle.std.specs.Prelude.{if◌then◌else◌}
 use Rattle.std.proofs.lemmas.List.{drop_more, drop_all}
 use Rattle.std.proofs.lemmas.Bool.{false≢true}
 use Rattle.terms.specs.declared.parts.Parts.{Parts}
 use Rattle.checker.specs.declared.floor.Floor.{Floor}
-use Rattle.checker.specs.Floors.{is_at, is_among, are_apart, IsFloor, FloorsHold}
-
-pub among-end : (f : Floor) (i : ℕ) (fs : List Floor) → length fs ≤ i → is_among f (drop i fs) ≡ false
-unfolding is_among
-among-end f i fs l = rw (drop_all i fs l) refl
-
-among-more : (f : Floor) (i : ℕ) (fs : List Floor) (d : Floor) → i < length fs → is_among f (drop i fs) ≡ (if is_at f.set f.left f.goal (get_or fs i d) then true else is_among f (drop (i + 1) fs))
-unfolding is_among
-among-more f i fs d l = rw (drop_more fs i d l) refl
-
-pub among-on : (f : Floor) (i : ℕ) (fs : List Floor) (d : Floor) → i < length fs → d ≡ get_or fs i d → false ≡ is_at f.set f.left f.goal d → is_among f (drop i fs) ≡ is_among f (drop (i + 1) fs)
-among-on f i fs d l is e = among-more f i fs d l ∙ ap (λ b. if b then true else is_among f (drop (i + 1) fs)) (ap (is_at f.set f.left f.goal) (sym is) ∙ sym e)
-
-pub among-here : (f : Floor) (i : ℕ) (fs : List Floor) (d : Floor) → i < length fs → d ≡ get_or fs i d → true ≡ is_at f.set f.left f.goal d → is_among f (drop i fs) ≡ true
-among-here f i fs d l is e = among-more f i fs d l ∙ ap (λ b. if b then true else is_among f (drop (i + 1) fs)) (ap (is_at f.set f.left f.goal) (sym is) ∙ sym e)
-
-pub ruleset among = (among-end, among-on, among-here)
+use Rattle.checker.specs.Floors.{is_among, are_apart, IsFloor, FloorsHold}
 
 pub apart-end : (i : ℕ) (fs : List Floor) → length fs ≤ i → are_apart (drop i fs) ≡ true
 unfolding are_apart
@@ -36,6 +20,25 @@ apart-on i fs d l is e = apart-more i fs d l ∙ ap (λ b. if b then false else 
 
 pub apart-off : (i : ℕ) (fs : List Floor) (d : Floor) → i < length fs → d ≡ get_or fs i d → true ≡ is_among d (drop (i + 1) fs) → are_apart (drop i fs) ≡ false
 apart-off i fs d l is e = apart-more i fs d l ∙ ap (λ b. if b then false else are_apart (drop (i + 1) fs)) (ap (λ x. is_among x (drop (i + 1) fs)) (sym is) ∙ sym e)
+
+rest_true : (b x : Bool) → (if b then false else x) ≡ true → x ≡ true
+rest_true true x e = absurd (false≢true e)
+rest_true false x e = e
+
+-- floors that are apart are so from a place on
+pub apart-later : (i : ℕ) (fs : List Floor) → are_apart fs ≡ true → are_apart (drop i fs) ≡ true
+unfolding are_apart
+apart-later zero fs e = e
+apart-later (suc i) [] e = e
+apart-later (suc i) (f ∷ fs) e = apart-later i fs (rest_true (is_among f fs) (are_apart fs) e)
+
+-- so floors that aren't apart from a place on aren't apart
+repeated : (b : Bool) → (b ≡ true → true ≡ false) → b ≡ false
+repeated true e = absurd (false≢true (sym (e refl)))
+repeated false e = refl
+
+pub apart-never : (i : ℕ) (fs : List Floor) → are_apart (drop i fs) ≡ false → are_apart fs ≡ false
+apart-never i fs e = repeated (are_apart fs) (λ t. sym (apart-later i fs t) ∙ e)
 
 pub ruleset aparts = (apart-end, apart-on, apart-off)
 

@@ -10,3 +10,4 @@ pub mod PlaceLists
 pub mod Lookups
 pub mod Meets
 pub mod Aparts
+pub mod Tables

@@ -3,6 +3,7 @@ pub mod Rows
 pub mod Frames
 pub mod OpenParts
 pub mod Floors
+pub mod States
 pub mod Places
 pub mod Checks
 pub mod Heads

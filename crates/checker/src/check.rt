@@ -1,55 +1,30 @@
-ghost use Rattle.std.specs.Prelude.{◌≡◌, ◌≤◌, ◌<◌, ℕ, [], true, false, drop, length, slice_get, Some, None, IfOk, IfSome, IfNone};
+ghost use Rattle.std.specs.Prelude.{◌≡◌, ℕ, [], true, false, slice_get, Some, None, IfOk, IfSome, IfNone};
 ghost use Rattle.checker.specs.declared.floor.Floor.{Floor};
 ghost use Rattle.checker.specs.Heads.{AreHeads};
-ghost use Rattle.checker.specs.Floors.{is_among, are_apart, IsFirst, IsFloor, FloorsHold};
+ghost use Rattle.checker.specs.Floors.{IsFloor, FloorsHold};
 
 use crate::floor::Floor;
+use crate::floor_table::FloorTable;
 use crate::heads::{Heads, heads_of};
 use crate::reaches::holds;
-use crate::rest::is_at;
 use std::alloc::{AllocError, Global};
 use terms::Env;
 
-/// Whether a floor of the same state stands at this place or later.
-#[tactic(auto, using(crate::proofs::Aparts::among))]
-fn is_among(floor: &Floor, floors: &[Floor], from: usize) -> bool
-    requires within { from ≤ length floors.now }
-    ensures { result ≡ is_among floor.now (drop from floors.now) }
-{
-    let mut i = from;
-    while i < floors.len() {
-        if is_at(floor.set.as_slice(), floor.left, floor.goal, &floors[i]) {
-            return true;
-        }
-        i += 1;
-    }
-    false
-}
-
-/// Whether no two floors are of one state.
-#[tactic(auto, using(crate::proofs::Aparts::aparts))]
-fn are_apart(floors: &[Floor]) -> bool
-    ensures { result ≡ are_apart floors.now }
-{
-    let mut i = 0;
-    while i < floors.len() {
-        if is_among(&floors[i], floors, i + 1) {
-            return false;
-        }
-        i += 1;
-    }
-    true
-}
-
 /// Whether each floor holds.
-fn each_holds(alloc: Global, env: &Env, heads: &Heads, floors: &[Floor]) -> Result<bool, AllocError>
+fn each_holds(
+    alloc: Global,
+    env: &Env,
+    heads: &Heads,
+    table: &FloorTable,
+) -> Result<bool, AllocError>
     requires heads { AreHeads env.now heads.now }
-    ensures yes { IfOk result (λ r. r ≡ true → (k : ℕ) (f : Floor) → slice_get floors.now k ≡ Some f → IsFloor env.now floors.now f) }
-    ensures no { IfOk result (λ r. r ≡ false → ((k : ℕ) (f : Floor) → slice_get floors.now k ≡ Some f → IsFloor env.now floors.now f) → ⊥) }
+    ensures yes { IfOk result (λ r. r ≡ true → (k : ℕ) (f : Floor) → slice_get table.now k ≡ Some f → IsFloor env.now table.now f) }
+    ensures no { IfOk result (λ r. r ≡ false → ((k : ℕ) (f : Floor) → slice_get table.now k ≡ Some f → IsFloor env.now table.now f) → ⊥) }
 {
+    let floors = table.floors();
     let mut i = 0;
     while i < floors.len() {
-        if !holds(alloc, env, heads, floors, &floors[i])? {
+        if !holds(alloc, env, heads, table, &floors[i])? {
             return Ok(false);
         }
         i += 1;
@@ -82,11 +57,12 @@ pub fn check_floors(alloc: Global, env: &Env, floors: &[Floor]) -> Result<Option
     if !is_first(env, first) {
         return Ok(None);
     }
-    if !are_apart(floors) {
-        return Ok(None);
-    }
+    let table = match FloorTable::new(alloc, floors)? {
+        Some(table) => table,
+        None => return Ok(None),
+    };
     let heads = heads_of(alloc, env)?;
-    if !each_holds(alloc, env, &heads, floors)? {
+    if !each_holds(alloc, env, &heads, &table)? {
         return Ok(None);
     }
     Ok(Some(first.floor))

@@ -7,6 +7,7 @@
 
 mod check;
 mod floor;
+mod floor_table;
 mod heads;
 mod item;
 mod law;
@@ -18,6 +19,7 @@ mod rest;
 mod row;
 mod sets;
 mod spots;
+mod state;
 
 pub use check::check_floors;
 pub use floor::Floor;

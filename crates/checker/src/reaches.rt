@@ -7,6 +7,7 @@ ghost use Rattle.checker.specs.Checks.{head_reaches, found_reaches, places_reach
 ghost use Rattle.checker.specs.Heads.{AreHeads, TypeReaches, PairReaches, LowersReach};
 
 use crate::floor::Floor;
+use crate::floor_table::FloorTable;
 use crate::heads::Heads;
 use crate::numbers::list_at;
 use crate::rest::rest_of;
@@ -18,7 +19,7 @@ use terms::{Decl, Env};
 fn head_reaches(
     alloc: Global,
     env: &Env,
-    floors: &[Floor],
+    floors: &FloorTable,
     floor: &Floor,
     decl: &Decl,
 ) -> Result<bool, AllocError>
@@ -45,7 +46,7 @@ fn head_reaches(
 fn found_reaches(
     alloc: Global,
     env: &Env,
-    floors: &[Floor],
+    floors: &FloorTable,
     floor: &Floor,
     number: u32,
 ) -> Result<bool, AllocError>
@@ -63,7 +64,7 @@ fn found_reaches(
 fn places_reach(
     alloc: Global,
     env: &Env,
-    floors: &[Floor],
+    floors: &FloorTable,
     floor: &Floor,
     numbers: &[u32],
 ) -> Result<bool, AllocError>
@@ -85,7 +86,7 @@ fn type_reaches(
     alloc: Global,
     env: &Env,
     heads: &Heads,
-    floors: &[Floor],
+    floors: &FloorTable,
     floor: &Floor,
     lower: u32,
 ) -> Result<bool, AllocError>
@@ -105,7 +106,7 @@ fn pair_reaches(
     alloc: Global,
     env: &Env,
     heads: &Heads,
-    floors: &[Floor],
+    floors: &FloorTable,
     floor: &Floor,
     number: u32,
 ) -> Result<bool, AllocError>
@@ -125,7 +126,7 @@ fn lowers_reach(
     alloc: Global,
     env: &Env,
     heads: &Heads,
-    floors: &[Floor],
+    floors: &FloorTable,
     floor: &Floor,
 ) -> Result<bool, AllocError>
     requires heads { AreHeads env.now heads.now }
@@ -193,7 +194,7 @@ pub(crate) fn holds(
     alloc: Global,
     env: &Env,
     heads: &Heads,
-    floors: &[Floor],
+    floors: &FloorTable,
     floor: &Floor,
 ) -> Result<bool, AllocError>
     requires heads { AreHeads env.now heads.now }

@@ -5,7 +5,7 @@ use Rattle.checker.proofs.check.each_holds.Given as goal
 
 abbrev pub invariant-loop-i : goal.invariant-loop-i
 invariant-loop-i l = record {
-  so_far : (k : ℕ) (f : Floor) → k < l.i → slice_get l.floors k ≡ Some f → IsFloor l.env l.floors f;
+  so_far : (k : ℕ) (f : Floor) → k < l.i → slice_get l.floors k ≡ Some f → IsFloor l.env l.table f;
 }
 
 abbrev pub decreases-loop-i : goal.decreases-loop-i

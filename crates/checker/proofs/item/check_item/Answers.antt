@@ -14,7 +14,7 @@ returns-in_default-clause-no_item c = λ w item. item-none c.args.env.now c.args
 
 pub returns-then-total-from-clause-no_item : goal.returns-then-total-from-clause-no_item
 returns-then-total-from-clause-no_item c = λ w item.
-    let step : c.step.result ≡ step_in c.args.env.now (Some c.in-Some.first.now.result) c.args.env.now.goal = c.step.ensures ∙ ap (λ (g : Parts). step_in c.args.env.now (Some c.in-Some.first.now.result) g.goal) c.parts-parts.ensures.value in
+    let step : c.step.result ≡ step_in c.args.env.now (Some c.in-Some.first.now.result) c.args.env.now.goal = c.step.ensures.value ∙ ap (λ (g : Parts). step_in c.args.env.now (Some c.in-Some.first.now.result) g.goal) c.parts-parts.ensures.value in
     item-heavy c.args.env.now c.args.rows.now c.in-Some.first.now w (sym c.in-Some.ensures.value) (omega (arith, step, ap (λ (g : Parts). g.limit) c.parts-parts.ensures.value)) item
 
 pub overflow_cast-result : goal.overflow_cast-result
@@ -25,7 +25,7 @@ overflow_cast-result c =
 
 pub returns-in-Some-2-clause-item : goal.returns-in-Some-2-clause-item
 returns-in-Some-2-clause-item c =
-    let step : c.step.result ≡ step_in c.args.env.now (Some c.in-Some.first.now.result) c.args.env.now.goal = c.step.ensures ∙ ap (λ (g : Parts). step_in c.args.env.now (Some c.in-Some.first.now.result) g.goal) c.parts-parts.ensures.value in
+    let step : c.step.result ≡ step_in c.args.env.now (Some c.in-Some.first.now.result) c.args.env.now.goal = c.step.ensures.value ∙ ap (λ (g : Parts). step_in c.args.env.now (Some c.in-Some.first.now.result) g.goal) c.parts-parts.ensures.value in
     let total : c.from.result + c.from-2.result ≡ first_total c.args.env.now c.in-Some.first.now = omega (arith, step) in
     let frames : frames_of c.push.new.self.items ≡ goal_frame c.args.env.now (first_total c.args.env.now c.in-Some.first.now) ∷ [] =
     goal_frames c.args.env.now c.new-open.result.items c.push.new.self.items _ (first_total c.args.env.now c.in-Some.first.now) c.in_ok-push.ensures.items c.new-open.ensures.items c.empty.ensures.rows
@@ -36,7 +36,7 @@ returns-in-Some-2-clause-item c =
 
 pub returns-clause-no_item : goal.returns-clause-no_item
 returns-clause-no_item c = λ w item.
-    let step : c.step.result ≡ step_in c.args.env.now (Some c.in-Some.first.now.result) c.args.env.now.goal = c.step.ensures ∙ ap (λ (g : Parts). step_in c.args.env.now (Some c.in-Some.first.now.result) g.goal) c.parts-parts.ensures.value in
+    let step : c.step.result ≡ step_in c.args.env.now (Some c.in-Some.first.now.result) c.args.env.now.goal = c.step.ensures.value ∙ ap (λ (g : Parts). step_in c.args.env.now (Some c.in-Some.first.now.result) g.goal) c.parts-parts.ensures.value in
     let total : c.from.result + c.from-2.result ≡ first_total c.args.env.now c.in-Some.first.now = omega (arith, step) in
     let frames : frames_of c.push.new.self.items ≡ goal_frame c.args.env.now (first_total c.args.env.now c.in-Some.first.now) ∷ [] =
     goal_frames c.args.env.now c.new-open.result.items c.push.new.self.items _ (first_total c.args.env.now c.in-Some.first.now) c.in_ok-push.ensures.items c.new-open.ensures.items c.empty.ensures.rows

@@ -11,7 +11,7 @@ returns-then-head-row-clause-read c =
 
 pub returns-then-not-is_below-clause-read : goal.returns-then-not-is_below-clause-read
 returns-then-not-is_below-clause-read c =
-    sym (begun-wanted c.args.env.now c.args.sum (spot_view c.args.spot) c.args.row (frames_of c.args.parts.now.items) (head_view c.in-Some.head) (sym c.in-Some.ensures) (sym c.is_below.ensures ∙ c.if-not-is_below.true))
+    sym (begun-wanted c.args.env.now c.args.sum (spot_view c.args.spot) c.args.row (frames_of c.args.parts.now.items) (head_view c.in-Some.head) (sym c.in-Some.ensures) (sym c.is_below.ensures.value ∙ c.if-not-is_below.true))
 
 pub returns-then-reached-from-clause-read : goal.returns-then-reached-from-clause-read
 returns-then-reached-from-clause-read c =
@@ -30,7 +30,7 @@ returns-then-close-clause-read c =
     entered-closed c.args.env.now c.args.sum s c.args.row c.args.parts.now.items c.push.new.self.items h _ own true c.close.new.parts.items sum c.in_ok-push.ensures.items
     (ap (λ (e : ℕ). record { ctx = s.ctx; left = s.left; wanted = h.args; end = e }) (omega (arith, start)))
     (ap (λ b. frames_if b c.close.new.parts.items) (sym c.if-close.true) ∙ c.close.ensures)
-    ∙ sym (begun-entered c.args.env.now c.args.sum s c.args.row (frames_of c.args.parts.now.items) h (sym c.in-Some.ensures) c.if-head-row.false (sym c.is_below.ensures ∙ c.if-not-is_below.false) heavy)
+    ∙ sym (begun-entered c.args.env.now c.args.sum s c.args.row (frames_of c.args.parts.now.items) h (sym c.in-Some.ensures) c.if-head-row.false (sym c.is_below.ensures.value ∙ c.if-not-is_below.false) heavy)
 
 pub returns-clause-read : goal.returns-clause-read
 returns-clause-read c =
@@ -44,7 +44,7 @@ returns-clause-read c =
     entered-closed c.args.env.now c.args.sum s c.args.row c.args.parts.now.items c.push.new.self.items h _ own false c.close.new.parts.items sum c.in_ok-push.ensures.items
     (ap (λ (e : ℕ). record { ctx = s.ctx; left = s.left; wanted = h.args; end = e }) (omega (arith, start)))
     (ap (λ b. frames_if b c.close.new.parts.items) (sym c.if-close.false) ∙ c.close.ensures)
-    ∙ sym (begun-entered c.args.env.now c.args.sum s c.args.row (frames_of c.args.parts.now.items) h (sym c.in-Some.ensures) c.if-head-row.false (sym c.is_below.ensures ∙ c.if-not-is_below.false) heavy)
+    ∙ sym (begun-entered c.args.env.now c.args.sum s c.args.row (frames_of c.args.parts.now.items) h (sym c.in-Some.ensures) c.if-head-row.false (sym c.is_below.ensures.value ∙ c.if-not-is_below.false) heavy)
 
 pub returns-in-None-clause-read : goal.returns-in-None-clause-read
 returns-in-None-clause-read c =
