@@ -1,0 +1,17 @@
+// The instructions of the code in class files (JVMS 4.7.3 and 6.5). The main definition is the relation
+// `AreInstructions start code list`: instructions that tile a method's code, each as long as the table of
+// opcodes says at its place. `instructions` answers that one list, or the first place where none stands. It
+// stands on `byteorder`.
+#![tactic(auto)]
+
+mod fault;
+mod laws;
+mod lengths;
+mod opcodes;
+#[cfg(test)]
+mod tests;
+mod walk;
+
+pub use fault::{WalkCause, WalkFault};
+pub use laws::{list_or_fault, one_fault, one_list};
+pub use walk::{Instr, instructions};
