@@ -1,0 +1,3 @@
+-- The rows of parts.
+pub mod Parting
+pub mod Sizes

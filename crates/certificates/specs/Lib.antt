@@ -1,0 +1,2 @@
+-- Where the rows of a term can be told.
+pub mod Readable
