@@ -5,3 +5,9 @@ pub mod Frames
 pub mod Places
 pub mod Reading
 pub mod Closings
+pub mod Adding
+pub mod Pieces
+pub mod Sizes
+pub mod Forms
+pub mod Faults
+pub mod PieceTexts

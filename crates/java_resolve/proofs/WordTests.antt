@@ -24,7 +24,7 @@ use Rattle.java_shapes.proofs.RunWords.{word_begins}
 below : (c : ℕ) → is_ascii c ≡ true → c < 128
 below c e = search (rules, tests)
 
-all_below : (cs : List ℕ) → list_all is_ascii cs ≡ true → IsAscii cs
+pub all_below : (cs : List ℕ) → list_all is_ascii cs ≡ true → IsAscii cs
 all_below [] e zero = lit< tt
 all_below [] e (suc i) = lit< tt
 all_below (c ∷ cs) e zero = below c (and_parts (is_ascii c) (list_all is_ascii cs) e).0

@@ -1,2 +1,5 @@
 pub mod View
 pub mod Places
+pub mod Pieces
+pub mod Known
+pub mod Faults

@@ -8,6 +8,8 @@ mod body_tests;
 #[cfg(test)]
 mod identifier_tests;
 #[cfg(test)]
+mod known_tests;
+#[cfg(test)]
 mod shape_tests;
 #[cfg(test)]
 mod unit_tests;
