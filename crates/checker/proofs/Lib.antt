@@ -6,7 +6,6 @@ pub mod RowItems
 pub mod TypeSets
 pub mod Bounds
 pub mod Walks
-pub mod PlaceLists
 pub mod Lookups
 pub mod Meets
 pub mod Aparts

@@ -11,9 +11,10 @@ use Rattle.terms.specs.Typing.{is_pair}
 use Rattle.terms.proofs.Valid.{valid-decl, valid-pair}
 use Rattle.checker.specs.declared.floor.Floor.{Floor}
 use Rattle.checker.specs.declared.heads.Heads.{Heads}
-use Rattle.checker.specs.Checks.{head_reaches, found_reaches, places_reach, places_from, places_of}
+use Rattle.number_places.specs.Places.{places_from, places_of}
+use Rattle.checker.specs.Checks.{head_reaches, found_reaches, places_reach}
 use Rattle.checker.specs.Heads.{AreHeads, TypeReaches, PairReaches, LowersReach}
-use Rattle.checker.proofs.PlaceLists.{length-mapped}
+use Rattle.number_places.proofs.NumberPlaces.{length-mapped}
 
 record Member (xs : List ℕ) (x : ℕ) : Type 0 where
   place : ℕ

@@ -21,15 +21,6 @@ unfoldable pub places_reach : Parts → List Floor → Floor → List ℕ → Bo
 places_reach g fs f [] = true
 places_reach g fs f (i ∷ more) = if found_reaches g fs f (slice_get g.decls i) then places_reach g fs f more else false
 
--- the numbers of the list at a number, none past the end
-abbrev pub places_from : ℕ → ℕ → List ℕ → List ℕ
-places_from i k [] = []
-places_from i k (n ∷ ns) = if n == k then i ∷ places_from (i + 1) k ns else places_from (i + 1) k ns
-
--- the places at which a number stands, rising
-abbrev pub places_of : ℕ → List ℕ → List ℕ
-places_of k ns = places_from 0 k ns
-
 -- whether a variable of this type reaches the floor, where it may stand there
 unfoldable pub variable_reaches : Parts → Floor → ℕ → Bool
 variable_reaches g f a = if is_below g a f.goal then f.floor - (variable_weight g + step_in g (Some a) f.goal) == 0 else true

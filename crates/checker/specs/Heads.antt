@@ -4,7 +4,8 @@ use Rattle.terms.specs.declared.parts.Parts.{Parts}
 use Rattle.terms.specs.declared.parts.Decl.{Decl}
 use Rattle.checker.specs.declared.floor.Floor.{Floor}
 use Rattle.checker.specs.declared.heads.Heads.{Heads}
-use Rattle.checker.specs.Checks.{head_reaches, places_of}
+use Rattle.number_places.specs.Places.{places_of}
+use Rattle.checker.specs.Checks.{head_reaches}
 
 -- the tables hold the declarations by their results, and the pairs by their upper types
 pub record AreHeads (g : Parts) (h : Heads) : Type 0 where

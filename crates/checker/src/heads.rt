@@ -4,7 +4,7 @@ ghost use Rattle.std.specs.Prelude.{◌≡◌, ℕ, map, IfOk};
 ghost use Rattle.terms.specs.declared.parts.Decl.{Decl};
 ghost use Rattle.checker.specs.Heads.{AreHeads};
 
-use crate::numbers::places_by_number;
+use number_places::places_by_number;
 use std::alloc::{AllocError, Global};
 use terms::{Decl, Env};
 

@@ -11,7 +11,6 @@ mod floor_table;
 mod heads;
 mod item;
 mod law;
-mod numbers;
 mod open_part;
 mod reaches;
 mod reading;

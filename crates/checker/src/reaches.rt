@@ -9,8 +9,8 @@ ghost use Rattle.checker.specs.Heads.{AreHeads, TypeReaches, PairReaches, Lowers
 use crate::floor::Floor;
 use crate::floor_table::FloorTable;
 use crate::heads::Heads;
-use crate::numbers::list_at;
 use crate::rest::rest_of;
+use number_places::list_at;
 use std::alloc::{AllocError, Global};
 use terms::{Decl, Env};
 

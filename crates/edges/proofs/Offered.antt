@@ -6,7 +6,8 @@ use Rattle.std.proofs.lemmas.Option.{slice_get_within, slice_get-get_or, get_or_
 use Rattle.std.proofs.lemmas.List.{get_or_past}
 use Rattle.std.proofs.lemmas.Bool.{cases_lt}
 use Rattle.terms.specs.declared.parts.Parts.{Parts}
-use Rattle.succinct.specs.Compression.{Compression, IsCompression, Source, sources, AreNeedsOf, places_of}
+use Rattle.number_places.specs.Places.{places_of}
+use Rattle.succinct.specs.Compression.{Compression, IsCompression, Source, sources, AreNeedsOf}
 use Rattle.succinct.specs.Sets.{has, IsRising}
 use Rattle.succinct.specs.declared.kind.Succinct.{Succinct}
 use Rattle.succinct.proofs.Rising.{has-joined_with}

@@ -1,7 +1,7 @@
 -- What stands in the list of places of a number.
 use Rattle.std.proofs.Common.{◌≡◌, inl, inr, ℕ, zero, suc, ◌+◌, Bool, true, false, ◌==◌, cond, List, [], ◌∷◌, slice_get, Some, refl, sym, ap, ◌∙◌, arith}
 use Rattle.std.proofs.lemmas.Bool.{false≢true, or_cases, or_left, or_right, eqb-true, eq-eqb}
-use Rattle.succinct.specs.Compression.{places_from}
+use Rattle.number_places.specs.Places.{places_from}
 use Rattle.succinct.specs.Sets.{has}
 use Rattle.edges.proofs.Options.{some_eq}
 

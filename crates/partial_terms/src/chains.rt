@@ -1,6 +1,6 @@
 // Lists that share their ends, kept in one growing table.
 
-ghost use Rattle.std.specs.Prelude.{◌≡◌, ◌<◌, [], ◌∷◌, length, get_or, IfOk, IfSome, IfNone};
+ghost use Rattle.std.specs.Prelude.{◌≡◌, ◌<◌, [], ◌∷◌, length, get_or, OnErr, IfOk, IfSome, IfNone};
 ghost use Rattle.partial_terms.specs.Chained.{IsGrown};
 
 use std::alloc::{AllocError, Global};
@@ -48,6 +48,7 @@ impl<T: Copy> Chains<T> {
         requires tail { tail < length self.old }
         ensures kept { IfOk result (λ i. get_or self.new i [] ≡ head ∷ get_or self.old tail []) }
         ensures within { IfOk result (λ i. i < length self.new) }
+        ensures unchanged { OnErr result (self.new ≡ self.old) }
         ensures grown { IsGrown self.old self.new }
     {
         if self.links.len() >= 4_294_967_295 {

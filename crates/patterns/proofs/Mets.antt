@@ -8,7 +8,8 @@ use Rattle.std.proofs.lemmas.List.Sums.{position_or_len_is}
 use Rattle.std.proofs.Common.{nat_lt}
 use Rattle.std.specs.List.{position_or_len}
 use Rattle.std.proofs.lemmas.Option.{slice_get-get_or, slice_get_within, get_or_from_slice_get}
-use Rattle.succinct.specs.Compression.{places_from, AreDistinct}
+use Rattle.number_places.specs.Places.{places_from}
+use Rattle.succinct.specs.Compression.{AreDistinct}
 use Rattle.succinct.specs.Numbering.{IsGrown}
 use Rattle.succinct.specs.Sets.{has}
 use Rattle.succinct.specs.declared.kind.Succinct.{Succinct}

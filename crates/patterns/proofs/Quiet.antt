@@ -4,7 +4,7 @@ use Rattle.std.specs.List.{list_all, list_any}
 use Rattle.std.proofs.lemmas.Bool.{false≢true, and_parts, and_from, or_cases, or_left, or_right, eqb-true, eq-eqb, cases_eq}
 use Rattle.std.proofs.lemmas.List.{get_or-set_same, get_or-set_other}
 use Rattle.std.proofs.lemmas.Option.{slice_get-get_or, slice_get_within, get_or_from_slice_get}
-use Rattle.succinct.specs.Compression.{places_of, places_from}
+use Rattle.number_places.specs.Places.{places_of, places_from}
 use Rattle.succinct.specs.Sets.{has}
 use Rattle.succinct.specs.declared.kind.Succinct.{Succinct}
 use Rattle.succinct.proofs.Numberings.{get_append}

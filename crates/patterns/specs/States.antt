@@ -1,7 +1,7 @@
 -- States: a set of bound types with a count of lambdas left, and the type that is sought.
 use Rattle.std.specs.Prelude.{◌≡◌, ◌⊎◌, ℕ, ◌-◌, ◌<◌, Bool, true, false, ◌&&◌, ◌||◌, ◌==◌, cond, List, [], length, map, slice_get, slice_index_or, position, Option, Some, None, filter}
 use Rattle.std.specs.List.{list_all, list_any}
-use Rattle.succinct.specs.Compression.{places_of}
+use Rattle.number_places.specs.Places.{places_of}
 use Rattle.succinct.specs.Sets.{has, joined_with}
 use Rattle.succinct.specs.declared.kind.Succinct.{Succinct}
 use Rattle.succinct.specs.declared.need.Need.{Need}

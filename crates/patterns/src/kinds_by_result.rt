@@ -5,9 +5,10 @@ ghost use Rattle.patterns.specs.States.{EndTable, AreEnds, ending};
 
 use crate::lookup_cache::Notes;
 use indexmap::IndexSet;
+use number_places::places_by_number;
 use std::alloc::{AllocError, Global};
 use std::marker::Model;
-use succinct::{Succinct, number_of, sources_by_kind};
+use succinct::{Succinct, number_of};
 
 /// For each type the kinds that end in it, rising.
 #[derive(Drop)]
@@ -33,7 +34,7 @@ impl Ends {
     {
         let mut goals = IndexSet::new(alloc);
         let numbers = goal_numbers(alloc, &mut goals, kinds)?;
-        let lists = sources_by_kind(alloc, goals.len(), numbers.as_slice())?;
+        let lists = places_by_number(alloc, goals.len(), numbers.as_slice())?;
         let notes = notes_of(alloc, goals.as_slice())?;
         Ok(Ends {
             goals,

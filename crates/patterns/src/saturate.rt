@@ -5,7 +5,7 @@ ghost use Rattle.patterns.specs.Met.{AreSound};
 ghost use Rattle.patterns.specs.States.{AreEnds, is_seen, IsSettled};
 ghost use Rattle.patterns.specs.Worklist.{AreTargets, AreUses, IsQuiet};
 ghost use Rattle.patterns.specs.declared.watchers.Use.{Use};
-ghost use Rattle.succinct.specs.Compression.{places_of};
+ghost use Rattle.number_places.specs.Places.{places_of};
 ghost use Rattle.succinct.specs.Sets.{has};
 
 use crate::kinds_by_result::{Ends, list_at};
@@ -14,8 +14,9 @@ use crate::sets::Sets;
 use crate::state::State;
 use crate::states::States;
 use crate::watchers::{Use, all_uses, targets_of};
+use number_places::places_by_number;
 use std::alloc::{AllocError, Global};
-use succinct::{Succinct, sources_by_kind};
+use succinct::Succinct;
 
 /// Whether a type is in a set.
 fn has(types: &[u32], goal: u32) -> bool
@@ -237,7 +238,7 @@ pub fn settle(
 {
     let uses = all_uses(alloc, sets, kinds, ends, states)?;
     let targets = targets_of(alloc, uses.as_slice())?;
-    let groups = sources_by_kind(alloc, states.len(), targets.as_slice())?;
+    let groups = places_by_number(alloc, states.len(), targets.as_slice())?;
     let mut worklist = Vec::new(alloc);
     first_round(sets, kinds, ends, states, marks, &mut worklist)?;
     look(

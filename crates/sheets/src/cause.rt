@@ -29,7 +29,7 @@ pub enum SheetCause {
 impl SheetCause {
     /// The number that users see.
     pub fn number(self) -> u32
-        ensures { result ≡ cause_number self }
+        ensures value { result ≡ cause_number self }
     {
         match self {
             SheetCause::NotUtf8 => 1,

@@ -1,6 +1,5 @@
 pub mod Numberings
 pub mod Rising
 pub mod Needs
-pub mod Places
 pub mod Cuts
 pub mod Wants

@@ -1,6 +1,7 @@
 -- The succinct types of an environment: what its declarations and pairs want, with the order and the number
 -- of equal wants left out (PLDI 2013, section 3).
 use Rattle.std.specs.Prelude.{◌≡◌, ℕ, ◌+◌, ◌<◌, true, false, ◌==◌, cond, List, [], ◌∷◌, ◌++◌, length, map, slice_get, Some}
+use Rattle.number_places.specs.Places.{places_of}
 use Rattle.succinct.specs.Sets.{has, set_of}
 use Rattle.succinct.specs.declared.need.Need.{Need}
 use Rattle.succinct.specs.declared.kind.Succinct.{Succinct}
@@ -40,14 +41,6 @@ pub record IsKindOf (needs : List Need) (source : Source) (kind : Succinct) : Ty
 -- no two places of the list hold the same
 abbrev pub AreDistinct : {X : Type 0} → List X → Type 0
 AreDistinct {X} xs = (i j : ℕ) (x : X) → slice_get xs i ≡ Some x → slice_get xs j ≡ Some x → i ≡ j
-
--- the places, counted from i, at which the number stands, in rising order
-abbrev pub places_from : ℕ → ℕ → List ℕ → List ℕ
-places_from i k [] = []
-places_from i k (n ∷ ns) = cond (n == k) (i ∷ places_from (i + 1) k ns) (places_from (i + 1) k ns)
-
-abbrev pub places_of : ℕ → List ℕ → List ℕ
-places_of k ns = places_from 0 k ns
 
 -- needs and kinds are those of the sources, and each source has the number of its kind
 pub record IsNumbered (all : List Source) (needs : List Need) (kinds : List Succinct) (kind_numbers : List ℕ) : Type 0 where

@@ -3,13 +3,13 @@
 ghost use Rattle.std.specs.Prelude.{◌≡◌, ◌<◌, [], length, slice_index_or, IfOk};
 ghost use Rattle.succinct.specs.Compression.{Compression, IsCompression};
 
-use crate::by_kind::sources_by_kind;
 use crate::kind::Succinct;
 use crate::need::Need;
 use crate::rows::Rows;
 use crate::tables::{Tables, tables_of};
 use indexmap::IndexSet;
 use lists::Items;
+use number_places::places_by_number;
 use std::alloc::{AllocError, Global};
 use std::marker::Model;
 use terms::Env;
@@ -54,7 +54,7 @@ impl Compressed {
         if count > 4294967295 {
             return Err(AllocError);
         }
-        let selected = sources_by_kind(alloc, count, kind_numbers.as_slice())?;
+        let selected = places_by_number(alloc, count, kind_numbers.as_slice())?;
         Ok(Compressed {
             needs,
             kinds,

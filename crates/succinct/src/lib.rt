@@ -4,7 +4,6 @@
 // kit's `indexmap`.
 #![tactic(auto)]
 
-mod by_kind;
 mod compressed;
 mod compressing;
 mod kind;
@@ -14,7 +13,6 @@ mod rows;
 mod sets;
 mod tables;
 
-pub use by_kind::sources_by_kind;
 pub use compressed::Compressed;
 pub use kind::Succinct;
 pub use need::Need;

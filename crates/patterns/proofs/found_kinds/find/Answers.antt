@@ -1,5 +1,5 @@
 use Rattle.std.proofs.Common.{◌∙◌}
-use Rattle.succinct.proofs.Places.{length-mapped}
+use Rattle.number_places.proofs.NumberPlaces.{length-mapped}
 use Rattle.patterns.proofs.Ranges.{range-first}
 use Rattle.patterns.proofs.found_kinds.find.Goals as goal
 

@@ -1,11 +1,11 @@
 use Rattle.std.proofs.Common.{◌<◌, ◌∙◌, length, map, sym, ap, subst}
-use Rattle.succinct.proofs.Places.{each-same}
+use Rattle.number_places.proofs.NumberPlaces.{each-same}
 use Rattle.patterns.specs.Worklist.{AreTargets, AreUses}
 use Rattle.patterns.proofs.Used.{targets-in_range}
 use Rattle.patterns.proofs.saturate.settle.Goals as goal
 
-pub sources_by_kind-requires : goal.sources_by_kind-requires
-sources_by_kind-requires c = record {
+pub places_by_number-requires : goal.places_by_number-requires
+places_by_number-requires c = record {
   in_range = λ i k at. subst (λ n. k < n) (sym c.len.ensures.len) (targets-in_range _ _ _ _ c.in_ok-uses.ensures.in_range (c.in_ok-targets.ensures.value ∙ ap (map (λ u. u.target)) c.as_slice.ensures.value) c.as_slice-2.ensures.value i k at);
 }
 

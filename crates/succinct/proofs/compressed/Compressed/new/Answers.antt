@@ -1,11 +1,11 @@
 use Rattle.std.proofs.Common.{◌<◌, sym, ap, subst, ◌∙◌, slice_get}
 use Rattle.succinct.proofs.Needs.{distinct_from, numbers-in_range, need-refl, kind-refl, numbered-same}
 use Rattle.succinct.proofs.Wants.{wants-same}
-use Rattle.succinct.proofs.Places.{length-mapped, each-same}
+use Rattle.number_places.proofs.NumberPlaces.{length-mapped, each-same}
 use Rattle.succinct.proofs.compressed.Compressed.new.Goals as goal
 
-pub sources_by_kind-requires : goal.sources_by_kind-requires
-sources_by_kind-requires c = record {
+pub places_by_number-requires : goal.places_by_number-requires
+places_by_number-requires c = record {
   in_range = λ i k at.
       subst (λ n. k < n) (sym c.len-count.ensures.len) (numbers-in_range _ _ _ _ c.in_ok-needs.ensures.numbered i k (ap (λ l. slice_get l i) (sym c.as_slice.ensures) ∙ at));
 }

@@ -1,7 +1,7 @@
-// The sources of each kind, from the kind's number of each source.
+// The places of each number of a list.
 
 ghost use Rattle.std.specs.Prelude.{◌≡◌, ◌<◌, ◌++◌, ◌∷◌, [], ℕ, List, map, length, slice_get, slice_index_or, slice_set, Some, IfOk, OnOk};
-ghost use Rattle.succinct.specs.Compression.{places_of};
+ghost use Rattle.number_places.specs.Places.{places_of};
 
 use std::alloc::{AllocError, Global};
 
@@ -38,17 +38,17 @@ fn no_places(alloc: Global, count: usize, counts: &[usize]) -> Result<Vec<Vec<u3
 }
 
 /// One place more at the end of one list.
-fn add_place(lists: &mut Vec<Vec<u32>>, kind: u32, place: u32) -> Result<(), AllocError>
-    requires in_range { kind < length lists.old.items }
-    ensures added { OnOk result (map (λ l. l.items) lists.new.items ≡ slice_set (map (λ l. l.items) lists.old.items) kind (slice_index_or (map (λ l. l.items) lists.old.items) kind [] ++ place ∷ [])) }
+fn add_place(lists: &mut Vec<Vec<u32>>, number: u32, place: u32) -> Result<(), AllocError>
+    requires in_range { number < length lists.old.items }
+    ensures added { OnOk result (map (λ l. l.items) lists.new.items ≡ slice_set (map (λ l. l.items) lists.old.items) number (slice_index_or (map (λ l. l.items) lists.old.items) number [] ++ place ∷ [])) }
 {
-    lists[kind as usize].push(place)?;
+    lists[number as usize].push(place)?;
     Ok(())
 }
 
 /// For each number below `count` the places at which it stands, rising. Want of memory is also answered
 /// where there are 2^32 numbers or more.
-pub fn sources_by_kind(
+pub fn places_by_number(
     alloc: Global,
     count: usize,
     numbers: &[u32],
@@ -66,4 +66,14 @@ pub fn sources_by_kind(
         add_place(&mut lists, numbers[i], i as u32)?;
     }
     Ok(lists)
+}
+
+/// The list of a number, or the empty one.
+pub fn list_at(lists: &Vec<Vec<u32>>, number: usize) -> &[u32]
+    ensures value { result.now ≡ slice_index_or (map (λ l. l.items) lists.now.items) number [] }
+{
+    match lists.get(number) {
+        Some(list) => list.as_slice(),
+        None => &[],
+    }
 }

@@ -3,7 +3,7 @@ use Rattle.std.proofs.Common.{◌≡◌, ◌⊎◌, inl, inr, ℕ, zero, suc, �
 use Rattle.std.proofs.lemmas.Bool.{eq-eqb, ne_eqb, cases_eq}
 use Rattle.std.proofs.lemmas.List.{take_more, get_or-set_same, get_or-set_other, length-set, length-take-le, map-set}
 use Rattle.std.proofs.lemmas.Option.{slice_get-get_or, get_or_from_slice_get}
-use Rattle.succinct.specs.Compression.{places_from, places_of}
+use Rattle.number_places.specs.Places.{places_from, places_of}
 
 places_from-push : (i k : ℕ) (ns : List ℕ) (n : ℕ) → places_from i k (ns ++ n ∷ []) ≡ places_from i k ns ++ cond (n == k) ((i + length ns) ∷ []) []
 places_from-push i k [] n = (let e : i ≡ i + 0 = omega arith in ap (λ j. cond (n == k) (j ∷ []) []) e)

@@ -1,6 +1,6 @@
 use Rattle.std.proofs.Common.{◌≡◌, ◌<◌, ℕ, map, take, length, slice_get, Some}
-use Rattle.succinct.specs.Compression.{places_of}
-use Rattle.succinct.proofs.by_kind.sources_by_kind.Given as goal
+use Rattle.number_places.specs.Places.{places_of}
+use Rattle.number_places.proofs.places.places_by_number.Given as goal
 
 abbrev pub invariant-loop-i : goal.invariant-loop-i
 invariant-loop-i l = record {

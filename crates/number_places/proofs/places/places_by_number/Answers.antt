@@ -1,7 +1,7 @@
 use Rattle.std.proofs.Common.{refl, sym, rules, ◌∙◌}
 use Rattle.std.proofs.lemmas.Option.{slice_get-get_or}
-use Rattle.checker.proofs.PlaceLists.{places-more, length-grown, length-mapped}
-use Rattle.checker.proofs.numbers.places_by_number.Goals as goal
+use Rattle.number_places.proofs.NumberPlaces.{places-more, length-grown, length-mapped}
+use Rattle.number_places.proofs.places.places_by_number.Goals as goal
 
 pub loop-i-preserved : goal.loop-i-preserved
 loop-i-preserved c = record {

@@ -1,5 +1,5 @@
 use Rattle.std.proofs.Common.{◌≡◌, ◌<◌, ℕ, [], map, length, slice_get, Some}
-use Rattle.checker.proofs.numbers.no_places.Given as goal
+use Rattle.number_places.proofs.places.no_places.Given as goal
 
 abbrev pub invariant-loop-i : goal.invariant-loop-i
 invariant-loop-i l = record {

@@ -1,5 +1,5 @@
-use Rattle.succinct.proofs.Places.{empty-more, length-pushed}
-use Rattle.succinct.proofs.by_kind.no_places.Goals as goal
+use Rattle.number_places.proofs.NumberPlaces.{empty-more, length-pushed}
+use Rattle.number_places.proofs.places.no_places.Goals as goal
 
 pub loop-i-preserved : goal.loop-i-preserved
 loop-i-preserved c = record {
