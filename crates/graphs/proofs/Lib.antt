@@ -5,4 +5,5 @@ pub mod Ranks
 pub mod Lists
 pub mod Rows
 pub mod Once
+pub mod Listing
 pub mod Turning

@@ -1,54 +1,11 @@
--- The nodes that were found, as a list, and the marks taken away again.
-use Rattle.graphs.proofs.Elements.{in-one, first_in, none_in, in-cases}
-use Rattle.std.proofs.lemmas.List.Elements.{Contains-append_left, Contains-append_right, Contains-append_cases}
-use Rattle.std.proofs.Common.{◌≡◌, ℕ, zero, suc, ◌+◌, ◌<◌, ◌≤◌, Bool, true, false, List, [], ◌∷◌, ◌++◌, length, get_or, drop, refl, sym, ap, subst, ◌∙◌, arith, inl, inr, ◌⊎◌, Contains}
+-- Marks that are taken away again.
+use Rattle.graphs.proofs.Elements.{none_in, in-cases}
+use Rattle.std.proofs.Common.{◌≡◌, ℕ, zero, suc, ◌+◌, ◌<◌, ◌≤◌, Bool, true, false, List, [], ◌∷◌, length, get_or, drop, refl, sym, ap, subst, ◌∙◌, arith, inl, inr, Contains}
 use lib.ListN.{set}
 use Rattle.std.proofs.lemmas.List.{drop_more, drop_all, get_or-set_other}
 use Rattle.std.proofs.lemmas.Bool.{cases_eq}
-use Rattle.graphs.specs.Graph.{Reaches, is_marked, AreMarked, AreFree}
-use Rattle.graphs.specs.Marking.{Work, unmark}
-use Rattle.graphs.proofs.Marks.{IsMarked, both}
-
--- each marked node was found or waits, and each found node is marked
-pub record AreFound (marks : List Bool) (found worklist : List ℕ) : Type 0 where
-  pub all : (k : ℕ) → is_marked marks k ≡ true → Contains found k ⊎ Contains worklist k
-  pub marked : (k : ℕ) → Contains found k → is_marked marks k ≡ true
-
-pub found_first : (w v : Work) (bs : List ℕ) → IsMarked w bs v → ((k : ℕ) → is_marked w.0 k ≡ false) → AreFound v.0 [] v.1
-found_first w v bs m free = record {
-  all = λ k h. elim (m.only k h) [
-    | inl a ↦ both (is_marked w.0 k) a (free k)
-    | inr a ↦ inr a.1
-  ];
-  marked = λ k h. none_in k h;
-}
-
-pub found_more : (ms : List Bool) (found old worklist : List ℕ) (node : ℕ) (bs : List ℕ) (v : Work) → AreFound ms found old → old ≡ worklist ++ node ∷ [] → is_marked ms node ≡ true → IsMarked (ms, worklist) bs v → AreFound v.0 (found ++ node ∷ []) v.1
-found_more ms found old worklist node bs v f e at m = record {
-  all = λ k h. elim (m.only k h) [
-    | inl a ↦ elim (f.all k a) [
-      | inl c ↦ inl (Contains-append_left found (node ∷ []) k c)
-      | inr c ↦ elim (Contains-append_cases worklist (node ∷ []) k (subst (λ l. Contains l k) e c)) [
-        | inl d ↦ inr (m.stays k d)
-        | inr d ↦ inl (Contains-append_right found (node ∷ []) k d)
-      ]
-    ]
-    | inr a ↦ inr a.1
-  ];
-  marked = λ k h. elim (Contains-append_cases found (node ∷ []) k h) [
-    | inl a ↦ m.kept k (f.marked k a)
-    | inr a ↦ m.kept k (subst (λ n. is_marked ms n ≡ true) (in-one k node a) at)
-  ];
-}
-
-pub found_all : (g : List (List ℕ)) (from : ℕ) (ms : List Bool) (found worklist : List ℕ) → AreFound ms found worklist → AreMarked g from ms → worklist ≡ [] → (b : ℕ) → (Contains found b → Reaches g from b) × (Reaches g from b → Contains found b)
-found_all g from ms found worklist f m e b = (
-  (λ h. (m b).0 (f.marked b h)),
-  (λ r. elim (f.all b ((m b).1 r)) [
-    | inl a ↦ a
-    | inr a ↦ none_in b (subst (λ l. Contains l b) e a)
-  ]),
-)
+use Rattle.graphs.specs.Graph.{is_marked, AreFree}
+use Rattle.graphs.specs.Marking.{unmark, AreListed}
 
 unmark_first : (ms : List Bool) (b : ℕ) (bs : List ℕ) → unmark ms (b ∷ bs) ≡ unmark (set ms b false) bs
 unfolding unmark
@@ -98,14 +55,8 @@ by_mark : (t : Bool) (ms : List Bool) (bs : List ℕ) (k : ℕ) → is_marked ms
 by_mark true ms bs k e h = unmarked bs ms k (h e)
 by_mark false ms bs k e h = stays_free bs ms k e
 
-pub free_again : (n : ℕ) (ms ns : List Bool) (found worklist : List ℕ) → AreFound ms found worklist → worklist ≡ [] → length ns ≡ n → ns ≡ unmark ms found → AreFree n ns
-free_again n ms ns found worklist f none long e = (
+pub free_again : (n : ℕ) (ms ns : List Bool) (found : List ℕ) → AreListed ms found → length ns ≡ n → ns ≡ unmark ms found → AreFree n ns
+free_again n ms ns found listed long e = (
   long,
-  λ k. rw e (by_mark (is_marked ms k) ms found k refl (λ h. elim (f.all k h) [
-    | inl a ↦ a
-    | inr a ↦ none_in k (subst (λ l. Contains l k) none a)
-  ])),
+  λ k. rw e (by_mark (is_marked ms k) ms found k refl (listed k)),
 )
-
-pub last_in : (b : ℕ) (bs : List ℕ) → Contains (bs ++ b ∷ []) b
-last_in b bs = Contains-append_right bs (b ∷ []) b (first_in b [])

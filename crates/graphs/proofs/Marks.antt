@@ -8,7 +8,7 @@ use lib.ListN.{set}
 use Rattle.std.proofs.lemmas.List.{length_push, drop_more, drop_all, length-set, get_or-set_same, get_or-set_other}
 use Rattle.std.proofs.lemmas.Bool.{cases_eq}
 use Rattle.graphs.specs.Graph.{edges, Reaches, is_marked, AreMarked, IsEdge}
-use Rattle.graphs.specs.Marking.{Work, mark, mark_row}
+use Rattle.graphs.specs.Marking.{Work, mark, mark_row, AreListed}
 
 -- how many marks are free
 abbrev pub free : List Bool → ℕ
@@ -67,6 +67,13 @@ one false w b l e = record {
   waits = λ k h. Contains-append_cases w.1 (b ∷ []) k h;
   less = omega (arith, free-set w.0 b l e, length_push w.1 b);
 }
+
+-- a node is listed as it is marked
+pub listed_more : (ms : List Bool) (ws vs : List ℕ) (b : ℕ) → vs ≡ ws ++ b ∷ [] → b < length ms → AreListed ms ws → AreListed (set ms b true) vs
+listed_more ms ws vs b e l h k m = elim (set-only ms b k l m) [
+  | inl a ↦ rw e (Contains-append_left ws (b ∷ []) k (h k a))
+  | inr a ↦ rw e (Contains-append_right ws (b ∷ []) k (single k b a))
+]
 
 nothing : (w : Work) → IsMarked w [] w
 nothing w = record {
@@ -172,7 +179,7 @@ goes_on g from node ms old worklist v s e m =
       ];
     }
 
-all_marked : (g : List (List ℕ)) (ms : List Bool) (a : ℕ) (cs : List ℕ) (b : ℕ) → ((k c : ℕ) → is_marked ms k ≡ true → Contains (edges g k) c → is_marked ms c ≡ true) → ((c : ℕ) → Contains (edges g a) c → is_marked ms c ≡ true) → IsPathBy (IsEdge g) a cs b → is_marked ms b ≡ true
+pub all_marked : (g : List (List ℕ)) (ms : List Bool) (a : ℕ) (cs : List ℕ) (b : ℕ) → ((k c : ℕ) → is_marked ms k ≡ true → Contains (edges g k) c → is_marked ms c ≡ true) → ((c : ℕ) → Contains (edges g a) c → is_marked ms c ≡ true) → IsPathBy (IsEdge g) a cs b → is_marked ms b ≡ true
 unfolding IsPathBy
 all_marked g ms a [] b closed start h = start b h
 all_marked g ms a (c ∷ cs) b closed start h = all_marked g ms c cs b closed (λ d e. closed c d (start c h.0) e) h.1

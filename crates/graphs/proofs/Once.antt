@@ -13,7 +13,7 @@ use Rattle.graphs.proofs.Marks.{IsMarked, marked, both}
 abbrev pub AreOnce : List ℕ → Type 0
 AreOnce xs = AllPairs (λ a b. a ≢ b) xs
 
-once-none : AreOnce []
+pub once-none : AreOnce []
 once-none i j d l m e = absurd (omega (arith, m))
 
 once-push : (xs : List ℕ) (y : ℕ) → AreOnce xs → (Contains xs y → ⊥) → AreOnce (xs ++ y ∷ [])
@@ -22,12 +22,12 @@ once-push xs y p h = all_pairs_push (λ a b. a ≢ b) xs y p (λ k d l e. h (sub
 once-first : (xs : List ℕ) (y : ℕ) → AreOnce (xs ++ y ∷ []) → AreOnce xs
 once-first xs y p i j d l m e = p i j d l (omega (arith, m, length_push xs y)) (get_or_append_left xs (y ∷ []) d i (omega (arith, l, m)) ∙ e ∙ sym (get_or_append_left xs (y ∷ []) d j m))
 
-record IsAt (y : ℕ) (xs : List ℕ) : Type 0 where
-  place : ℕ
-  inside : place < length xs
-  is : get_or xs place 0 ≡ y
+pub record IsAt (y : ℕ) (xs : List ℕ) : Type 0 where
+  pub place : ℕ
+  pub inside : place < length xs
+  pub is : get_or xs place 0 ≡ y
 
-place-in : (y : ℕ) (xs : List ℕ) → Contains xs y → IsAt y xs
+pub place-in : (y : ℕ) (xs : List ℕ) → Contains xs y → IsAt y xs
 place-in y xs (k, l, e) = record { place = k; inside = l; is = get_or_default xs k 0 y l ∙ e }
 
 once-last : (xs : List ℕ) (y : ℕ) → AreOnce (xs ++ y ∷ []) → Contains xs y → ⊥
@@ -82,35 +82,3 @@ row-fresh (b ∷ bs) w l =
 
 pub fresh-is : (bs : List ℕ) (w v : Work) → ((b : ℕ) → Contains bs b → b < length w.0) → v ≡ mark_row w bs → IsFresh w v
 fresh-is bs w v l e = subst (IsFresh w) (sym e) (row-fresh bs w l)
-
--- Each node was found once or waits once.
-pub record AreApart (seen todo : List ℕ) : Type 0 where
-  pub found : AreOnce seen
-  pub worklist : AreOnce todo
-  pub apart : (k : ℕ) → Contains seen k → Contains todo k → ⊥
-
-pub apart-first : (w v : Work) → IsFresh w v → w.1 ≡ [] → AreApart [] v.1
-apart-first w v f e = record {
-  found = once-none;
-  worklist = f.once (λ k h. none_in k (subst (λ l. Contains l k) e h)) (subst AreOnce (sym e) once-none);
-  apart = λ k h g. none_in k h;
-}
-
-pub apart-more : (ms : List Bool) (found old worklist : List ℕ) (node : ℕ) (v : Work) → AreApart found old → old ≡ worklist ++ node ∷ [] → ((k : ℕ) → Contains old k → is_marked ms k ≡ true) → ((k : ℕ) → Contains found k → is_marked ms k ≡ true) → IsFresh (ms, worklist) v → AreApart (found ++ node ∷ []) v.1
-apart-more ms found old worklist node v a e waits marks f =
-    let here : Contains old node = rw e (Contains-append_right worklist (node ∷ []) node (first_in node [])) in
-    let once : AreOnce (worklist ++ node ∷ []) = subst AreOnce e a.worklist in
-    record {
-      found = once-push found node a.found (λ h. a.apart node h here);
-      worklist = f.once (λ k h. waits k (rw e (Contains-append_left worklist (node ∷ []) k h))) (once-first worklist node once);
-      apart = λ k h g. elim (f.fresh k g) [
-        | inl w ↦ elim (Contains-append_cases found (node ∷ []) k h) [
-          | inl c ↦ a.apart k c (rw e (Contains-append_left worklist (node ∷ []) k w))
-          | inr c ↦ once-last worklist node once (subst (λ n. Contains worklist n) (sym (in-one k node c)) w)
-        ]
-        | inr free ↦ elim (Contains-append_cases found (node ∷ []) k h) [
-          | inl c ↦ both (is_marked ms k) (marks k c) free
-          | inr c ↦ both (is_marked ms k) (subst (λ n. is_marked ms n ≡ true) (in-one k node c) (waits node here)) free
-        ]
-      ];
-    }

@@ -1,5 +1,5 @@
 -- What the marks and the nodes that wait come to, as a search goes on.
-use Rattle.std.specs.Prelude.{ℕ, Bool, true, false, List, [], ◌∷◌, ◌++◌, cond}
+use Rattle.std.specs.Prelude.{ℕ, Bool, true, false, List, [], ◌∷◌, ◌++◌, cond, ◌≡◌, Contains}
 use lib.ListN.{set}
 use Rattle.graphs.specs.Graph.{is_marked}
 
@@ -20,3 +20,7 @@ mark_row w (b ∷ bs) = mark_row (mark w b) bs
 unfoldable pub unmark : List Bool → List ℕ → List Bool
 unmark marks [] = marks
 unmark marks (b ∷ bs) = unmark (set marks b false) bs
+
+-- Each marked node stands in the list.
+abbrev pub AreListed : List Bool → List ℕ → Type 0
+AreListed marks nodes = (k : ℕ) → is_marked marks k ≡ true → Contains nodes k

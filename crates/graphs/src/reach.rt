@@ -1,6 +1,6 @@
-ghost use Rattle.std.specs.Prelude.{◌≡◌, ◌≢◌, ◌<◌, ℕ, true, IfOk, OnOk, length, AllPairs, Contains};
+ghost use Rattle.std.specs.Prelude.{◌≡◌, ◌≢◌, ◌<◌, ℕ, true, [], IfOk, OnOk, length, AllPairs, Contains};
 ghost use Rattle.graphs.specs.Graph.{edges, InRange, AreMarked, AreAncestors, AreFree};
-ghost use Rattle.graphs.specs.Marking.{mark, mark_row, unmark};
+ghost use Rattle.graphs.specs.Marking.{mark, mark_row, unmark, AreListed};
 
 use lists::Items;
 use std::alloc::{AllocError, Global};
@@ -53,6 +53,7 @@ pub fn free_marks(alloc: Global, graph: &[Items<usize>]) -> Result<Vec<bool>, Al
 fn mark(marks: &mut Vec<bool>, worklist: &mut Vec<usize>, node: usize) -> Result<(), AllocError>
     requires { node < length marks.old.items }
     ensures work { OnOk result ((marks.new.items, worklist.new.items) ≡ mark (marks.old.items, worklist.old.items) node) }
+    ensures listed { AreListed marks.old.items worklist.old.items → AreListed marks.new.items worklist.new.items }
     ensures long { length marks.new.items ≡ length marks.old.items }
 {
     if marks[node] {
@@ -71,6 +72,7 @@ fn mark_row(
 ) -> Result<(), AllocError>
     requires { (b : ℕ) → Contains nodes.now b → b < length marks.old.items }
     ensures work { OnOk result ((marks.new.items, worklist.new.items) ≡ mark_row (marks.old.items, worklist.old.items) nodes.now) }
+    ensures listed { AreListed marks.old.items worklist.old.items → AreListed marks.new.items worklist.new.items }
     ensures long { length marks.new.items ≡ length marks.old.items }
 {
     for node in nodes {
@@ -106,9 +108,34 @@ pub fn reached(alloc: Global, graph: &[Items<usize>], from: usize) -> Result<Vec
     Ok(marks)
 }
 
+/// Marks the nodes that are reached from a node by one edge or more, and lists them. Where memory is wanting
+/// some of them are marked, and each of these is listed.
+fn list_reached(
+    graph: &[Items<usize>],
+    marks: &mut Vec<bool>,
+    found: &mut Vec<usize>,
+    from: usize,
+) -> Result<(), AllocError>
+    requires range { InRange graph.now }
+    requires marks { AreFree (length graph.now) marks.old.items }
+    requires empty { found.old.items ≡ [] }
+    ensures exact { OnOk result (AreAncestors graph.now from found.new.items) }
+    ensures distinct { OnOk result (AllPairs (λ a b. a ≢ b) found.new.items) }
+    ensures listed { AreListed marks.new.items found.new.items }
+    ensures long { length marks.new.items ≡ length graph.now }
+{
+    mark_row(marks, found, row(graph, from))?;
+    let mut next = 0;
+    while next < found.len() {
+        let node = found[next];
+        mark_row(marks, found, row(graph, node))?;
+        next += 1;
+    }
+    Ok(())
+}
+
 /// The nodes that are reached from a node by one edge or more, each once. It takes time linear in the edges
-/// of these nodes: the marks are lent, one for each node of the graph and none set, and come back so. Where
-/// memory is wanting some may be set.
+/// of these nodes: the marks are lent, one for each node of the graph and none set, and come back so.
 pub fn ancestors(
     alloc: Global,
     graph: &[Items<usize>],
@@ -119,15 +146,11 @@ pub fn ancestors(
     requires marks { AreFree (length graph.now) marks.old.items }
     ensures exact { IfOk result (λ nodes. AreAncestors graph.now from nodes.items) }
     ensures distinct { IfOk result (λ nodes. AllPairs (λ a b. a ≢ b) nodes.items) }
-    ensures free { OnOk result (AreFree (length graph.now) marks.new.items) }
+    ensures free { AreFree (length graph.now) marks.new.items }
 {
-    let mut worklist = Vec::new(alloc);
     let mut found = Vec::new(alloc);
-    mark_row(marks, &mut worklist, row(graph, from))?;
-    while let Some(node) = worklist.pop() {
-        found.push(node)?;
-        mark_row(marks, &mut worklist, row(graph, node))?;
-    }
+    let done = list_reached(graph, marks, &mut found, from);
     unmark(marks, &found);
+    done?;
     Ok(found)
 }

@@ -56,7 +56,7 @@ impl Frames {
     /// Nothing is taken yet.
     #[tactic(auto, using(crate::proofs::Scans::prefixes))]
     pub fn new(alloc: Global) -> Frames
-        ensures { result ≡ record { place = 0; held = []; fault = None } }
+        ensures fresh { result ≡ record { place = 0; held = []; fault = None } }
     {
         Frames {
             place: 0,

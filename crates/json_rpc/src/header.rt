@@ -44,6 +44,7 @@ pub enum Reading {
 }
 
 impl Head {
+    /// A header of which nothing is read.
     pub fn start() -> Head
         ensures { result ≡ start }
     {
@@ -265,6 +266,7 @@ pub enum Prefix {
 }
 
 impl Scan {
+    /// A frame of which nothing is read.
     pub fn start() -> Scan
         ensures { result ≡ record { read = 0; line = 0; head = start } }
     {

@@ -42,6 +42,7 @@ fn drop_prefix(bytes: &mut Vec<u8>, n: usize)
 }
 
 impl Held {
+    /// No bytes.
     pub fn new(alloc: Global) -> Held
         ensures { result ≡ [] }
     {
@@ -51,18 +52,21 @@ impl Held {
         }
     }
 
+    /// How many bytes are held and not given yet.
     pub fn len(&self) -> usize
         ensures { result ≡ length self.now }
     {
         self.bytes.len() - self.given
     }
 
+    /// Whether all bytes are given.
     pub fn is_empty(&self) -> bool
         ensures { result ≡ (length self.now == 0) }
     {
         self.bytes.len() == self.given
     }
 
+    /// The bytes that are held and not given yet.
     pub fn as_slice(&self) -> &[u8]
         ensures { result.now ≡ self.now }
     {

@@ -82,6 +82,7 @@ impl Names {
     /// 2^32.
     pub fn add(&mut self, alloc: Global, name: &str) -> Result<(), AllocError>
         ensures placed { OnOk result (IsPlaced self.new name.now) }
+        ensures kept { OnErr result (self.new ≡ self.old) }
         ensures grown { IsGrown self.old self.new }
     {
         if self.place(name).is_some() {

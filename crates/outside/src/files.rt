@@ -29,7 +29,7 @@ impl<'r, R: Files> Model for FileShelf<'r, R> {
 impl<'r, R: Files> FileShelf<'r, R> {
     /// A shelf that has not failed yet.
     pub fn new(rt: &'r R, alloc: Global) -> FileShelf<'r, R>
-        ensures { result ≡ 0 }
+        ensures fresh { result ≡ 0 }
     {
         FileShelf {
             rt,

@@ -69,6 +69,8 @@ impl Gathering {
         ensures prefix { OnErr result ((start : Option (List ℕ)) → (all : List ℕ) →
             Gathered start (K.written sink.old) self.old all
             → WrotePrefix start (K.written sink.new) (all ++ bytes.now)) }
+        ensures no_memory { IsErrOf result WriteFault.OutOfMemory → (self.new ≡ self.old) × (sink.new ≡ sink.old) }
+        ensures held { IsErrOf result WriteFault.Failed → self.new ≡ self.old ++ bytes.now }
         ensures later { K.faults sink.old ≤ K.faults sink.new }
         ensures cause { IsErrOf result WriteFault.Failed → Rose (K.faults sink.old) (K.faults sink.new) }
     {
@@ -89,6 +91,7 @@ impl Gathering {
         ensures prefix { OnErr result ((start : Option (List ℕ)) → (all : List ℕ) →
             Gathered start (K.written sink.old) self.old all
             → WrotePrefix start (K.written sink.new) all) }
+        ensures held { OnErr result (self.new ≡ self.old) }
         ensures cause { HasCause (K.faults sink.old) (K.faults sink.new) result }
     {
         write_all(sink, self.held.as_slice())?;

@@ -134,7 +134,7 @@ pub struct MemShelf {
 impl MemShelf {
     /// A shelf of these files; of two with one name the first counts.
     pub fn new(files: Items<HeldFile>, plan: FaultPlan) -> MemShelf
-        ensures { result ≡ record { files = files; plan = plan } }
+        ensures value { result ≡ record { files = files; plan = plan } }
     {
         MemShelf { files, plan }
     }

@@ -19,7 +19,7 @@ pub struct FaultPlan {
 impl FaultPlan {
     /// No call was made yet, and those with the listed numbers are to fail.
     pub fn new(failing: Items<u64>) -> FaultPlan
-        ensures { result ≡ record { failing = failing; calls = 0; faults = 0 } }
+        ensures value { result ≡ record { failing = failing; calls = 0; faults = 0 } }
     {
         FaultPlan {
             failing,
@@ -30,7 +30,7 @@ impl FaultPlan {
 
     /// No call is to fail.
     pub fn none(alloc: Global) -> FaultPlan
-        ensures { result ≡ record { failing = []; calls = 0; faults = 0 } }
+        ensures value { result ≡ record { failing = []; calls = 0; faults = 0 } }
     {
         FaultPlan::new(Items::new(alloc))
     }

@@ -1,6 +1,7 @@
-ghost use Rattle.std.specs.Prelude.{◌≡◌, ◌<◌, ◌≤◌, length, take, IfOk, IfSome, IsErrOf};
+ghost use Rattle.std.specs.Prelude.{◌≡◌, ◌<◌, ◌≤◌, length, take, IfOk, IfSome, OnErr, IsErrOf};
 ghost use Rattle.std.specs.Io.KnownBytes.{Consumes, IsAtEnd};
 ghost use Rattle.outside.specs.Causes.{Rose};
+ghost use Rattle.outside.specs.Taken.{Took};
 ghost use Rattle.outside.specs.declared.reading.ReadFault.TheVariants.{Failed, OutOfMemory};
 
 use crate::source::{self, Source};
@@ -33,7 +34,8 @@ impl From<AllocError> for ReadFault {
 }
 
 /// The bytes up to the end, or the first `limit` of them. They are asked for in pieces of at most 65,536
-/// bytes. After a fault the bytes that were taken are gone.
+/// bytes. After a fault the bytes that were taken are gone,
+/// at most the first `limit` of them.
 pub fn read_up_to<S: Source>(
     alloc: Global,
     source: &mut S,
@@ -43,6 +45,7 @@ pub fn read_up_to<S: Source>(
     ensures bound { IfOk result (λ v. length v.items ≤ limit) }
     ensures end { IfOk result (λ v. length v.items < limit → IsAtEnd (S.left source.new)) }
     ensures exact { IfOk result (λ v. IfSome (S.left source.old) (λ bytes. v.items ≡ take limit bytes)) }
+    ensures taken { OnErr result (Took limit (S.left source.old) (S.left source.new)) }
     ensures later { S.faults source.old ≤ S.faults source.new }
     ensures cause { IsErrOf result ReadFault.Failed → Rose (S.faults source.old) (S.faults source.new) }
 {
@@ -70,6 +73,7 @@ fn read_through<S: Source>(
     ensures bound { IfOk result (λ v. length v.items ≤ limit) }
     ensures end { IfOk result (λ v. length v.items < limit → IsAtEnd (S.left source.new)) }
     ensures exact { IfOk result (λ v. IfSome (S.left source.old) (λ bytes. v.items ≡ take limit bytes)) }
+    ensures taken { OnErr result (Took limit (S.left source.old) (S.left source.new)) }
     ensures later { S.faults source.old ≤ S.faults source.new }
     ensures cause { IsErrOf result ReadFault.Failed → Rose (S.faults source.old) (S.faults source.new) }
 {

@@ -24,7 +24,7 @@ impl<R: Read> Model for ReaderSource<R> {
 impl<R: Read> ReaderSource<R> {
     /// A source that has not failed yet.
     pub fn new(reader: R) -> ReaderSource<R>
-        ensures { result ≡ record { left = R.remaining reader; faults = 0 } }
+        ensures left { result ≡ record { left = R.remaining reader; faults = 0 } }
     {
         ReaderSource { reader, faults: 0 }
     }
@@ -70,7 +70,7 @@ impl<W: Write> Model for WriterSink<W> {
 impl<W: Write> WriterSink<W> {
     /// A sink that has not failed yet.
     pub fn new(writer: W) -> WriterSink<W>
-        ensures { result ≡ record { written = W.contents writer; faults = 0 } }
+        ensures written { result ≡ record { written = W.contents writer; faults = 0 } }
     {
         WriterSink { writer, faults: 0 }
     }

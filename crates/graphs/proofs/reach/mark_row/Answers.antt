@@ -10,7 +10,11 @@ pub loop-node-preserved : goal.loop-node-preserved
 loop-node-preserved c = record {
   work = row_step c.args.nodes.now c.loop-node.node-index _ _ _ (search rules) c.loop-node.invariant.work c.in_ok-mark.ensures.work;
   long = c.in_ok-mark.ensures.long ∙ c.loop-node.invariant.long;
+  listed = λ h. c.in_ok-mark.ensures.listed (c.loop-node.invariant.listed h);
 }
 
 pub returns-clause-work : goal.returns-clause-work
 returns-clause-work c = sym (row_end c.args.nodes.now c.loop-node.node-index _ (search rules)) ∙ c.loop-node.invariant.work
+
+pub returns-in_err-mark-clause-listed : goal.returns-in_err-mark-clause-listed
+returns-in_err-mark-clause-listed c = λ h. c.in_err-mark.ensures.listed (c.loop-node.invariant.listed h)
