@@ -1,6 +1,11 @@
 -- Lists of tables, one of which has a number more.
-use Rattle.std.proofs.Common.{◌≡◌, ◌≢◌, ◌∙◌, ap, sym, refl, arith, ℕ, zero, suc, ◌<◌, Bool, true, List, [], ◌∷◌, length, map, set, slice_get, bytes_eq, if◌then◌else◌, Some, Result, Ok, Err, OnOk, inl, inr}
+use Rattle.std.proofs.Common.{◌≡◌, ◌≢◌, ◌∙◌, ap, sym, refl, arith, ℕ, zero, suc, ◌<◌, Bool, true, List, [], ◌∷◌, length, map, set, slice_get, bytes_eq, if◌then◌else◌, Some, Result, Ok, Err, OnOk, OnErr, inl, inr, string_bytes}
 use Rattle.std.specs.Prelude.{◌&&◌}
+use Rattle.std.specs.declared.string.String.{String}
+use Rattle.std.specs.BTreeMap.{BTreeMap, IsUnchanged, is_at, get_by_text}
+use Rattle.std.specs.Map.{lookup}
+use Rattle.std.specs.Ordering.{nat_cmp}
+use Rattle.std.specs.Cmp.Lexicographic.{slice_cmp}
 use Rattle.std.proofs.lemmas.Bool.Decides.{eqb_tells}
 use Rattle.std.proofs.lemmas.Bool.{false_from_ne_true}
 use Rattle.known_classes.specs.NameTables.{Table, PutsAt}
@@ -37,6 +42,14 @@ length-set (x ∷ xs) (suc i) y = ap suc (length-set xs i y)
 pub on_ok : {A E : Type 0} (r : Result A E) (P Q : Type 0) → OnOk r P → (P → Q) → OnOk r Q
 on_ok (Ok x) P Q h f = f h
 on_ok (Err e) P Q h f = tt
+
+pub on_err : {A E P : Type 0} (r : Result A E) → P → OnErr r P
+on_err (Ok x) p = tt
+on_err (Err e) p = p
+
+-- a table depends on its entries alone
+pub same_entries : {X Y : Type 0} (m n : BTreeMap (String Y) X) → IsUnchanged m n → get_by_text n ≡ get_by_text m
+same_entries m n e = ap (λ es bs. lookup (is_at (λ k. slice_cmp nat_cmp bs (string_bytes k))) es) e
 
 -- one of the tables has a number more
 pub puts_at : (place : ℕ) (text : List ℕ) (number : ℕ) (old new : List Table) (before after : Table) → slice_get old place ≡ Some before → place < length old → new ≡ set old place after → ((name : List ℕ) → after name ≡ (if bytes_eq text name then Some number else before name)) → PutsAt place text number old new

@@ -1,4 +1,4 @@
-ghost use Rattle.std.specs.Prelude.{◌≡◌, ℕ, List, if◌then◌else◌, bytes_eq, map, Some, OnOk};
+ghost use Rattle.std.specs.Prelude.{◌≡◌, ℕ, List, if◌then◌else◌, bytes_eq, map, Some, OnOk, OnErr};
 ghost use Rattle.std.specs.BTreeMap.{get_by_text};
 ghost use Rattle.known_classes.specs.NameTables.{PutsAt};
 
@@ -12,7 +12,8 @@ pub fn put(
     name: &str,
     number: usize,
 ) -> Result<(), AllocError>
-    ensures { OnOk result ((other : List ℕ) → get_by_text numbers.new other ≡ (if bytes_eq name.now other then Some number else get_by_text numbers.old other)) }
+    ensures placed { OnOk result ((other : List ℕ) → get_by_text numbers.new other ≡ (if bytes_eq name.now other then Some number else get_by_text numbers.old other)) }
+    ensures unchanged { OnErr result (get_by_text numbers.new ≡ get_by_text numbers.old) }
 {
     let key = String::from_str(alloc, name)?;
     numbers.insert(key, number)?;
@@ -27,7 +28,8 @@ pub fn put_at(
     name: &str,
     number: usize,
 ) -> Result<(), AllocError>
-    ensures { OnOk result (PutsAt place name.now number (map get_by_text tables.old.items) (map get_by_text tables.new.items)) }
+    ensures placed { OnOk result (PutsAt place name.now number (map get_by_text tables.old.items) (map get_by_text tables.new.items)) }
+    ensures unchanged { OnErr result (map get_by_text tables.new.items ≡ map get_by_text tables.old.items) }
 {
     if place >= tables.len() {
         return Ok(());

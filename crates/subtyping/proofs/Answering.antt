@@ -4,9 +4,10 @@ use Rattle.subtyping.proofs.OfArrays.{OfArrays, of-arrays, arrays-of}
 use Rattle.std.proofs.Common.{◌≡◌, ℕ, zero, suc, ◌<◌, List, refl, sym, ap, subst, ◌∙◌, arith, inl, inr, ◌⊎◌, Option, Some, None, Contains}
 use Rattle.type_names.specs.declared.kinds.Base.{Base}
 use Rattle.type_names.specs.declared.kinds.Base.TheVariants.{Class}
+use Rattle.name_places.specs.Places.{place_of}
 use Rattle.type_names.specs.Names.{object_name}
 use Rattle.subtyping.specs.Steps.{cloneable, serializable, wider, IsReference, IsOfArrays}
-use Rattle.subtyping.specs.Asked.{class_name, IsClassBelow, IsBaseBelow, IsArrayBelow, IsBelowAt}
+use Rattle.subtyping.specs.Asked.{class_name, class_place, IsClassBelow, IsBaseBelow, IsArrayBelow, IsBelowAt}
 
 abbrev Relation : Type 1
 Relation = List ℕ → List ℕ → Type 0
@@ -28,6 +29,9 @@ class-never R p q a e f h = absurd cc
 is-class : (p : Base) (a : List ℕ) → class_name p ≡ Some a → p ≡ Class a
 is-class (Class x) a e = cc
 is-class p a e = absurd cc
+
+pub class-at : (names : List (List ℕ)) (p : Base) (a : List ℕ) → class_name p ≡ Some a → class_place names p ≡ place_of names a
+class-at names p a e = ap (class_place names) (is-class p a e)
 
 pub class-base : (R : Relation) (p q : Base) (a b : List ℕ) → class_name p ≡ Some a → class_name q ≡ Some b → IsClassBelow R a b → IsBaseBelow R p q
 class-base R p q a b e f h = subst (λ x. IsBaseBelow R x q) (sym (is-class p a e)) (subst (λ y. IsBaseBelow R (Class a) y) (sym (is-class q b f)) h)

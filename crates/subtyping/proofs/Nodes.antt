@@ -258,3 +258,12 @@ stands-found v a b low high row from to at s = subst (λ l. Contains l high) (ed
 
 pub stands-never : {P : Type 0} (v : Ancestry) (a b : List ℕ) (low high : ℕ) → place_of v.names a ≡ Some low → place_of v.names b ≡ Some high → slice_get v.rows low ≡ None → Stands v a b → P
 stands-never v a b low high from to at s = none-in high (edges v.rows low) (get-none v.rows low at) (at-places v a b low high from to s)
+
+no-place : {P : Type 0} {o : Option ℕ} {i : ℕ} → o ≡ None → o ≡ Some i → P
+no-place e f = absurd cc
+
+pub stands-from : {P : Type 0} (v : Ancestry) (a b : List ℕ) → place_of v.names a ≡ None → Stands v a b → P
+stands-from v a b none s = no-place none s.from
+
+pub stands-to : {P : Type 0} (v : Ancestry) (a b : List ℕ) → place_of v.names b ≡ None → Stands v a b → P
+stands-to v a b none s = no-place none s.to

@@ -3,6 +3,7 @@ use Rattle.std.specs.Prelude.{◌≡◌, ◌≢◌, ℕ, zero, suc, ◌⊎◌, L
 use Rattle.type_names.specs.declared.kinds.Base.{Base}
 use Rattle.type_names.specs.declared.kinds.Base.TheVariants.{Class}
 use Rattle.type_names.specs.declared.kinds.Erased.{Erased}
+use Rattle.name_places.specs.Places.{place_of}
 use Rattle.type_names.specs.Names.{object_name}
 use Rattle.subtyping.specs.Steps.{cloneable, serializable, wider, IsReference, IsOfArrays}
 
@@ -10,6 +11,11 @@ use Rattle.subtyping.specs.Steps.{cloneable, serializable, wider, IsReference, I
 abbrev pub class_name : Base → Option (List ℕ)
 class_name (Class name) = Some name
 class_name p = None
+
+-- The place of a class among names; none for a primitive type.
+abbrev pub class_place : List (List ℕ) → Base → Option ℕ
+class_place names (Class name) = place_of names name
+class_place names p = None
 
 -- A class other than Object is below its ancestors and Object.
 abbrev pub IsClassBelow : (List ℕ → List ℕ → Type 0) → List ℕ → List ℕ → Type 0

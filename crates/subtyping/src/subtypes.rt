@@ -1,4 +1,4 @@
-ghost use Rattle.std.specs.Prelude.{◌≡◌, ◌↔◌, true, false, IsTrue, IfOk, slice_get};
+ghost use Rattle.std.specs.Prelude.{◌≡◌, ◌↔◌, ℕ, List, true, false, IsTrue, IfOk, slice_get};
 ghost use Rattle.std.specs.Option.{option_copied};
 ghost use Rattle.type_names.specs.declared.kinds.Base.TheVariants.{Class};
 ghost use Rattle.known_classes.specs.Known.{KnownClasses};
@@ -6,7 +6,7 @@ ghost use Rattle.subtyping.specs.Steps.{IsStrictSubtype, IsReference, IsOfArrays
 ghost use Rattle.graphs.specs.Graph.{edges};
 ghost use Rattle.name_places.specs.Places.{place_of};
 ghost use Rattle.subtyping.specs.Places.{Stands, Rises, IsAncestry};
-ghost use Rattle.subtyping.specs.Asked.{class_name, IsClassBelow, IsBaseBelow, IsArrayBelow, IsBelow};
+ghost use Rattle.subtyping.specs.Asked.{class_name, class_place, IsClassBelow, IsBaseBelow, IsArrayBelow, IsBelow};
 
 use crate::supers::{graph_of, names_of, place_in, rows_above, steps_of};
 use crate::widening::widens;
@@ -101,25 +101,38 @@ impl Subtypes {
         }
     }
 
-    /// Whether a class stands above another.
-    fn stands(&self, a: &str, b: &str) -> bool
-        ensures sound { result ≡ true → Stands self.now a.now b.now }
-        ensures complete { Stands self.now a.now b.now → result ≡ true }
+    /// The place of the class that a type is made of, whatever its dimensions: None for a primitive type, and for a
+    /// class that has no place.
+    pub fn class_place(&self, kind: &Erased) -> Option<usize>
+        ensures place { result ≡ class_place self.now.names kind.now.base }
     {
-        let Some(low) = self.place(a) else {
+        match class_of(&kind.base) {
+            Some(name) => self.place(name),
+            None => None,
+        }
+    }
+
+    /// Whether the class at one place stands above that at another.
+    fn stands_at(&self, low: Option<usize>, high: Option<usize>) -> bool
+        ensures sound { (a b : List ℕ) → place_of self.now.names a ≡ low → place_of self.now.names b ≡ high → result ≡ true → Stands self.now a b }
+        ensures complete { (a b : List ℕ) → place_of self.now.names a ≡ low → place_of self.now.names b ≡ high → Stands self.now a b → result ≡ true }
+    {
+        let Some(from) = low else {
             return false;
         };
-        let Some(high) = self.place(b) else {
+        let Some(to) = high else {
             return false;
         };
-        match self.rows.get(low) {
-            Some(row) => row.as_slice().binary_search(&high).is_ok(),
+        match self.rows.get(from) {
+            Some(row) => row.as_slice().binary_search(&to).is_ok(),
             None => false,
         }
     }
 
     /// Whether a class is below another.
-    fn is_class_below(&self, a: &str, b: &str) -> bool
+    fn is_class_below(&self, a: &str, low: Option<usize>, b: &str, high: Option<usize>) -> bool
+        requires low { low ≡ place_of self.now.names a.now }
+        requires high { high ≡ place_of self.now.names b.now }
         ensures sound { result ≡ true → IsClassBelow (Stands self.now) a.now b.now }
         ensures complete { IsClassBelow (Stands self.now) a.now b.now → result ≡ true }
     {
@@ -128,53 +141,60 @@ impl Subtypes {
                 return true;
             }
         }
-        self.stands(a, b)
+        self.stands_at(low, high)
     }
 
     /// Whether a type is below another, both without dimensions.
-    fn is_base_below(&self, a: &Base, b: &Base) -> bool
+    fn is_base_below(&self, a: &Base, low: Option<usize>, b: &Base, high: Option<usize>) -> bool
+        requires low { low ≡ class_place self.now.names a.now }
+        requires high { high ≡ class_place self.now.names b.now }
         ensures sound { result ≡ true → IsBaseBelow (Stands self.now) a.now b.now }
         ensures complete { IsBaseBelow (Stands self.now) a.now b.now → result ≡ true }
     {
-        let Some(low) = class_of(a) else {
+        let Some(lower) = class_of(a) else {
             return widens(a, b);
         };
-        let Some(high) = class_of(b) else {
+        let Some(higher) = class_of(b) else {
             return false;
         };
-        self.is_class_below(low, high)
+        self.is_class_below(lower, low, higher, high)
     }
 
     /// Whether arrays of a type without dimensions are below those of another.
-    fn is_element_below(&self, a: &Base, b: &Base) -> bool
+    fn is_element_below(&self, a: &Base, low: Option<usize>, b: &Base, high: Option<usize>) -> bool
+        requires low { low ≡ class_place self.now.names a.now }
+        requires high { high ≡ class_place self.now.names b.now }
         ensures sound { result ≡ true → IsReference 0 a.now × IsBaseBelow (Stands self.now) a.now b.now }
         ensures complete { IsReference 0 a.now → IsBaseBelow (Stands self.now) a.now b.now → result ≡ true }
     {
         if class_of(a).is_none() {
             return false;
         }
-        self.is_base_below(a, b)
+        self.is_base_below(a, low, b, high)
     }
 
     /// Whether each array is below a type without dimensions.
-    fn is_array_below(&self, b: &Base) -> bool
+    fn is_array_below(&self, b: &Base, high: Option<usize>) -> bool
+        requires { high ≡ class_place self.now.names b.now }
         ensures sound { result ≡ true → IsArrayBelow (Stands self.now) b.now }
         ensures complete { IsArrayBelow (Stands self.now) b.now → result ≡ true }
     {
-        let Some(high) = class_of(b) else {
+        let Some(higher) = class_of(b) else {
             return false;
         };
-        if is_of_arrays(high) {
+        if is_of_arrays(higher) {
             return true;
         }
-        if self.stands(CLONEABLE, high) {
+        if self.stands_at(self.place(CLONEABLE), high) {
             return true;
         }
-        self.stands(SERIALIZABLE, high)
+        self.stands_at(self.place(SERIALIZABLE), high)
     }
 
     /// Whether a type is below another, by the ancestors.
-    fn is_below(&self, a: &Erased, b: &Erased) -> bool
+    fn is_below(&self, a: &Erased, low: Option<usize>, b: &Erased, high: Option<usize>) -> bool
+        requires low { low ≡ class_place self.now.names a.now.base }
+        requires high { high ≡ class_place self.now.names b.now.base }
         ensures sound { result ≡ true → IsBelow (Stands self.now) a.now b.now }
         ensures complete { IsBelow (Stands self.now) a.now b.now → result ≡ true }
     {
@@ -182,12 +202,23 @@ impl Subtypes {
             return false;
         }
         if a.dims > b.dims {
-            return self.is_array_below(&b.base);
+            return self.is_array_below(&b.base, high);
         }
         if a.dims > 0 {
-            return self.is_element_below(&a.base, &b.base);
+            return self.is_element_below(&a.base, low, &b.base, high);
         }
-        self.is_base_below(&a.base, &b.base)
+        self.is_base_below(&a.base, low, &b.base, high)
+    }
+
+    /// Whether one type is a strict subtype of another among the classes of `new`, where the places of their classes
+    /// are known. It takes no memory, looks up no name of theirs, and takes time logarithmic in the classes.
+    pub fn is_sub_at(&self, a: &Erased, low: Option<usize>, b: &Erased, high: Option<usize>) -> bool
+        requires low { low ≡ class_place self.now.names a.now.base }
+        requires high { high ≡ class_place self.now.names b.now.base }
+        ensures exact { (known : KnownClasses) → IsAncestry known self.now → IsTrue result ↔ IsStrictSubtype known a.now b.now }
+        ensures never_itself { (known : KnownClasses) → IsAncestry known self.now → a.now ≡ b.now → result ≡ false }
+    {
+        self.is_below(a, low, b, high)
     }
 
     /// Whether one type is a strict subtype of another among the classes of `new`. It takes no memory, and
@@ -196,6 +227,6 @@ impl Subtypes {
         ensures exact { (known : KnownClasses) → IsAncestry known self.now → IsTrue result ↔ IsStrictSubtype known a.now b.now }
         ensures never_itself { (known : KnownClasses) → IsAncestry known self.now → a.now ≡ b.now → result ≡ false }
     {
-        self.is_below(a, b)
+        self.is_sub_at(a, self.class_place(a), b, self.class_place(b))
     }
 }

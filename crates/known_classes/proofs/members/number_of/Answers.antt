@@ -16,7 +16,7 @@ returns c =
       empty = get_by_text c.new.result;
       none = none;
       grown = ap (map get_by_text) more ∙ map-append get_by_text old (c.new.result ∷ []);
-      put = λ other. c.in_ok-put.ensures other ∙ ap (λ n. if bytes_eq c.args.outer.now other then Some n else get_by_text c.args.members.now.outers other) size;
+      put = λ other. c.in_ok-put.ensures.placed other ∙ ap (λ n. if bytes_eq c.args.outer.now other then Some n else get_by_text c.args.members.now.outers other) size;
     } in
     record {
       numbered = new_numbered c.args.outer.now (get_by_text c.args.members.now.outers) (get_by_text c.put.new.numbers) (map get_by_text old) (map get_by_text c.push.new.self.items) h c.requires;

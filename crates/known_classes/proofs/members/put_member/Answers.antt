@@ -17,6 +17,6 @@ returns-clause-placed c =
     let old = map get_by_text c.args.members.now.tables.items in
     let P : Type 0 = PutsAt c.in_ok-number.number name place mid more in
     let Q : Type 0 = (other text : List ℕ) → member_place numbers more other text ≡ (if bytes_eq other outer && bytes_eq text name then Some place else member_place (get_by_text c.args.members.now.outers) old other text) in
-    on_ok c.put_at.result P Q c.put_at.ensures (λ p other text.
+    on_ok c.put_at.result P Q c.put_at.ensures.placed (λ p other text.
     placed numbers mid more outer name c.in_ok-number.number place c.in_ok-number.ensures.numbered c.in_ok-number.ensures.number p other text
     ∙ ap (λ o. if bytes_eq other outer && bytes_eq text name then Some place else o) (c.in_ok-number.ensures.stays other text))

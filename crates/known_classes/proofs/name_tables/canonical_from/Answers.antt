@@ -40,5 +40,5 @@ loop-left-preserved g c =
     let less : IsLesser known k (get_by_text c.loop-left.table c.as_str-text.result.now) c.lesser-least.result = subst (λ o. IsLesser known k o c.lesser-least.result) best c.lesser-least.ensures.class in
     record {
       from = omega (arith, c.loop-left-test.true);
-      table = canonical_on known c.loop-left.left k d.0 c.as_str-text.result.now c.lesser-least.result (get_by_text c.loop-left.table) (get_by_text c.put.new.numbers) (omega (arith, c.loop-left-test.true)) d.1 text c.lesser-least.ensures.within less c.in_ok-put.ensures c.loop-left.invariant.table;
+      table = canonical_on known c.loop-left.left k d.0 c.as_str-text.result.now c.lesser-least.result (get_by_text c.loop-left.table) (get_by_text c.put.new.numbers) (omega (arith, c.loop-left-test.true)) d.1 text c.lesser-least.ensures.within less c.in_ok-put.ensures.placed c.loop-left.invariant.table;
     }

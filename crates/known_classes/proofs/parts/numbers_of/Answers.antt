@@ -30,7 +30,7 @@ loop-left-preserved-then-is_some g c =
     let name : c.as_str-name.result.now ≡ e.name = search rules in
     let some : is_some c.find.result ≡ true = sym c.is_some.ensures ∙ c.if-is_some.true in
     let d = base_there base (class_named base c.as_str-name.result.now) c.find.result c.find.ensures some in
-    let put : Puts c.as_str-name.result.now k (get_by_text c.loop-left.by_name) (get_by_text c.put.new.numbers) = c.in_ok-put.ensures in
+    let put : Puts c.as_str-name.result.now k (get_by_text c.loop-left.by_name) (get_by_text c.put.new.numbers) = c.in_ok-put.ensures.placed in
     made_base base c.args.extra.now c.loop-left.added.items (get_by_text c.loop-left.by_name) (get_by_text c.put.new.numbers) c.loop-left.left k e d.0 (omega arith) at has (ap (class_named base) (sym name) ∙ d.1)
     (subst (λ (x : List ℕ). Puts x k (get_by_text c.loop-left.by_name) (get_by_text c.put.new.numbers)) name put) c.loop-left.invariant
 
@@ -44,7 +44,7 @@ loop-left-preserved g c =
     let name : c.as_str-name.result.now ≡ e.name = search rules in
     let none : is_some c.find.result ≡ false = sym c.is_some.ensures ∙ c.if-is_some.false in
     let away : class_named base c.as_str-name.result.now ≡ None = base_none base (class_named base c.as_str-name.result.now) c.find.result c.find.ensures none in
-    let put : Puts c.as_str-name.result.now c.len.result (get_by_text c.loop-left.by_name) (get_by_text c.put-in-loop-left.new.numbers) = c.in_ok-put-2.ensures in
+    let put : Puts c.as_str-name.result.now c.len.result (get_by_text c.loop-left.by_name) (get_by_text c.put-in-loop-left.new.numbers) = c.in_ok-put-2.ensures.placed in
     let count : c.len.result ≡ length c.loop-left.added.items = search rules in
     let more : c.push.new.self.items ≡ c.loop-left.added.items ++ k ∷ [] = search rules in
     made_new base c.args.extra.now c.loop-left.added.items c.push.new.self.items (get_by_text c.loop-left.by_name) (get_by_text c.put-in-loop-left.new.numbers) c.loop-left.left k c.len.result e (omega arith) at has (ap (class_named base) (sym name) ∙ away) count more

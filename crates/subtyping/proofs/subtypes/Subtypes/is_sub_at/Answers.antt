@@ -1,7 +1,7 @@
 use Rattle.std.proofs.Common.{sym, subst}
 use Rattle.subtyping.specs.Steps.{IsStrictSubtype}
 use Rattle.subtyping.proofs.Laws.{subtype-below, below-subtype, below-mono, subtype-never, false-unless}
-use Rattle.subtyping.proofs.subtypes.Subtypes.is_sub.Goals as goal
+use Rattle.subtyping.proofs.subtypes.Subtypes.is_sub_at.Goals as goal
 
 pub returns-clause-exact : goal.returns-clause-exact
 returns-clause-exact c known is = (
