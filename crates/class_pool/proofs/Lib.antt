@@ -3,6 +3,7 @@ pub mod Entries
 pub mod Steps
 pub mod Heads
 pub mod IndexLaws
+pub mod MemberLaws
 pub mod FaultLaws
 pub mod CauseLaws
 pub mod PrefixLaws

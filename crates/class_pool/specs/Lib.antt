@@ -5,3 +5,4 @@ pub mod Index
 pub mod Faults
 pub mod Units
 pub mod Views
+pub mod Members

@@ -1,11 +1,13 @@
 ghost use Rattle.std.specs.Prelude.{◌≡◌, ◌≢◌, ◌≤◌, ◌<◌, ◌++◌, ◌∷◌, ◌+◌, ◌-◌, false, List, ℕ, length, Ok, Err, IfOk, IfErr, None, MatchOption, get_or, drop};
 ghost use Rattle.std.specs.Option.{option_map};
+ghost use Rattle.byteorder.specs.Endian.{big_number};
 ghost use Rattle.class_pool.specs.declared.fault.ClassFault.{ClassFault};
 ghost use Rattle.class_pool.specs.declared.fault.ClassCause.TheVariants.{OutOfMemory};
 ghost use Rattle.class_pool.specs.Causes.{IsPoolCause};
 ghost use Rattle.class_pool.specs.Spelling.{Entry, FileHeader, header_bytes, IsFileHeader, Head, IsPoolOf, entries};
 ghost use Rattle.class_pool.specs.Reading.{Gives, header_at, head_at, head_read};
 ghost use Rattle.class_pool.specs.Index.{Kept, kept, slot, start_in, class_index, IsAt, text_in, name_in};
+ghost use Rattle.class_pool.specs.Members.{is_member_tag, is_name_and_type, pair_of, member_in};
 ghost use Rattle.class_pool.specs.Faults.{Stops};
 ghost use Rattle.class_pool.specs.Views.{header_seen, index_seen};
 
@@ -147,6 +149,25 @@ fn bytes_from(bytes: &[u8], start: usize) -> &[u8]
     &bytes[start..]
 }
 
+/// The first two numbers of two bytes.
+fn two_numbers(bytes: &[u8]) -> (u16, u16)
+    requires { 4 ≤ length bytes.now }
+    ensures { result ≡ (big_number 2 bytes.now, big_number 2 (drop 2 bytes.now)) }
+{
+    (BigEndian::read_u16(bytes), BigEndian::read_u16(&bytes[2..]))
+}
+
+/// Whether an entry of this tag names a field, or else a method of a class or an interface.
+fn is_member_tag(tag: u8, field: bool) -> bool
+    ensures { result ≡ is_member_tag field tag }
+{
+    if field {
+        tag == 9
+    } else {
+        tag == 10 || tag == 11
+    }
+}
+
 impl<'a> Pool<'a> {
     /// The minor version.
     pub fn minor(&self) -> u16
@@ -229,5 +250,42 @@ impl<'a> Pool<'a> {
         ensures is { option_map (λ t. t.now) result ≡ name_in self.now.entries place }
     {
         self.utf8(self.name_place(place)?)
+    }
+
+    /// The places of the class and of the name with the descriptor that a member's entry names.
+    fn member_places(&self, place: u16, field: bool) -> Option<(u16, u16)>
+        ensures { result ≡ pair_of (is_member_tag field) (slot self.now.entries place) }
+    {
+        let (tag, rest) = self.tag_at(place)?;
+        if !is_member_tag(tag, field) {
+            return None;
+        }
+        Some(two_numbers(rest))
+    }
+
+    /// The places of the name and of the descriptor that a NameAndType entry names.
+    fn name_and_type(&self, place: u16) -> Option<(u16, u16)>
+        ensures { result ≡ pair_of is_name_and_type (slot self.now.entries place) }
+    {
+        let (tag, rest) = self.tag_at(place)?;
+        if tag != 12 {
+            return None;
+        }
+        Some(two_numbers(rest))
+    }
+
+    /// The class, the name and the descriptor, as they stand, of the member that the entry at a place names: a field,
+    /// or else a method of a class or of an interface (JVMS 4.4.2). None exactly where the place isn't a Fieldref entry,
+    /// or else neither a Methodref nor an InterfaceMethodref entry, whose Class and NameAndType are Utf8 in all parts.
+    pub fn member(&self, place: u16, field: bool) -> Option<(&[u8], &[u8], &[u8])>
+        ensures is { option_map (λ m. (m.0.now, m.1.now, m.2.now)) result ≡ member_in self.now.entries place field }
+    {
+        let (owner, described) = self.member_places(place, field)?;
+        let (name, descriptor) = self.name_and_type(described)?;
+        Some((
+            self.class_name(owner)?,
+            self.utf8(name)?,
+            self.utf8(descriptor)?,
+        ))
     }
 }

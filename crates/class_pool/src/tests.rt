@@ -13,6 +13,14 @@ const LONG: [u8; 22] = [
     0xCA, 0xFE, 0xBA, 0xBE, 0, 0, 0, 0x34, 0, 4, 5, 0, 0, 0, 0, 0, 0, 0, 0, 7, 0, 2,
 ];
 
+/// The field, the method and the interface's method `A.f:I` at places 6 to 8; at 9 a field whose class is no Class
+/// entry, at 10 a method whose name is no NameAndType entry.
+const MEMBERS: [u8; 55] = [
+    0xCA, 0xFE, 0xBA, 0xBE, 0, 0, 0, 0x34, 0, 11, 1, 0, 1, 0x41, 7, 0, 1, 1, 0, 1, 0x66, 1, 0, 1,
+    0x49, 12, 0, 3, 0, 4, 9, 0, 2, 0, 5, 10, 0, 2, 0, 5, 11, 0, 2, 0, 5, 9, 0, 5, 0, 5, 10, 0, 2,
+    0, 3,
+];
+
 #[test]
 fn a_pool_is_indexed_by_its_places(rt: HostRuntime) -> Result<(), Fail> {
     let pool = read_pool(rt.alloc(), &A)
@@ -47,6 +55,22 @@ fn a_pool_is_indexed_by_its_places(rt: HostRuntime) -> Result<(), Fail> {
     assert_eq!(rt; wide.start(3), 19);
     assert_eq!(rt; wide.name_place(3), Some(2));
     assert!(rt; wide.class_name(3).is_none());
+    Ok(())
+}
+
+#[test]
+fn members_are_told_by_their_places(rt: HostRuntime) -> Result<(), Fail> {
+    let pool = read_pool(rt.alloc(), &MEMBERS)
+        .ok()
+        .ok_or("the bytes are a pool")?;
+    let (owner, name, descriptor) = pool.member(7, false).ok_or("a method")?;
+    assert_eq!(rt; owner, b"A".as_slice());
+    assert_eq!(rt; name, b"f".as_slice());
+    assert_eq!(rt; descriptor, b"I".as_slice());
+    for place in 0..12u16 {
+        assert!(rt; pool.member(place, true).is_some() == (place == 6));
+        assert!(rt; pool.member(place, false).is_some() == (place == 7 || place == 8));
+    }
     Ok(())
 }
 

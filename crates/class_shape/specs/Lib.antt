@@ -4,4 +4,5 @@ pub mod Reading
 pub mod Meaning
 pub mod Violations
 pub mod Layout
+pub mod Places
 pub mod Views

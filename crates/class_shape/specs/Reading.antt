@@ -3,7 +3,7 @@
 use Rattle.std.specs.Prelude.{ℕ, zero, suc, ◌-◌, List, [], ◌∷◌, length, Result, Ok, ◌==◌}
 use Rattle.class_pool.specs.declared.fault.ClassFault.{ClassFault}
 use Rattle.class_pool.specs.declared.fault.ClassCause.TheVariants.{Extra}
-use Rattle.class_pool.specs.Reading.{◌>>=◌, number_at, block_at, need}
+use Rattle.class_pool.specs.Reading.{◌>>=◌, number_at, block_at, need, head_at}
 use Rattle.class_shape.specs.declared.parts.IndexAt.{IndexAt}
 use Rattle.class_shape.specs.declared.parts.MemberAt.{MemberAt}
 use Rattle.class_shape.specs.declared.parts.OwnAt.{OwnAt}
@@ -99,3 +99,26 @@ body_at total bytes = do
 -- The bytes after a part.
 abbrev pub rest_of : {X : Type 0} → X × List ℕ → List ℕ
 rest_of x = x.1
+
+-- The attributes of a method.
+unfoldable pub method_at : ℕ → List ℕ → Result (List AttributeSeen × List ℕ) ClassFault
+method_at total bytes = do
+  flags ← number_at total 2 bytes
+  name ← index_at total flags.1
+  descriptor ← index_at total name.1
+  counted_at total (attribute_at total) descriptor.1
+
+-- What stands after the pool, up to the methods, and for each of these its attributes.
+unfoldable pub methods_at : ℕ → List ℕ → Result (List (List AttributeSeen) × List ℕ) ClassFault
+methods_at total bytes = do
+  o ← own_at total bytes
+  interfaces ← counted_at total (index_at total) o.1
+  fields ← counted_at total (member_at total) interfaces.1
+  counted_at total (method_at total) fields.1
+
+-- For each method of the class file that the bytes begin with its attributes.
+unfoldable pub methods_read : List ℕ → Result (List (List AttributeSeen)) ClassFault
+methods_read bytes = do
+  h ← head_at (length bytes) bytes
+  methods ← methods_at (length bytes) h.1
+  Ok methods.0

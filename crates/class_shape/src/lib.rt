@@ -5,6 +5,7 @@
 #![tactic(auto)]
 
 mod laws;
+mod methods;
 mod parts;
 mod reader;
 mod resolved;
@@ -14,5 +15,7 @@ mod tables;
 mod texts;
 
 pub use laws::{fits_or_faults, layout_laws, one_shape};
+pub use methods::method_attributes;
+pub use parts::{AttributeAt, IndexAt, pass_attributes};
 pub use reader::read_class;
 pub use shapes::{ClassShape, InnerRow, MemberKind, MemberShape};

@@ -90,7 +90,7 @@ pub fn attribute_of(total: u32, bytes: &[u8]) -> Result<(AttributeAt<'_>, &[u8])
 }
 
 /// The bytes after so many attributes, which are passed unread.
-fn pass_attributes(total: u32, count: u16, bytes: &[u8]) -> Result<&[u8], ClassFault>
+pub fn pass_attributes(total: u32, count: u16, bytes: &[u8]) -> Result<&[u8], ClassFault>
     requires { length bytes.now ≤ total }
     ensures shorter { IfOk result (λ x. length x.now ≤ length bytes.now) }
     ensures exact { Gives (λ x. x.now) result (on_ok rest_of (many_at (attribute_at total) count bytes.now)) }

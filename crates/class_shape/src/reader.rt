@@ -42,7 +42,7 @@ fn shape_of(alloc: Global, pool: &Pool<'_>, body: &Body<'_>) -> Result<ClassShap
 }
 
 /// The bytes after the pool.
-fn after_pool<'a>(pool: &Pool<'_>, bytes: &'a [u8]) -> &'a [u8]
+pub fn after_pool<'a>(pool: &Pool<'_>, bytes: &'a [u8]) -> &'a [u8]
     requires { IsPoolOf bytes.now pool.now }
     ensures exact { head_at (length bytes.now) bytes.now ≡ Ok (pool.now, result.now) }
     ensures shorter { length result.now ≤ length bytes.now }

@@ -28,7 +28,7 @@ told_memory at Cut h = absurd (h (other_cause at Cut (λ e. absurd cc)))
 told_memory at Switch h = absurd (h (other_cause at Switch (λ e. absurd cc)))
 told_memory at Place h = absurd (h (other_cause at Place (λ e. absurd cc)))
 
-is_memory : (fault : WalkFault) → (fault ≢ no_memory → ⊥) → fault ≡ no_memory
+pub is_memory : (fault : WalkFault) → (fault ≢ no_memory → ⊥) → fault ≡ no_memory
 is_memory fault h = told_memory fault.at fault.cause h
 
 fault_of_bytes : (start : ℕ) (code : List ℕ) (fault : WalkFault) → IsFirstFault start code fault → fault.cause ≡ OutOfMemory → ⊥

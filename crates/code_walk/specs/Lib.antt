@@ -1,3 +1,5 @@
+pub mod Code
+pub mod CodeReading
 pub mod Faults
 pub mod Lengths
 pub mod Opcodes
