@@ -1,0 +1,6 @@
+mod AddedLaws
+mod FileKeyLaws
+mod ListLaws
+mod NumberLaws
+mod RangeLaws
+mod UseLaws

@@ -1,0 +1,4 @@
+pub mod Additions
+pub mod Counts
+pub mod Files
+pub mod Uses
