@@ -5,8 +5,8 @@
 #![tactic(auto)]
 
 mod bound_order;
+mod denoted_types;
 mod ends;
-mod naming;
 mod paths;
 mod resolver;
 mod rules;
@@ -21,6 +21,6 @@ mod variables;
 pub use known_classes::{
     ClassSummary, Classes, FieldSummary, Merged, MethodSummary, Nesting, canonical_names,
 };
-pub use paths::{around, canonical_name, internal_name};
+pub use paths::{around, canonical_name, internal_name, joined};
 pub use resolver::{Resolver, from_unit, resolve_name};
 pub use shape::from_shape;

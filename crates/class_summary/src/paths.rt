@@ -20,7 +20,7 @@ pub fn follow(text: &mut Text, sign: &str, parts: &[Text]) -> Result<(), AllocEr
 /// Parts with a separator between them.
 #[tactic(auto, unfolding(crate::specs::Sources::joined))]
 pub fn joined(alloc: Global, sign: &str, parts: &[Text]) -> Result<Text, AllocError>
-    ensures { IfOk result (λ text. text ≡ joined sign.now parts.now) }
+    ensures text { IfOk result (λ text. text ≡ joined sign.now parts.now) }
 {
     match parts {
         [] => Ok(Text::new(alloc)),
@@ -104,7 +104,7 @@ fn path(alloc: Global, unit: &Unit, class: usize) -> Result<Items<Text>, AllocEr
 
 /// The canonical name of the class number i of a text (JLS 6.7).
 pub fn canonical_name(alloc: Global, unit: &Unit, class: usize) -> Result<Text, AllocError>
-    ensures { IfOk result (λ name. name ≡ canonical_name unit.now class) }
+    ensures name { IfOk result (λ name. name ≡ canonical_name unit.now class) }
 {
     let parts = path(alloc, unit, class)?;
     joined(alloc, ".", parts.as_slice())
@@ -124,7 +124,7 @@ fn binary(alloc: Global, n: usize, parts: &[Text]) -> Result<Text, AllocError>
 
 /// The internal name of the class number i of a text (JLS 13.1).
 pub fn internal_name(alloc: Global, unit: &Unit, class: usize) -> Result<Text, AllocError>
-    ensures { IfOk result (λ name. name ≡ internal_name unit.now class) }
+    ensures name { IfOk result (λ name. name ≡ internal_name unit.now class) }
 {
     let parts = path(alloc, unit, class)?;
     let n = unit.package.len() + 1;

@@ -5,7 +5,7 @@ ghost use Rattle.class_summary.specs.Names.{denoted_type};
 ghost use Rattle.class_summary.specs.Variables.{IsMethodOf};
 ghost use Rattle.class_summary.specs.SourceSummaries.{IsSourceSummary, summaries_of};
 
-use crate::naming::resolve_at;
+use crate::denoted_types::resolve_at;
 use crate::source::summary_at;
 use crate::unit_names::UnitNames;
 use java_units::{TypeText, Unit};

@@ -5,7 +5,7 @@ ghost use Rattle.java_units.specs.Dimensions.{dims_of_bounds, greatest, bound_di
 ghost use Rattle.class_summary.specs.Names.{denoted_type};
 ghost use Rattle.class_summary.specs.SourceSummaries.{class_of, super_of, parent_of, last_supers, names_super, first_super, interfaces, supers_of, field_of, param_of, result_of, method_of, methods_from, nesting_of, summary_at, IsSourceSummary};
 
-use crate::naming::resolve_at;
+use crate::denoted_types::resolve_at;
 use crate::unit_names::UnitNames;
 use java_units::{ClassKind, Param, SourceClass, SourceField, SourceMethod, TypeText};
 use known_classes::{ClassSummary, Classes, FieldSummary, MethodSummary, Nesting};

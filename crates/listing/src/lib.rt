@@ -3,14 +3,13 @@
 // stands on `terms`, whose trait `Levels` gives the levels, and on `java_print` for their texts.
 #![tactic(auto)]
 
-mod coding;
-mod growing;
+mod growth;
 mod item;
+mod level_order;
 mod listing;
-mod moving;
 mod page;
+mod prefix_codes;
 mod same;
-mod sorting;
 
 pub use item::Item;
 pub use listing::Listing;

@@ -3,7 +3,7 @@ ghost use Rattle.terms.specs.Listing.{AreFew};
 ghost use Rattle.listing.specs.Found.{IsListed, IsLonger};
 ghost use Rattle.listing.specs.Pages.{IsPage, items_of};
 
-use crate::growing::Growing;
+use crate::growth::Growing;
 use crate::item::Item;
 use crate::page::{Page, page_of};
 use crate::same::Same;

@@ -58,8 +58,8 @@ place_from (Some line) None = None
 place_from (Some line) (Some character) = Some (line, character)
 
 -- A position of a range.
-abbrev pub place_of : Option Data → Option (ℕ × ℕ)
-place_of d = place_from (place_number (number_of (member_of (codes "line") d))) (place_number (number_of (member_of (codes "character") d)))
+abbrev pub range_position : Option Data → Option (ℕ × ℕ)
+range_position d = place_from (place_number (number_of (member_of (codes "line") d))) (place_number (number_of (member_of (codes "character") d)))
 
 unfoldable pub range_from : Option (ℕ × ℕ) → Option (ℕ × ℕ) → Option (Option ((ℕ × ℕ) × (ℕ × ℕ)))
 range_from None end = None
@@ -74,7 +74,7 @@ range_of (Some (boolean b)) = None
 range_of (Some (number n)) = None
 range_of (Some (string s)) = None
 range_of (Some (array ds)) = None
-range_of (Some (object ms)) = range_from (place_of (get (codes "start") (object ms))) (place_of (get (codes "end") (object ms)))
+range_of (Some (object ms)) = range_from (range_position (get (codes "start") (object ms))) (range_position (get (codes "end") (object ms)))
 
 unfoldable pub change_from : Option (List ℕ) → Option (Option ((ℕ × ℕ) × (ℕ × ℕ))) → Option ChangeForm
 change_from None range = None

@@ -2,7 +2,7 @@ ghost use Rattle.std.specs.Prelude.{◌≡◌, Ok, Err, IfOk, IfErr, codes, Opti
 ghost use Rattle.serde_json.specs.Find.{get};
 ghost use Rattle.serde_json.specs.View.{view, items_view, number_view};
 ghost use Rattle.lsp_forms.specs.Params.{RefusedAs, each};
-ghost use Rattle.lsp_forms.specs.Forms.{change_of, changes_in, did_change_of, place_number, place_of, range_from, range_of};
+ghost use Rattle.lsp_forms.specs.Forms.{change_of, changes_in, did_change_of, place_number, range_position, range_from, range_of};
 
 use crate::documents::{kept, uri_in};
 use crate::forms::{ChangeForm, DidChange, ParamFault};
@@ -25,8 +25,8 @@ fn place_number(number: Option<&Number>) -> Option<u32>
 
 /// A position of a range.
 #[tactic(auto, unfolding(crate::specs::Forms::place_from))]
-fn place_of(value: Option<&Value>) -> Option<(u32, u32)>
-    ensures { result ≡ place_of (option_map (λ v. view v.now) value.entry) }
+fn range_position(value: Option<&Value>) -> Option<(u32, u32)>
+    ensures { result ≡ range_position (option_map (λ v. view v.now) value.entry) }
 {
     let line = place_number(number_of(within(value, "line")));
     let character = place_number(number_of(within(value, "character")));
@@ -42,10 +42,10 @@ fn place_of(value: Option<&Value>) -> Option<(u32, u32)>
 /// The range of an object.
 #[tactic(auto, unfolding(crate::specs::Forms::range_from))]
 fn range_from(range: &Value) -> Option<Option<((u32, u32), (u32, u32))>>
-    ensures { result ≡ range_from (place_of (get (codes "start") (view range.now))) (place_of (get (codes "end") (view range.now))) }
+    ensures { result ≡ range_from (range_position (get (codes "start") (view range.now))) (range_position (get (codes "end") (view range.now))) }
 {
-    let start = place_of(range.get("start"));
-    let end = place_of(range.get("end"));
+    let start = range_position(range.get("start"));
+    let end = range_position(range.get("end"));
     match start {
         Some(start) => match end {
             Some(end) => Some(Some((start, end))),

@@ -9,7 +9,7 @@ use Rattle.decl_index.specs.History.{State, use_of}
 use Rattle.java_bodies.specs.declared.site.HoleSite.{HoleSite}
 use Rattle.offers.specs.declared.offer.Offer.{Offer}
 use Rattle.offers.specs.Scenes.{Scene}
-use Rattle.offers.specs.Spellings.{is_identifier}
+use Rattle.java_units.specs.Identifiers.{is_identifier}
 use Rattle.offers.specs.Omissions.{after_three, after_five}
 use Rattle.offers.specs.Functional.{faces}
 use Rattle.offers.specs.Pairs.{pairs_of}

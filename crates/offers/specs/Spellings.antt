@@ -1,25 +1,13 @@
 -- How a type is written at a hole (JLS 6.5.5).
-use Rattle.std.specs.Prelude.{ℕ, zero, suc, Bool, false, ◌&&◌, not, ◌==◌, if◌then◌else◌, List, [], ◌∷◌, ◌++◌, codes, unwrap_or, option_map, Option, Some, None}
+use Rattle.std.specs.Prelude.{ℕ, zero, suc, Bool, ◌&&◌, ◌==◌, if◌then◌else◌, List, [], ◌∷◌, ◌++◌, codes, unwrap_or, option_map, Option, Some, None}
 use Rattle.std.specs.List.{list_all, slice_split}
 use Rattle.std.specs.Option.{option_or}
-use Rattle.std.specs.Str.{chars}
 use Rattle.type_names.specs.declared.kinds.Base.{Base}
 use Rattle.type_names.specs.declared.kinds.Base.TheVariants.{Byte, Char, Double, Float, Int, Long, Short, Boolean, Class}
 use Rattle.type_names.specs.declared.kinds.Erased.{Erased}
-use Rattle.java_tokens.specs.Classes.{is_word_start, is_word_part}
-use Rattle.java_units.specs.Signs.{has, reserved}
 use Rattle.known_classes.specs.Known.{canonical}
 use Rattle.class_summary.specs.Sources.{joined}
 use Rattle.offers.specs.Scenes.{Scene, of_class, same_type, denoted}
-
--- A word.
-abbrev pub is_word : List ℕ → Bool
-is_word [] = false
-is_word (c ∷ cs) = is_word_start c && list_all is_word_part cs
-
--- A word that isn't reserved is an identifier (JLS 3.8).
-unfoldable pub is_identifier : List ℕ → Bool
-is_identifier text = is_word (chars text) && not (has reserved text)
 
 -- The parts between dots.
 abbrev pub parts : List ℕ → List (List ℕ)

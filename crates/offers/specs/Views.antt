@@ -9,7 +9,7 @@ use Rattle.java_bodies.specs.declared.site.HoleSite.{HoleSite}
 use Rattle.offers.specs.declared.weights.Weights.{Weights}
 use Rattle.offers.specs.Sites.{IsSiteOf}
 use Rattle.offers.specs.Scenes.{Scene, edited, package_here, own_names}
-use Rattle.offers.specs.Spellings.{is_identifier}
+use Rattle.java_units.specs.Identifiers.{is_identifier}
 use Rattle.offers.specs.Order.{is_below}
 
 -- A unit and a site of it, the known classes with those of the unit, the ancestors of each, and the usage counts.

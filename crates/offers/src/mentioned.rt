@@ -8,9 +8,9 @@ ghost use Rattle.offers.specs.Types.{string_type, member_types, face_types, site
 ghost use Rattle.offers.specs.Views.{scene};
 
 use crate::calls::of_base;
+use crate::key_order::sorted;
 use crate::member::{Face, Member};
 use crate::repeats::value;
-use crate::sorting::sorted;
 use crate::view::{View, of_class};
 use lists::{Copies, Items, Text, copy_all};
 use std::alloc::{AllocError, Global};

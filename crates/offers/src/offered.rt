@@ -6,8 +6,8 @@ ghost use Rattle.offers.specs.Reach.{access_of, is_local, is_accessible, is_in_r
 ghost use Rattle.offers.specs.Reached.{IsReachOf};
 ghost use Rattle.offers.specs.Views.{scene};
 
+use crate::key_order::sorted;
 use crate::reach::{Reach, access_of, is_open};
-use crate::sorting::sorted;
 use crate::texts::is_among;
 use crate::view::View;
 use known_classes::{ClassSummary, Nesting};

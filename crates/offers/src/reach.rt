@@ -10,9 +10,9 @@ ghost use Rattle.offers.specs.Reach.{access_of, is_local, is_accessible, named_b
 ghost use Rattle.offers.specs.Views.{scene};
 ghost use Rattle.offers.specs.Reached.{IsReachOf};
 
-use crate::texts::{is_among, joined};
+use crate::texts::is_among;
 use crate::view::View;
-use class_summary::canonical_name;
+use class_summary::{canonical_name, joined};
 use java_units::{Import, Unit};
 use known_classes::{ClassSummary, Nesting};
 use lists::{Copies, Items, Text};

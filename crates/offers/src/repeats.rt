@@ -1,7 +1,7 @@
 ghost use Rattle.std.specs.Prelude.{◌≡◌, ◌||◌, [], fold, IfOk, OnOk};
 ghost use Rattle.std.specs.List.{list_any, filter, flat_map};
 ghost use Rattle.offers.specs.declared.member.Kind.{Kind};
-ghost use Rattle.offers.specs.Spellings.{is_identifier};
+ghost use Rattle.java_units.specs.Identifiers.{is_identifier};
 ghost use Rattle.offers.specs.Candidates.{same_kind, is_static, is_private, value, candidates};
 ghost use Rattle.offers.specs.Omissions.{is_kin, is_again, is_named, with_first, firsts};
 ghost use Rattle.offers.specs.Views.{scene};
@@ -11,7 +11,7 @@ use crate::member::{Kind, Member};
 use crate::reach::{PRIVATE, STATIC, has_flag};
 use crate::types::same_types;
 use crate::view::{View, of_class};
-use crate::words::is_identifier;
+use java_units::forms::is_identifier;
 use known_classes::ClassSummary;
 use lists::{Copies, Items};
 use std::alloc::{AllocError, Global};

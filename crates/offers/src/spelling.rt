@@ -1,12 +1,14 @@
 ghost use Rattle.std.specs.Prelude.{◌≡◌, ◌≤◌, length, drop, IfOk};
 ghost use Rattle.std.specs.List.{list_all};
-ghost use Rattle.offers.specs.Spellings.{is_identifier, spells, shortest, class_spelling, base_by, with_dims, spelling, type_text};
+ghost use Rattle.java_units.specs.Identifiers.{is_identifier};
+ghost use Rattle.offers.specs.Spellings.{spells, shortest, class_spelling, base_by, with_dims, spelling, type_text};
 ghost use Rattle.offers.specs.Views.{scene};
 
-use crate::texts::{joined, parts};
+use crate::texts::parts;
 use crate::types::same_type;
 use crate::view::{View, of_class};
-use crate::words::is_identifier;
+use class_summary::joined;
+use java_units::forms::is_identifier;
 use lists::{Copies, Items, Text};
 use std::alloc::{AllocError, Global};
 use type_names::{Base, Erased};

@@ -10,9 +10,8 @@ ghost use Rattle.offers.specs.Scenes.{of_class, denoted, edited, package_here, o
 ghost use Rattle.offers.specs.Views.{scene};
 ghost use Rattle.offers.specs.Weighing.{usual};
 
-use crate::texts::joined;
 use crate::weights::Weights;
-use class_summary::{Resolver, internal_name};
+use class_summary::{Resolver, internal_name, joined};
 use decl_index::Index;
 use java_bodies::HoleSite;
 use java_units::{TypeText, Unit};

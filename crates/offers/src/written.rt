@@ -5,7 +5,7 @@ ghost use Rattle.offers.specs.Omissions.{needs_owner, is_crowded, is_written, af
 ghost use Rattle.offers.specs.Views.{scene};
 
 use crate::candidates::same_kind;
-use crate::crowding::is_crowded;
+use crate::crowds::is_crowded;
 use crate::member::{Kind, Member};
 use crate::repeats::is_static;
 use crate::spelling::{class_spelling, spelling};

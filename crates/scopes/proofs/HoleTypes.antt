@@ -1,8 +1,6 @@
 -- The types of the variables in the scope of a hole have few dimensions.
 use Rattle.std.proofs.Common.{◌≤◌, ◌==◌, ℕ, zero, suc, ◌-◌, ◌*◌, ◌/◌, Bool, true, false, ◌&&◌, if◌then◌else◌, List, [], ◌∷◌, ◌++◌, length, drop, take, map, codes, bytes_eq, arith, Option, Some, None}
 use Rattle.std.specs.List.{flat_map, list_any}
-use Rattle.std.proofs.lemmas.List.{length-drop, length-take}
-use Rattle.java_units.specs.declared.entries.Entry.{Entry}
 use Rattle.java_units.specs.declared.entries.Entry.TheVariants as entry
 use Rattle.java_units.specs.declared.types.TypeText.{TypeText}
 use Rattle.java_units.specs.declared.types.Param.{Param}
@@ -10,10 +8,11 @@ use Rattle.java_units.specs.declared.types.SourceField.{SourceField}
 use Rattle.java_units.specs.declared.types.SourceMethod.{SourceMethod}
 use Rattle.java_units.specs.declared.types.SourceClass.{SourceClass}
 use Rattle.java_units.specs.Signs.{Sign}
-use Rattle.java_units.specs.Forms.{begins, starts, type_len, ahead_len, dims_len, entry_len, next_len, entries}
+use Rattle.java_units.specs.Forms.{begins, type_len, ahead_len, dims_len, entries}
 use Rattle.java_units.specs.Values.{type_text, first_text, field_of, fields_of}
 use Rattle.java_units.specs.Dimensions.{greatest, bound_dims, params_dims, method_dims, type_dims}
 use Rattle.java_units.proofs.Dimensions.{plain_few, field_few}
+use Rattle.java_units.proofs.ClassTypes.{Short, drop_short, take_short, entries_short}
 use Rattle.java_bodies.specs.Bodies.{BodySigns}
 use Rattle.java_bodies.specs.Kept.{keeps}
 use Rattle.java_bodies.specs.Openers.{opener, gathered}
@@ -48,12 +47,6 @@ unfolding gathered
 most_gathered f m h zero = omega arith
 most_gathered f m h (suc n) = most_append (gathered f n) (f n) m (most_gathered f m h n) (h n)
 
-drop_short : (k n : ℕ) (ss : List Sign) → length ss ≤ n → length (drop k ss) ≤ n
-drop_short k n ss l = omega (arith, length-drop k ss, l)
-
-take_short : (k n : ℕ) (ss : List Sign) → length ss ≤ n → length (take k ss) ≤ n
-take_short k n ss l = omega (arith, length-take k ss, l)
-
 typed_short : (n : ℕ) (ss : List Sign) → length ss ≤ n → length (typed ss) ≤ n
 unfolding typed
 typed_short n ss l = drop_short (ahead_len ss) n ss l
@@ -65,35 +58,6 @@ named_short n ss l = drop_short (type_len (typed ss)) n (typed ss) (typed_short 
 statement_short : (n : ℕ) (ss : List Sign) → length ss ≤ n → length (statement ss) ≤ n
 unfolding statement
 statement_short n ss l = take_short (statement_len ss) n ss l
-
--- None of these lists is longer.
-abbrev Short : ℕ → List (List Sign) → Type 0
-Short n [] = Unit {0}
-Short n (x ∷ xs) = (length x ≤ n) × Short n xs
-
-short_if : (b : Bool) (n : ℕ) (xs : List (List Sign)) → Short n xs → Short n (if b then [] else xs)
-short_if true n xs h = tt
-short_if false n xs h = h
-
-starts_short : (ss : List Sign) (f : List Sign → ℕ) (k n : ℕ) → length ss ≤ n → Short n (starts f k ss)
-unfolding starts
-starts_short [] f zero n l = tt
-starts_short [] f (suc k) n l = tt
-starts_short (s ∷ ss) f (suc k) n l = let d : length ss ≤ n = omega (arith, l) in starts_short ss f k n d
-starts_short (s ∷ ss) f zero n l =
-    let d : length ss ≤ n = omega (arith, l) in
-    short_if (f (s ∷ ss) == 0) n ((s ∷ ss) ∷ starts f (f (s ∷ ss) - 1) ss) (l, starts_short ss f (f (s ∷ ss) - 1) n d)
-
-drops_short : (xs : List (List Sign)) (n : ℕ) → Short n xs → Short n (map (drop 1) xs)
-drops_short [] n h = tt
-drops_short (x ∷ xs) n h = let d : length (drop 1 x) ≤ n = omega (arith, length-drop 1 x, h.0) in (d, drops_short xs n h.1)
-
-entries_short : (e : Entry) (ss : List Sign) (n : ℕ) → length ss ≤ n → Short n (entries e ss)
-unfolding entries
-entries_short e ss n l =
-    let m = entry_len e ss in
-    let r = starts (next_len e) 0 (drop m ss) in
-    short_if (m == 0) n (ss ∷ map (drop 1) r) (l, drops_short r n (starts_short (drop m ss) (next_len e) 0 n (drop_short m n ss l)))
 
 usable_by_if : (b : Bool) (t : TypeText) → bound_dims (if b then None else Some t) ≤ t.dims
 usable_by_if true t = omega arith

@@ -20,7 +20,7 @@ pub loop-left-preserved : goal.loop-left-preserved
 loop-left-preserved c =
     let k : ℕ = c.loop-left.left - 1 in
     let some : single_name c.index-imports-left.result ≡ Some c.in-Some.last.now = sym c.single_name.ensures ∙ ap option_copied c.in-Some.is in
-    singles_put c.args.imports.now c.loop-left.left k c.index-imports-left.result c.in-Some.last.now c.as_str.result.now (get_by_text c.loop-left.places) (get_by_text c.put.new.numbers) (omega arith) c.index-imports-left.is some c.as_str.ensures c.in_ok-put.ensures c.loop-left.invariant
+    singles_put c.args.imports.now c.loop-left.left k c.index-imports-left.result c.in-Some.last.now c.as_str.result.now (get_by_text c.loop-left.places) (get_by_text c.put.new.numbers) (omega arith) c.index-imports-left.is some c.as_str.ensures c.in_ok-put.ensures.placed c.loop-left.invariant
 
 pub returns : goal.returns
 returns c = singles_end c.args.imports.now c.loop-left.left (get_by_text c.loop-left.places) (omega arith) c.loop-left.invariant

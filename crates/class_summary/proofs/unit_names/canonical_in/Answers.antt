@@ -12,8 +12,8 @@ loop-left-init c =
 pub loop-left-preserved : goal.loop-left-preserved
 loop-left-preserved c =
     let k : ℕ = c.loop-left.left - 1 in
-    let text : c.as_str.result.now ≡ canonical_name c.args.unit.now k = c.as_str.ensures ∙ c.in_ok-name.ensures in
-    firsts_on (length c.args.unit.now.classes) c.loop-left.left k (canonical_name c.args.unit.now) c.as_str.result.now (get_by_text c.loop-left.by_canonical) (get_by_text c.put.new.numbers) (omega arith) text c.in_ok-put.ensures c.loop-left.invariant
+    let text : c.as_str.result.now ≡ canonical_name c.args.unit.now k = c.as_str.ensures ∙ c.in_ok-name.ensures.name in
+    firsts_on (length c.args.unit.now.classes) c.loop-left.left k (canonical_name c.args.unit.now) c.as_str.result.now (get_by_text c.loop-left.by_canonical) (get_by_text c.put.new.numbers) (omega arith) text c.in_ok-put.ensures.placed c.loop-left.invariant
 
 pub returns : goal.returns
 returns c = firsts_end (length c.args.unit.now.classes) c.loop-left.left (canonical_name c.args.unit.now) (get_by_text c.loop-left.by_canonical) (omega arith) c.loop-left.invariant

@@ -14,7 +14,7 @@ loop-left-preserved-in_default c =
 pub loop-left-preserved : goal.loop-left-preserved
 loop-left-preserved c =
     let k : ℕ = c.loop-left.left - 1 in
-    members_put c.args.classes.now c.loop-left.left k c.index-classes-left.result c.in-Some.outer c.as_str.result.now (map get_by_text c.loop-left.members.items) (map get_by_text c.put_at.new.tables.items) (omega arith) c.index-classes-left.is c.in-Some.is c.as_str.ensures c.in_ok-put_at.ensures c.loop-left.invariant
+    members_put c.args.classes.now c.loop-left.left k c.index-classes-left.result c.in-Some.outer c.as_str.result.now (map get_by_text c.loop-left.members.items) (map get_by_text c.put_at.new.tables.items) (omega arith) c.index-classes-left.is c.in-Some.is c.as_str.ensures c.in_ok-put_at.ensures.placed c.loop-left.invariant
 
 pub returns : goal.returns
 returns c = members_end c.args.classes.now c.loop-left.left (map get_by_text c.loop-left.members.items) (omega arith) c.loop-left.invariant

@@ -19,7 +19,7 @@ pub loop-left-preserved : goal.loop-left-preserved
 loop-left-preserved c =
     let k : ℕ = c.loop-left.left - 1 in
     let none : is_some c.index-classes-left.result.outer ≡ false = sym c.is_some.ensures ∙ c.if-is_some.false in
-    top_put c.args.classes.now c.loop-left.left k c.index-classes-left.result c.as_str.result.now (get_by_text c.loop-left.top) (get_by_text c.put.new.numbers) (omega arith) c.index-classes-left.is none c.as_str.ensures c.in_ok-put.ensures c.loop-left.invariant
+    top_put c.args.classes.now c.loop-left.left k c.index-classes-left.result c.as_str.result.now (get_by_text c.loop-left.top) (get_by_text c.put.new.numbers) (omega arith) c.index-classes-left.is none c.as_str.ensures c.in_ok-put.ensures.placed c.loop-left.invariant
 
 pub returns : goal.returns
 returns c = top_end c.args.classes.now c.loop-left.left (get_by_text c.loop-left.top) (omega arith) c.loop-left.invariant

@@ -11,7 +11,7 @@ loop-left-init c =
 pub loop-left-preserved : goal.loop-left-preserved
 loop-left-preserved c =
     let k : ℕ = c.loop-left.left - 1 in
-    bounds_on c.args.vars.now c.loop-left.left k c.index-vars-left.result c.as_str.result.now (get_by_text c.loop-left.places) (get_by_text c.put.new.numbers) (omega arith) c.index-vars-left.is c.as_str.ensures c.in_ok-put.ensures c.loop-left.invariant
+    bounds_on c.args.vars.now c.loop-left.left k c.index-vars-left.result c.as_str.result.now (get_by_text c.loop-left.places) (get_by_text c.put.new.numbers) (omega arith) c.index-vars-left.is c.as_str.ensures c.in_ok-put.ensures.placed c.loop-left.invariant
 
 pub returns : goal.returns
 returns c = bounds_end c.args.vars.now c.loop-left.left (get_by_text c.loop-left.places) (omega arith) c.loop-left.invariant
