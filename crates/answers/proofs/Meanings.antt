@@ -3,7 +3,6 @@ use Rattle.std.proofs.Common.{ℕ, List, Bool, true, false, Option, None, Some}
 use Rattle.std.specs.Prelude.{if◌then◌else◌, codes, bytes_eq, Result, Ok, Err}
 use Rattle.std.specs.Str.{chars}
 use Rattle.serde_json.specs.Data.{Data}
-use Rattle.serde_json.specs.Find.{get}
 use Rattle.documents.specs.Places.{offset_of}
 use Rattle.json_rpc.specs.declared.message.Id.{Id}
 use Rattle.json_rpc.specs.Messages.{Heard, request, notice, response, invalid, message_of}
@@ -15,17 +14,16 @@ use Rattle.lsp_forms.specs.declared.forms.DidClose.{DidClose}
 use Rattle.lsp_forms.specs.declared.forms.Completion.{Completion}
 use Rattle.lsp_forms.specs.declared.forms.Command.{Command}
 use Rattle.lsp_forms.specs.declared.forms.Command.TheVariants as command
-use Rattle.lsp_forms.specs.Params.{text_of}
 use Rattle.lsp_forms.specs.Forms.{initialize_of, did_open_of, did_change_of, did_close_of, completion_of}
 use Rattle.lsp_forms.specs.Commands.{command_of}
 use Rattle.answers.specs.declared.types.Phase.{Phase}
 use Rattle.answers.specs.declared.types.Phase.TheVariants.{Fresh, Running, Stopped}
 use Rattle.answers.specs.declared.types.DocumentState.{DocumentState}
 use Rattle.answers.specs.declared.types.DocumentState.TheVariants.{Sure, Unsure, NoMemory}
-use Rattle.answers.specs.Failures.{unknown_method, invalid_request, not_initialized, invalid_params}
-use Rattle.answers.specs.Asks.{Ask, complete, page, close, change, exit, other, Loaded, fixed, classes, missing, too_long, no_class_file, unreadable}
+use Rattle.answers.specs.Failures.{unknown_method, invalid_request, not_initialized}
+use Rattle.answers.specs.Asks.{Ask, complete, page, close, change, exit, other}
 use Rattle.answers.specs.Sessions.{Seen, document_of}
-use Rattle.answers.specs.Messages.{DocumentEdit, closing, changing, Meaning, asks, says, lacks, starts, stops, edits, leaves, drops, fails, completion_at, completion_in, completion_by, publication_by, withdrawal_by, command_by, makes_change, fixed_command, command_in, initialize_by, running_request, fresh_request, request_by, open_by, edit_if_open, change_by, close_by, running_notice, notice_by, notice_in, meaning_in, meaning_of}
+use Rattle.answers.specs.Messages.{DocumentEdit, closing, changing, Meaning, asks, publishes, says, lacks, starts, stops, edits, leaves, drops, fails, completion_at, completion_in, completion_by, command_by, initialize_by, running_request, fresh_request, request_by, open_by, edit_if_open, change_by, close_by, running_notice, notice_by, notice_in, meaning_in, meaning_of}
 use Rattle.answers.specs.Tells.{IsPlain}
 
 -- A question about lists or versions.
@@ -39,6 +37,7 @@ IsQuestion other = ⊥
 
 abbrev pub CanBe : Meaning → Type 0
 CanBe (asks id ask) = IsQuestion ask
+CanBe (publishes id names removes counts) = Unit {0}
 CanBe (says id reply) = IsPlain reply
 CanBe (lacks id) = Unit {0}
 CanBe (starts id options) = Unit {0}
@@ -65,37 +64,12 @@ completion_form : (s : Seen) (id : Id) (r : Result Completion ParamFault) → Ca
 completion_form s id (Err f) = tt
 completion_form s id (Ok form) = completion_document s id form (document_of form.uri s.documents)
 
-publication : (id : Id) (removes : List (List ℕ)) (counts : List (List ℕ × ℕ)) (loads : Loaded) → CanBe (publication_by id removes counts loads)
-publication id removes counts fixed = tt
-publication id removes counts (classes puts) = tt
-publication id removes counts (missing index) = tt
-publication id removes counts (too_long index) = tt
-publication id removes counts (no_class_file index class_fault place) = tt
-publication id removes counts (unreadable index) = tt
-
-withdrawal : (id : Id) (through : ℕ) (loads : Loaded) → CanBe (withdrawal_by id through loads)
-withdrawal id through fixed = tt
-withdrawal id through (classes puts) = tt
-withdrawal id through (missing index) = tt
-withdrawal id through (too_long index) = tt
-withdrawal id through (no_class_file index class_fault place) = tt
-withdrawal id through (unreadable index) = tt
-
-command_form : (id : Id) (loads : Loaded) (r : Result Command ParamFault) → CanBe (command_by id loads r)
-command_form id loads (Err f) = tt
-command_form id loads (Ok (command.Page cursor count)) = tt
-command_form id loads (Ok (command.Close cursor)) = tt
-command_form id loads (Ok (command.Publish puts removes counts)) = publication id removes counts loads
-command_form id loads (Ok (command.Withdraw through)) = withdrawal id through loads
-
-command_params : (id : Id) (params : Data) (loads : Loaded) → CanBe (command_in id params loads)
-unfolding fixed_command
-command_params id params fixed = either (makes_change (text_of (get (codes "command") params))) (fails id (invalid_params 7 0)) (command_by id fixed (command_of params)) tt (command_form id fixed (command_of params))
-command_params id params (classes puts) = command_form id (classes puts) (command_of params)
-command_params id params (missing index) = command_form id (missing index) (command_of params)
-command_params id params (too_long index) = command_form id (too_long index) (command_of params)
-command_params id params (no_class_file index class_fault place) = command_form id (no_class_file index class_fault place) (command_of params)
-command_params id params (unreadable index) = command_form id (unreadable index) (command_of params)
+command_form : (id : Id) (r : Result Command ParamFault) → CanBe (command_by id r)
+command_form id (Err f) = tt
+command_form id (Ok (command.Page cursor count)) = tt
+command_form id (Ok (command.Close cursor)) = tt
+command_form id (Ok (command.Publish names removes counts)) = tt
+command_form id (Ok (command.Withdraw through)) = tt
 
 initialize_form : (id : Id) (r : Result Initialize ParamFault) → CanBe (initialize_by id r)
 initialize_form id (Err f) = tt
@@ -107,24 +81,24 @@ rest_of_requests id true b = tt
 rest_of_requests id false true = tt
 rest_of_requests id false false = tt
 
-running : (s : Seen) (loads : Loaded) (id : Id) (method : List ℕ) (params : Data) → CanBe (running_request s loads id method params)
+running : (s : Seen) (id : Id) (method : List ℕ) (params : Data) → CanBe (running_request s id method params)
 unfolding running_request
-running s loads id method params =
+running s id method params =
     let a : Bool = bytes_eq method (codes "shutdown") in
     let b : Bool = bytes_eq method (codes "initialize") in
     let last : Meaning = if a then stops id else if b then fails id invalid_request else fails id unknown_method in
-    let commands : Meaning = if bytes_eq method (codes "workspace/executeCommand") then command_in id params loads else last in
+    let commands : Meaning = if bytes_eq method (codes "workspace/executeCommand") then command_by id (command_of params) else last in
     either (bytes_eq method (codes "textDocument/completion")) (completion_by s id (completion_of params)) commands (completion_form s id (completion_of params))
-    (either (bytes_eq method (codes "workspace/executeCommand")) (command_in id params loads) last (command_params id params loads) (rest_of_requests id a b))
+    (either (bytes_eq method (codes "workspace/executeCommand")) (command_by id (command_of params)) last (command_form id (command_of params)) (rest_of_requests id a b))
 
 fresh : (id : Id) (method : List ℕ) (params : Data) → CanBe (fresh_request id method params)
 unfolding fresh_request
 fresh id method params = either (bytes_eq method (codes "initialize")) (initialize_by id (initialize_of params)) (fails id not_initialized) (initialize_form id (initialize_of params)) tt
 
-request_phase : (phase : Phase) (s : Seen) (loads : Loaded) (id : Id) (method : List ℕ) (params : Data) → CanBe (request_by phase s loads id method params)
-request_phase Fresh s loads id method params = fresh id method params
-request_phase Running s loads id method params = running s loads id method params
-request_phase Stopped s loads id method params = tt
+request_phase : (phase : Phase) (s : Seen) (id : Id) (method : List ℕ) (params : Data) → CanBe (request_by phase s id method params)
+request_phase Fresh s id method params = fresh id method params
+request_phase Running s id method params = running s id method params
+request_phase Stopped s id method params = tt
 
 edit_open : (uri : List ℕ) (edit : DocumentEdit) (o : Option DocumentState) → CanBe (edit_if_open uri edit o)
 edit_open uri edit None = tt
@@ -156,13 +130,13 @@ notice_phase Fresh s method params = tt
 notice_phase Running s method params = notices s method params
 notice_phase Stopped s method params = tt
 
-heard_means : (s : Seen) (loads : Loaded) (o : Option Heard) → CanBe (meaning_in s loads o)
+heard_means : (s : Seen) (o : Option Heard) → CanBe (meaning_in s o)
 unfolding notice_in
-heard_means s loads None = tt
-heard_means s loads (Some (invalid id)) = tt
-heard_means s loads (Some response) = tt
-heard_means s loads (Some (request id method params)) = request_phase s.phase s loads id method params
-heard_means s loads (Some (notice method params)) = either (bytes_eq method (codes "exit")) leaves (notice_by s.phase s method params) tt (notice_phase s.phase s method params)
+heard_means s None = tt
+heard_means s (Some (invalid id)) = tt
+heard_means s (Some response) = tt
+heard_means s (Some (request id method params)) = request_phase s.phase s id method params
+heard_means s (Some (notice method params)) = either (bytes_eq method (codes "exit")) leaves (notice_by s.phase s method params) tt (notice_phase s.phase s method params)
 
-pub means : (s : Seen) (body : List ℕ) (loads : Loaded) → CanBe (meaning_of s body loads)
-means s body loads = heard_means s loads (message_of body)
+pub means : (s : Seen) (body : List ℕ) → CanBe (meaning_of s body)
+means s body = heard_means s (message_of body)

@@ -9,10 +9,10 @@ use Rattle.json_rpc.specs.Messages.{request, notice, response, invalid}
 use Rattle.answers.specs.declared.types.Phase.TheVariants.{Running, Stopped}
 use Rattle.answers.specs.declared.types.DocumentState.TheVariants.{Sure, Unsure, NoMemory}
 use Rattle.answers.specs.Failures.{parse_error, invalid_request, unknown_method, not_initialized, invalid_params}
-use Rattle.answers.specs.Asks.{classes, missing}
+use Rattle.answers.specs.Asks.{Met, missing}
 use Rattle.answers.specs.Sessions.{Seen, start, document_of, with_document, changed_state, state_by}
 use Rattle.answers.specs.Replies.{failure}
-use Rattle.answers.specs.Messages.{says, stops, leaves, drops, fails, fresh_request, running_request, notice_in, meaning_in, completion_in, lacks, publication_by}
+use Rattle.answers.specs.Messages.{says, stops, leaves, drops, fails, fresh_request, running_request, notice_in, meaning_in, completion_in, lacks, said, published}
 
 id : Id
 id = Number (pos 1)
@@ -23,40 +23,40 @@ running = record start { phase = Running }
 stopped : Seen
 stopped = record start { phase = Stopped }
 
-no-json-row : meaning_in start (classes []) None ≡ says None (failure parse_error)
+no-json-row : meaning_in start None ≡ says None (failure parse_error)
 no-json-row = refl
 
-no-message-row : meaning_in start (classes []) (Some (invalid (Some id))) ≡ says (Some id) (failure invalid_request)
+no-message-row : meaning_in start (Some (invalid (Some id))) ≡ says (Some id) (failure invalid_request)
 no-message-row = refl
 
-response-row : meaning_in running (classes []) (Some response) ≡ drops
+response-row : meaning_in running (Some response) ≡ drops
 response-row = refl
 
-early-row : meaning_in start (classes []) (Some (request id (codes "shutdown") null)) ≡ fails id not_initialized
+early-row : meaning_in start (Some (request id (codes "shutdown") null)) ≡ fails id not_initialized
 unfolding fresh_request
 early-row = refl
 
-shutdown-row : meaning_in running (classes []) (Some (request id (codes "shutdown") null)) ≡ stops id
+shutdown-row : meaning_in running (Some (request id (codes "shutdown") null)) ≡ stops id
 unfolding running running_request
 shutdown-row = refl
 
-twice-row : meaning_in running (classes []) (Some (request id (codes "initialize") null)) ≡ fails id invalid_request
+twice-row : meaning_in running (Some (request id (codes "initialize") null)) ≡ fails id invalid_request
 unfolding running running_request
 twice-row = refl
 
-exit-request-row : meaning_in running (classes []) (Some (request id (codes "exit") null)) ≡ fails id unknown_method
+exit-request-row : meaning_in running (Some (request id (codes "exit") null)) ≡ fails id unknown_method
 unfolding running running_request
 exit-request-row = refl
 
-late-row : meaning_in stopped (classes []) (Some (request id (codes "textDocument/completion") null)) ≡ fails id invalid_request
+late-row : meaning_in stopped (Some (request id (codes "textDocument/completion") null)) ≡ fails id invalid_request
 unfolding stopped
 late-row = refl
 
-exit-row : meaning_in start (classes []) (Some (notice (codes "exit") null)) ≡ leaves
+exit-row : meaning_in start (Some (notice (codes "exit") null)) ≡ leaves
 unfolding notice_in
 exit-row = refl
 
-dropped-row : meaning_in start (classes []) (Some (notice (codes "textDocument/didOpen") null)) ≡ drops
+dropped-row : meaning_in start (Some (notice (codes "textDocument/didOpen") null)) ≡ drops
 unfolding notice_in
 dropped-row = refl
 
@@ -69,8 +69,8 @@ unsure-row = refl
 lacking-row : completion_in running id (record { uri = codes "u"; line = 0; character = 0 }) (Some NoMemory) ≡ lacks id
 lacking-row = refl
 
-missing-row : publication_by id [] [] (missing 3) ≡ fails id (invalid_params 9 3)
-missing-row = refl
+missing-row : (m : Met) → published running id [] [] m (missing 3) ≡ said running (Some id) (failure (invalid_params 9 3))
+missing-row m = refl
 
 -- A change with a range is passed over in a text that is unsure, and the whole text makes it sure.
 ranged-row : state_by Unsure (Some (record { range = Some ((0, 0), (0, 0)); text = codes "x" } ∷ [])) ≡ Unsure

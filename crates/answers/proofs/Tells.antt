@@ -1,6 +1,7 @@
 -- Each outcome of a run tells its answer, and nothing else of lists and versions.
 use Rattle.std.proofs.Common.{◌≡◌, ℕ, Bool, true, false, List, [], ◌∷◌, refl, sym, subst, Option, None, Some, inl, inr}
 use Rattle.std.specs.Prelude.{if◌then◌else◌, is_some}
+use Rattle.decl_index.specs.declared.change.Change.TheVariants.{Publish}
 use Rattle.decl_index.specs.declared.change.ChangeFault.{ChangeFault}
 use Rattle.decl_index.specs.History.{first_withdrawal}
 use Rattle.java_bodies.specs.declared.site.HoleSite.{HoleSite}
@@ -9,13 +10,13 @@ use Rattle.json_rpc.specs.declared.message.Id.{Id}
 use Rattle.lsp_forms.specs.Results.{capabilities}
 use Rattle.answers.specs.declared.types.Hole.{Hole}
 use Rattle.answers.specs.declared.types.Cursor.{Cursor}
-use Rattle.answers.specs.Failures.{invalid_params}
+use Rattle.answers.specs.Failures.{invalid_params, no_class, read_fault}
 use Rattle.answers.specs.Cursors.{Lists, look, with_cursor}
-use Rattle.answers.specs.Asks.{Ask, complete, page, close, change, exit, other, Short, Enough, Lacking, Ending, Met, Answer, opened, turned, withdrawn, accepted, refused, quiet, ended, new_cursor, is_used_up, completed_at, completed, turned_or, paged, changed, by_ask, by_short}
+use Rattle.answers.specs.Asks.{Ask, complete, page, close, change, exit, other, Short, Enough, Lacking, Ending, Met, Loaded, classes, missing, too_long, no_class_file, unreadable, Answer, opened, turned, withdrawn, accepted, refused, quiet, ended, new_cursor, is_used_up, completed_at, completed, turned_or, paged, changed, by_ask, by_short, lacking}
 use Rattle.answers.specs.Turns.{answer, next, answers_to}
 use Rattle.answers.specs.Sessions.{Seen}
 use Rattle.answers.specs.Replies.{result, failure, reply_text, without_list, quiet_reply, reply_of}
-use Rattle.answers.specs.Messages.{Meaning, asks, says, lacks, starts, stops, edits, leaves, drops, replied, meaning_of, ask_in, by_memory}
+use Rattle.answers.specs.Messages.{Meaning, asks, publishes, says, lacks, starts, stops, edits, leaves, drops, replied, no_memory, meaning_of, ask_by, ask_in, published, by_memory}
 use Rattle.answers.specs.Runs.{Message, outcome, session_after, ends, replies_to, turn_of, turns_of}
 use Rattle.answers.specs.Tells.{IsPlain, Tells, AllTell}
 use Rattle.answers.specs.Laws.{RepliesTell}
@@ -94,9 +95,26 @@ asks_tell x l m id ask is q =
     subst (λ y. Tells (by_ask l m ask).1 (replied (reply_text (Some id) (reply_of l m ask (by_short y l ask m).1)))) (sym is)
     (reply_tells l m id ask (by_ask l m ask).1 (goes_on l m ask q))
 
-tells_by : (x : Short) (s : Seen) (meaning : Meaning) (m : Met) → m.short ≡ x → CanBe meaning → Tells (by_short x s.lists (ask_in meaning) m).1 (by_memory x s meaning m).1
+published_tell : (o : Loaded) (s : Seen) (id : Id) (removes : List (List ℕ)) (counts : List (List ℕ × ℕ)) (m : Met) → m.short ≡ Enough
+    → Tells (by_ask s.lists m (ask_by removes counts o)).1 (published s id removes counts m o).1
+published_tell (classes puts) s id removes counts m is = asks_tell m.short s.lists m id (change (Publish puts removes counts)) is tt
+published_tell (missing index) s id removes counts m is = record { id = Some id; reply = failure (invalid_params 9 index); is = refl; plain = tt }
+published_tell (too_long index) s id removes counts m is = record { id = Some id; reply = failure (invalid_params 10 index); is = refl; plain = tt }
+published_tell (no_class_file index class_fault place) s id removes counts m is = record { id = Some id; reply = failure (no_class index class_fault place); is = refl; plain = tt }
+published_tell (unreadable index) s id removes counts m is = record { id = Some id; reply = failure (read_fault index); is = refl; plain = tt }
+
+-- Where memory is wanting nothing is told.
+lacking_tell : (o : Loaded) (l : Lists) (id : Id) (removes : List (List ℕ)) (counts : List (List ℕ × ℕ)) → Tells (lacking l (ask_by removes counts o)).1 (no_memory id)
+lacking_tell (classes puts) l id removes counts = tt
+lacking_tell (missing index) l id removes counts = tt
+lacking_tell (too_long index) l id removes counts = tt
+lacking_tell (no_class_file index class_fault place) l id removes counts = tt
+lacking_tell (unreadable index) l id removes counts = tt
+
+tells_by : (x : Short) (s : Seen) (meaning : Meaning) (m : Met) → m.short ≡ x → CanBe meaning → Tells (by_short x s.lists (ask_in meaning m.loads) m).1 (by_memory x s meaning m).1
 tells_by Ending s meaning m is can = tt
 tells_by Enough s (asks id ask) m is can = asks_tell m.short s.lists m id ask is can
+tells_by Enough s (publishes id names removes counts) m is can = published_tell m.loads s id removes counts m is
 tells_by Enough s (says id reply) m is can = record { id = id; reply = reply; is = refl; plain = can }
 tells_by Enough s (lacks id) m is can = tt
 tells_by Enough s (starts id options) m is can = record { id = Some id; reply = result capabilities; is = refl; plain = inr refl }
@@ -110,6 +128,7 @@ tells_by Lacking s (asks id (close k)) m is can = tt
 tells_by Lacking s (asks id (change c)) m is can = tt
 tells_by Lacking s (asks id exit) m is can = absurd can
 tells_by Lacking s (asks id other) m is can = absurd can
+tells_by Lacking s (publishes id names removes counts) m is can = lacking_tell m.loads s.lists id removes counts
 tells_by Lacking s (says None reply) m is can = tt
 tells_by Lacking s (says (Some id) reply) m is can = tt
 tells_by Lacking s (lacks id) m is can = tt
@@ -120,7 +139,7 @@ tells_by Lacking s leaves m is can = tt
 tells_by Lacking s drops m is can = tt
 
 step_tells : (s : Seen) (m : Message) → Tells (answer s.lists (turn_of s m)) (outcome s m)
-step_tells s m = tells_by m.met.short s (meaning_of s m.body m.met.loads) m.met refl (means s m.body m.met.loads)
+step_tells s m = tells_by m.met.short s (meaning_of s m.body) m.met refl (means s m.body)
 
 -- Whether the run goes on or ends, the rest tells.
 rest_tells : (b : Bool) (s : Seen) (ms : List Message) (l : Lists) → s.lists ≡ l → AllTell (answers_to s.lists (turns_of s ms)) (replies_to s ms)

@@ -32,10 +32,8 @@ pub data Short : Type 0 where
   Ending : Short
 
 -- What the files of a publication gave: their classes in order; or of the first that gave none its number and why: it wasn't
--- there, was too long, was no class file, with the fault's number and place, or couldn't be read. Or none was looked at, since
--- the version is fixed and no change is taken.
+-- there, was too long, was no class file, with the fault's number and place, or couldn't be read.
 pub data Loaded : Type 0 where
-  fixed : Loaded
   classes : List ClassSummary → Loaded
   missing : (index : ℕ) → Loaded
   too_long : (index : ℕ) → Loaded

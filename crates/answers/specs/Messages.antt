@@ -1,8 +1,7 @@
 -- The answer to one message: a function of the session, the message's body and what it met.
-use Rattle.std.specs.Prelude.{ℕ, List, codes, bytes_eq, Bool, true, false, ◌||◌, if◌then◌else◌, Option, Some, None, Result, Ok, Err}
+use Rattle.std.specs.Prelude.{ℕ, List, [], codes, bytes_eq, Bool, true, false, if◌then◌else◌, Option, Some, None, Result, Ok, Err}
 use Rattle.std.specs.Str.{chars}
 use Rattle.serde_json.specs.Data.{Data, null}
-use Rattle.serde_json.specs.Find.{get}
 use Rattle.decl_index.specs.declared.change.Change.TheVariants.{Publish, Withdraw}
 use Rattle.documents.specs.Edits.{within}
 use Rattle.documents.specs.Places.{offset_of}
@@ -18,7 +17,6 @@ use Rattle.lsp_forms.specs.declared.forms.Completion.{Completion}
 use Rattle.lsp_forms.specs.declared.forms.Command.{Command}
 use Rattle.lsp_forms.specs.declared.forms.Command.TheVariants as command
 use Rattle.lsp_forms.specs.Forms.{initialize_of, did_open_of, did_change_of, did_close_of, completion_of}
-use Rattle.lsp_forms.specs.Params.{text_of}
 use Rattle.lsp_forms.specs.Commands.{command_of}
 use Rattle.lsp_forms.specs.Results.{capabilities}
 use Rattle.answers.specs.declared.types.Phase.{Phase}
@@ -27,7 +25,7 @@ use Rattle.answers.specs.declared.types.DocumentState.{DocumentState}
 use Rattle.answers.specs.declared.types.DocumentState.TheVariants.{Sure, Unsure, NoMemory}
 use Rattle.answers.specs.declared.types.OpenDocument.{OpenDocument}
 use Rattle.answers.specs.Failures.{Failure, parse_error, invalid_request, unknown_method, not_initialized, invalid_params, no_class, read_fault}
-use Rattle.answers.specs.Asks.{Ask, complete, page, close, change, exit, other, Loaded, fixed, classes, missing, too_long, no_class_file, unreadable, Short, Enough, Lacking, Ending, Met, list_answer_to}
+use Rattle.answers.specs.Asks.{Ask, complete, page, close, change, exit, other, Loaded, classes, missing, too_long, no_class_file, unreadable, Short, Enough, Lacking, Ending, Met, list_answer_to}
 use Rattle.answers.specs.Sessions.{Seen, document_of, with_document, without_document, state_of, state_by}
 use Rattle.answers.specs.Replies.{Reply, result, failure, reply_text, reply_of}
 
@@ -37,11 +35,12 @@ pub data DocumentEdit : Type 0 where
   changing : (changes : Option (List ChangeForm)) → DocumentEdit
   closing : DocumentEdit
 
--- What a message means in a session: a request about lists and versions; one that the session alone answers, where a
--- message that shows no id has none; a request in a document for which memory was wanting; `initialize` and `shutdown`;
--- a notification of a document; `exit`; or nothing.
+-- What a message means in a session: a request about lists and versions; a publication, which names its files; a request that
+-- the session alone answers, where a message that shows no id has none; a request in a document for which memory was wanting;
+-- `initialize` and `shutdown`; a notification of a document; `exit`; or nothing.
 pub data Meaning : Type 0 where
   asks : (id : Id) (ask : Ask) → Meaning
+  publishes : (id : Id) (names removes : List (List ℕ)) (counts : List (List ℕ × ℕ)) → Meaning
   says : (id : Option Id) (reply : Reply) → Meaning
   lacks : (id : Id) → Meaning
   starts : (id : Id) (options : Initialize) → Meaning
@@ -72,56 +71,23 @@ abbrev pub completion_by : Seen → Id → Result Completion ParamFault → Mean
 completion_by s id (Err f) = fault_of id f
 completion_by s id (Ok form) = completion_in s id form (document_of form.uri s.documents)
 
--- A publication of what its files gave.
-abbrev pub publication_by : Id → List (List ℕ) → List (List ℕ × ℕ) → Loaded → Meaning
-publication_by id removes counts fixed = fails id (invalid_params 7 0)
-publication_by id removes counts (classes puts) = asks id (change (Publish puts removes counts))
-publication_by id removes counts (missing index) = fails id (invalid_params 9 index)
-publication_by id removes counts (too_long index) = fails id (invalid_params 10 index)
-publication_by id removes counts (no_class_file index class_fault place) = fails id (no_class index class_fault place)
-publication_by id removes counts (unreadable index) = fails id (read_fault index)
-
-abbrev pub withdrawal_by : Id → ℕ → Loaded → Meaning
-withdrawal_by id through fixed = fails id (invalid_params 7 0)
-withdrawal_by id through (classes puts) = asks id (change (Withdraw through))
-withdrawal_by id through (missing index) = asks id (change (Withdraw through))
-withdrawal_by id through (too_long index) = asks id (change (Withdraw through))
-withdrawal_by id through (no_class_file index class_fault place) = asks id (change (Withdraw through))
-withdrawal_by id through (unreadable index) = asks id (change (Withdraw through))
-
-abbrev pub command_by : Id → Loaded → Result Command ParamFault → Meaning
-command_by id loads (Err f) = fault_of id f
-command_by id loads (Ok (command.Page cursor count)) = asks id (page cursor count)
-command_by id loads (Ok (command.Close cursor)) = asks id (close cursor)
-command_by id loads (Ok (command.Publish puts removes counts)) = publication_by id removes counts loads
-command_by id loads (Ok (command.Withdraw through)) = withdrawal_by id through loads
-
--- Whether the command of this name makes a change.
-unfoldable pub makes_change : Option (List ℕ) → Bool
-makes_change None = false
-makes_change (Some name) = bytes_eq name (codes "insynth.publish") || bytes_eq name (codes "insynth.withdraw")
-
--- A command that makes a change is unknown, whatever its arguments, where no change is taken.
-unfoldable pub fixed_command : Id → Data → Meaning
-fixed_command id params = if makes_change (text_of (get (codes "command") params)) then fails id (invalid_params 7 0) else command_by id fixed (command_of params)
-
-abbrev pub command_in : Id → Data → Loaded → Meaning
-command_in id params fixed = fixed_command id params
-command_in id params (classes puts) = command_by id (classes puts) (command_of params)
-command_in id params (missing index) = command_by id (missing index) (command_of params)
-command_in id params (too_long index) = command_by id (too_long index) (command_of params)
-command_in id params (no_class_file index class_fault place) = command_by id (no_class_file index class_fault place) (command_of params)
-command_in id params (unreadable index) = command_by id (unreadable index) (command_of params)
+-- A publication comes after its files were loaded.
+abbrev pub command_by : Id → Result Command ParamFault → Meaning
+command_by id (Err f) = fault_of id f
+command_by id (Ok (command.Page cursor count)) = asks id (page cursor count)
+command_by id (Ok (command.Close cursor)) = asks id (close cursor)
+command_by id (Ok (command.Publish names removes counts)) = publishes id names removes counts
+command_by id (Ok (command.Withdraw through)) = asks id (change (Withdraw through))
 
 abbrev pub initialize_by : Id → Result Initialize ParamFault → Meaning
 initialize_by id (Err f) = fault_of id f
 initialize_by id (Ok options) = starts id options
 
 -- A request between `initialize` and `shutdown`.
-unfoldable pub running_request : Seen → Loaded → Id → List ℕ → Data → Meaning
-running_request s loads id method params =
+unfoldable pub running_request : Seen → Id → List ℕ → Data → Meaning
+running_request s id method params =
     if bytes_eq method (codes "textDocument/completion") then completion_by s id (completion_of params)
-    else if bytes_eq method (codes "workspace/executeCommand") then command_in id params loads
+    else if bytes_eq method (codes "workspace/executeCommand") then command_by id (command_of params)
     else if bytes_eq method (codes "shutdown") then stops id
     else if bytes_eq method (codes "initialize") then fails id invalid_request
     else fails id unknown_method
@@ -131,10 +97,10 @@ unfoldable pub fresh_request : Id → List ℕ → Data → Meaning
 fresh_request id method params = if bytes_eq method (codes "initialize") then initialize_by id (initialize_of params) else fails id not_initialized
 
 -- The phase comes before the method.
-abbrev pub request_by : Phase → Seen → Loaded → Id → List ℕ → Data → Meaning
-request_by Fresh s loads id method params = fresh_request id method params
-request_by Running s loads id method params = running_request s loads id method params
-request_by Stopped s loads id method params = fails id invalid_request
+abbrev pub request_by : Phase → Seen → Id → List ℕ → Data → Meaning
+request_by Fresh s id method params = fresh_request id method params
+request_by Running s id method params = running_request s id method params
+request_by Stopped s id method params = fails id invalid_request
 
 abbrev pub open_by : Result DidOpen ParamFault → Meaning
 open_by (Err f) = drops
@@ -171,27 +137,48 @@ unfoldable pub notice_in : Seen → List ℕ → Data → Meaning
 notice_in s method params = if bytes_eq method (codes "exit") then leaves else notice_by s.phase s method params
 
 -- A message by what its JSON value is.
-abbrev pub meaning_in : Seen → Loaded → Option Heard → Meaning
-meaning_in s loads None = says None (failure parse_error)
-meaning_in s loads (Some (invalid id)) = says id (failure invalid_request)
-meaning_in s loads (Some response) = drops
-meaning_in s loads (Some (request id method params)) = request_by s.phase s loads id method params
-meaning_in s loads (Some (notice method params)) = notice_in s method params
+abbrev pub meaning_in : Seen → Option Heard → Meaning
+meaning_in s None = says None (failure parse_error)
+meaning_in s (Some (invalid id)) = says id (failure invalid_request)
+meaning_in s (Some response) = drops
+meaning_in s (Some (request id method params)) = request_by s.phase s id method params
+meaning_in s (Some (notice method params)) = notice_in s method params
 
--- What a body means in a session, where its files gave this.
-abbrev pub meaning_of : Seen → List ℕ → Loaded → Meaning
-meaning_of s body loads = meaning_in s loads (message_of body)
+-- What a body means in a session.
+abbrev pub meaning_of : Seen → List ℕ → Meaning
+meaning_of s body = meaning_in s (message_of body)
 
--- What it asks of lists and versions.
-abbrev pub ask_in : Meaning → Ask
-ask_in (asks id ask) = ask
-ask_in (says id reply) = other
-ask_in (lacks id) = other
-ask_in (starts id options) = other
-ask_in (stops id) = other
-ask_in (edits uri edit) = other
-ask_in leaves = exit
-ask_in drops = other
+-- The files that it names.
+abbrev pub files_in : Meaning → List (List ℕ)
+files_in (asks id ask) = []
+files_in (publishes id names removes counts) = names
+files_in (says id reply) = []
+files_in (lacks id) = []
+files_in (starts id options) = []
+files_in (stops id) = []
+files_in (edits uri edit) = []
+files_in leaves = []
+files_in drops = []
+
+-- A publication asks for a change where each of its files gave a class.
+abbrev pub ask_by : List (List ℕ) → List (List ℕ × ℕ) → Loaded → Ask
+ask_by removes counts (classes puts) = change (Publish puts removes counts)
+ask_by removes counts (missing index) = other
+ask_by removes counts (too_long index) = other
+ask_by removes counts (no_class_file index class_fault place) = other
+ask_by removes counts (unreadable index) = other
+
+-- What it asks of lists and versions, where its files gave this.
+abbrev pub ask_in : Meaning → Loaded → Ask
+ask_in (asks id ask) loads = ask
+ask_in (publishes id names removes counts) loads = ask_by removes counts loads
+ask_in (says id reply) loads = other
+ask_in (lacks id) loads = other
+ask_in (starts id options) loads = other
+ask_in (stops id) loads = other
+ask_in (edits uri edit) loads = other
+ask_in leaves loads = exit
+ask_in drops loads = other
 
 -- The outcome of a message: a reply with this body, the reply "no memory", no reply, the end of the session after an
 -- `exit`, where it is told whether `shutdown` came before, or its end for want of memory.
@@ -214,13 +201,30 @@ documents_after uri (changing changes) ds None = ds
 documents_after uri (changing changes) ds (Some state) = with_document uri (state_by state changes) ds
 documents_after uri closing ds state = without_document uri ds
 
--- The session and the outcome, where memory isn't wanting.
-abbrev pub enough_for : Seen → Meaning → Met → Seen × Outcome
-enough_for s (asks id ask) m = (
+-- A question is answered.
+abbrev pub asked : Seen → Id → Ask → Met → Seen × Outcome
+asked s id ask m = (
   record s { lists = (list_answer_to s.lists ask m).0 },
   replied (reply_text (Some id) (reply_of s.lists m ask (list_answer_to s.lists ask m).1)),
 )
-enough_for s (says id reply) m = (s, replied (reply_text id reply))
+
+-- The session alone answers.
+abbrev pub said : Seen → Option Id → Reply → Seen × Outcome
+said s id reply = (s, replied (reply_text id reply))
+
+-- A publication is answered by its change, or by the first of its files that gave no class.
+abbrev pub published : Seen → Id → List (List ℕ) → List (List ℕ × ℕ) → Met → Loaded → Seen × Outcome
+published s id removes counts m (classes puts) = asked s id (change (Publish puts removes counts)) m
+published s id removes counts m (missing index) = said s (Some id) (failure (invalid_params 9 index))
+published s id removes counts m (too_long index) = said s (Some id) (failure (invalid_params 10 index))
+published s id removes counts m (no_class_file index class_fault place) = said s (Some id) (failure (no_class index class_fault place))
+published s id removes counts m (unreadable index) = said s (Some id) (failure (read_fault index))
+
+-- The session and the outcome, where memory isn't wanting.
+abbrev pub enough_for : Seen → Meaning → Met → Seen × Outcome
+enough_for s (asks id ask) m = asked s id ask m
+enough_for s (publishes id names removes counts) m = published s id removes counts m m.loads
+enough_for s (says id reply) m = said s id reply
 enough_for s (lacks id) m = (s, no_memory id)
 enough_for s (starts id options) m = (record s { phase = Running; options = options }, replied (reply_text (Some id) (result capabilities)))
 enough_for s (stops id) m = (record s { phase = Stopped }, replied (reply_text (Some id) (result null)))
@@ -232,6 +236,7 @@ enough_for s drops m = (s, silent)
 -- the id null ends the session.
 abbrev pub lacking_for : Seen → Meaning → Seen × Outcome
 lacking_for s (asks id ask) = (s, no_memory id)
+lacking_for s (publishes id names removes counts) = (s, no_memory id)
 lacking_for s (says None reply) = (s, lost)
 lacking_for s (says (Some id) reply) = (s, no_memory id)
 lacking_for s (lacks id) = (s, no_memory id)
@@ -248,4 +253,4 @@ by_memory Ending s meaning m = (s, lost)
 
 -- The answer to a message, and the session after it.
 abbrev pub answer_to : Seen → List ℕ → Met → Seen × Outcome
-answer_to s body m = by_memory m.short s (meaning_of s body m.loads) m
+answer_to s body m = by_memory m.short s (meaning_of s body) m

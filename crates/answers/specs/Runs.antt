@@ -35,7 +35,7 @@ replies_to s (m ∷ ms) = outcome s m ∷ (if ends (outcome s m) then [] else re
 
 -- What a message asks of lists and versions.
 abbrev pub turn_of : Seen → Message → Turn
-turn_of s m = record { ask = ask_in (meaning_of s m.body m.met.loads); met = m.met }
+turn_of s m = record { ask = ask_in (meaning_of s m.body) m.met.loads; met = m.met }
 
 -- What the messages of a run ask of lists and versions, up to the one that ends the session.
 unfoldable pub turns_of : Seen → List Message → List Turn

@@ -1,6 +1,7 @@
 -- One end, taken out and put back.
-use Rattle.std.proofs.Common.{◌≡◌, ◌≢◌, List, [], ◌∷◌, ◌++◌, length, Option, Some, refl, ap, ◌∙◌, arith, length-append}
-use Rattle.std.specs.Prelude.{option_to_list}
+use Rattle.std.proofs.Common.{◌≡◌, ◌≢◌, List, [], ◌∷◌, ◌++◌, length, Option, Some, refl, ap, subst, ◌∙◌, arith, length-append}
+use Rattle.std.specs.Prelude.{option_to_list, All}
+use Rattle.std.proofs.lemmas.List.Elements.{All-head}
 
 -- the last of one leaves nothing
 pub nothing-left : {X : Type 0} (xs rest : List X) (o : Option X) (x : X) → length xs ≡ 1 → xs ≡ rest ++ option_to_list o → o ≡ Some x → rest ≡ []
@@ -11,6 +12,10 @@ nothing-left xs (y ∷ ys) o x one e is =
 
 pub was-one : {X : Type 0} (xs rest : List X) (o : Option X) (x : X) → rest ≡ [] → xs ≡ rest ++ option_to_list o → o ≡ Some x → xs ≡ x ∷ []
 was-one xs rest o x none e is = e ∙ ap (λ p. rest ++ option_to_list p) is ∙ ap (λ ys. ys ++ x ∷ []) none
+
+-- what holds of all holds of the one
+pub of-one : {X : Type 0} (P : X → Type 0) → (xs rest : List X) (o : Option X) (x : X) → length xs ≡ 1 → xs ≡ rest ++ option_to_list o → o ≡ Some x → All P xs → P x
+of-one P xs rest o x one e is all = All-head P x [] (subst (All P) (was-one xs rest o x (nothing-left xs rest o x one e is) e is) all)
 
 -- and one put into nothing is the one
 pub put-back : {X : Type 0} (rest all : List X) (x : X) → rest ≡ [] → all ≡ rest ++ x ∷ [] → all ≡ x ∷ []

@@ -1,3 +1,4 @@
+mod Begun
 mod Commands
 mod Versions
 mod Starting

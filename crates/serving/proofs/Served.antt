@@ -38,7 +38,7 @@ no-session Memory is = omega (arith, is)
 
 pub no-usage-served : (way : Serving) (start : Option (List ℕ)) (e f : EndView) → ServesBy way start e f → (serving_status way).code ≡ 2 → ⊥
 unfolding serving_status
-no-usage-served (served.Session ended) start e f h is = no-session h.serves.way (sym (ap (λ s. s.code) h.serves.told) ∙ is)
+no-usage-served (served.Session ended) start e f h is = no-session h.served.serves.way (sym (ap (λ s. s.code) h.served.serves.told) ∙ is)
 no-usage-served (served.NotStarted line cause) start e f h is = omega (arith, is)
 no-usage-served served.ShelfFault start e f h is = omega (arith, is)
 no-usage-served served.OutOfMemory start e f h is = omega (arith, is)

@@ -1,5 +1,6 @@
 -- At which version a server starts, and what is wrong with a start text.
-use Rattle.std.proofs.Common.{◌≡◌, ◌⊎◌, inl, inr, ⊎_elim, ℕ, List, [], ◌∷◌, Option, Some, None, refl, sym, subst}
+use Rattle.std.proofs.Common.{◌≡◌, ◌⊎◌, inl, inr, ⊎_elim, ℕ, List, [], ◌∷◌, Option, Some, None, Result, Ok, Err, refl, sym, subst}
+use Rattle.std.specs.Prelude.{IfOk, IfErr, MatchResult}
 use Rattle.outside.specs.declared.shelf.HeldFile.{HeldFile}
 use Rattle.known_classes.specs.declared.summary.ClassSummary.{ClassSummary}
 use Rattle.version_board.specs.declared.snapshot.Snapshot.{Snapshot}
@@ -22,7 +23,7 @@ first-empty held s v =
     }
 
 -- the version of a start text
-pub first-started : (name : List ℕ) (held : Option (List HeldFile)) (s : Snapshot)
+first-started : (name : List ℕ) (held : Option (List HeldFile)) (s : Snapshot)
     → (classes : List ClassSummary) × IsVersion (publication classes ∷ []) s × ((files : List HeldFile) → held ≡ Some files → IsStart files name classes)
     → ((files : List HeldFile) (wrong : StartFault) → held ≡ Some files → IsFaultOf files name wrong → ⊥) → IsFirst (Some name) held s
 first-started name held s (classes, v, start) sound =
@@ -48,7 +49,7 @@ outside-or OutOfMemory = inl tt
 other : {A B : Type 0} → A ⊎ B → (A → ⊥) → B
 other h not_so = ⊎_elim (λ a. absurd (not_so a)) (λ b. b) h
 
-pub start-fault : (name : List ℕ) (held : Option (List HeldFile)) (fault : StartFault)
+start-fault : (name : List ℕ) (held : Option (List HeldFile)) (fault : StartFault)
     → ((files : List HeldFile) → held ≡ Some files → IsOutside fault ⊎ IsFaultOf files name fault)
     → ((files : List HeldFile) (wrong : StartFault) → held ≡ Some files → IsFaultOf files name wrong → IsOutside fault ⊎ (fault ≡ wrong))
     → IsOutside fault ⊎ IsStartFault (Some name) held fault
@@ -58,3 +59,18 @@ start-fault name held fault is alone = ⊎_elim inl (λ inside. inr (record {
   wrong = λ files told. other (is files told) inside;
   alone = λ files wrong told of. sym (other (alone files wrong told of) inside);
 })) (outside-or fault)
+
+-- the same by what reading it answers
+pub first-of : (name : List ℕ) (held : Option (List HeldFile)) (r : Result Snapshot StartFault)
+    → IfOk r (λ s. (classes : List ClassSummary) × IsVersion (publication classes ∷ []) s × ((files : List HeldFile) → held ≡ Some files → IsStart files name classes))
+    → ((files : List HeldFile) (wrong : StartFault) → held ≡ Some files → IsFaultOf files name wrong → MatchResult r (λ s. ⊥) (λ fault. IsOutside fault ⊎ (fault ≡ wrong)))
+    → IfOk r (λ s. IsFirst (Some name) held s)
+first-of name held (Ok s) version refused = first-started name held s version refused
+first-of name held (Err fault) version refused = tt
+
+pub fault-of : (name : List ℕ) (held : Option (List HeldFile)) (r : Result Snapshot StartFault)
+    → ((files : List HeldFile) → held ≡ Some files → IfErr r (λ fault. IsOutside fault ⊎ IsFaultOf files name fault))
+    → ((files : List HeldFile) (wrong : StartFault) → held ≡ Some files → IsFaultOf files name wrong → MatchResult r (λ s. ⊥) (λ fault. IsOutside fault ⊎ (fault ≡ wrong)))
+    → IfErr r (λ fault. IsOutside fault ⊎ IsStartFault (Some name) held fault)
+fault-of name held (Ok s) is refused = tt
+fault-of name held (Err fault) is refused = start-fault name held fault is refused

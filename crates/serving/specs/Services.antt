@@ -10,11 +10,12 @@ use Rattle.version_board.specs.declared.snapshot.Snapshot.{Snapshot}
 use Rattle.version_board.specs.Versions.{IsVersion}
 use Rattle.start_text.specs.declared.fault.StartFault.{StartFault}
 use Rattle.start_text.specs.declared.fault.StartFault.TheVariants as start_fault
-use Rattle.start_text.specs.Faults.{place_of, number_of}
+use Rattle.start_text.specs.Faults.{fault_line, number_of}
 use Rattle.start_text.specs.Starts.{publication, IsStart, IsFaultOf}
 use Rattle.answers.specs.Sessions.{Seen}
 use Rattle.answers.specs.Sessions as new
 use Rattle.sessions.specs.declared.ending.Ended.{Ended}
+use Rattle.sessions.specs.Worlds.{WorldState}
 use Rattle.sessions.specs.Served.{ServesWith}
 use Rattle.serving.specs.declared.status.Status.{Status}
 use Rattle.serving.specs.declared.status.Serving.{Serving}
@@ -75,22 +76,43 @@ pub record IsStartFault (start : Option (List ℕ)) (held : Option (List HeldFil
   pub wrong : (files : List HeldFile) → held ≡ Some files → IsFaultOf files name fault
   pub alone : (files : List HeldFile) (other : StartFault) → held ≡ Some files → IsFaultOf files name other → other ≡ fault
 
--- A new session was served over the version of those changes: what was written are the frames of the replies to the frames read,
--- and the headline holds of them. A failed read or write is that of its own source or sink.
+-- What the client has seen when it begins: the first changes, of which no version was read, and its files.
+abbrev pub begun_at : List Change → EndView → WorldState
+begun_at history e = record { known = history; reads = []; whole = None; holds = e.held; faults = e.load_faults }
+
+-- A new session was served from the version of these changes on: what was written are the frames of the replies to the frames
+-- read, and the headline holds of them. A failed read or write is that of its own source or sink, a file that couldn't be loaded
+-- one of its own shelf.
+pub record IsServedFrom (history : List Change) (e f : EndView) (ended : Ended) : Type 0 where
+  pub next : Seen
+  pub after : WorldState
+  pub load_faults : after.faults ≡ f.load_faults
+  pub serves : ServesWith new.start next e.left e.written f.written (begun_at history e) after ended
+  pub read_cause : ended.code ≡ 4 → Rose e.read_faults f.read_faults
+  pub write_cause : ended.code ≡ 5 → Rose e.write_faults f.write_faults
+
+-- The same, where a session began.
+abbrev pub IsServed : Serving → List Change → EndView → EndView → Type 0
+IsServed (Session ended) history e f = IsServedFrom history e f ended
+IsServed (NotStarted line cause) history e f = ⊥
+IsServed ShelfFault history e f = ⊥
+IsServed OutOfMemory history e f = Unit {0}
+
+-- A new session was served from the version of the first changes on. While these were loaded the shelf may have failed as well.
 pub record HasServed (start : Option (List ℕ)) (e f : EndView) (ended : Ended) : Type 0 where
   pub history : List Change
   pub first : IsFirstHistory start e.held history
   pub sound : IsSound start e.held
-  pub next : Seen
-  pub serves : ServesWith history new.start next e.left e.written f.written ended
-  pub read_cause : ended.code ≡ 4 → Rose e.read_faults f.read_faults
-  pub write_cause : ended.code ≡ 5 → Rose e.write_faults f.write_faults
+  pub begun : EndView
+  pub same : begun ≡ record e { load_faults = begun.load_faults }
+  pub later : e.load_faults ≤ begun.load_faults
+  pub served : IsServedFrom history begun f ended
 
 -- The start text is wrong, by the fault of this line and number.
 pub record HasNoStart (start : Option (List ℕ)) (held : Option (List HeldFile)) (place number : ℕ) : Type 0 where
   pub fault : StartFault
   pub is : IsStartFault start held fault
-  pub line : place ≡ place_of fault
+  pub line : place ≡ fault_line fault
   pub cause : number_of fault ≡ Some number
 
 -- How a run of `serve` ended, by what is seen of its end before and after.
@@ -110,7 +132,7 @@ HasNotBegun OutOfMemory = Unit {0}
 -- What a fault of the start ends a run by.
 abbrev pub Tells : StartFault → Serving → Type 0
 Tells fault (Session ended) = ⊥
-Tells fault (NotStarted line cause) = (line ≡ place_of fault) × (number_of fault ≡ Some cause)
+Tells fault (NotStarted line cause) = (line ≡ fault_line fault) × (number_of fault ≡ Some cause)
 Tells fault ShelfFault = fault ≡ start_fault.Failed
 Tells fault OutOfMemory = number_of fault ≡ None
 

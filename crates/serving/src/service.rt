@@ -1,56 +1,31 @@
 ghost use Rattle.std.specs.Prelude.{◌≡◌, ◌≤◌, ◌⊎◌, [], ◌∷◌, Option, Some, length, option_map, IfOk, IfErr};
-ghost use Rattle.std.specs.Arc.{arc_value};
 ghost use Rattle.outside.specs.Causes.{Rose};
 ghost use Rattle.outside.specs.declared.end.End.{End};
 ghost use Rattle.start_text.specs.Faults.{IsOutside, LeavesShelf};
 ghost use Rattle.version_board.specs.Versions.{IsVersion};
-ghost use Rattle.answers.specs.Sessions.{Seen, start};
-ghost use Rattle.sessions.specs.Served.{ServesWith};
-ghost use Rattle.serving.specs.Services.{view_of, Lasts, history_of, IsFirst, IsStartFault, ServesBy, HasNotBegun};
+ghost use Rattle.serving.specs.Services.{view_of, Lasts, IsFirst, IsStartFault, IsServed, ServesBy, HasNotBegun};
 
 use crate::status::Serving;
 use json_rpc::Frames;
 use outside::{End, Shelf, Sink, Source};
-use sessions::{Client, Ended, Session, serve_client};
+use sessions::{Client, Hub, Session, serve_client};
 use start_text::{StartFault, read_start};
-use std::alloc::{AllocError, Global};
+use std::alloc::Global;
 use std::marker::Brand;
-use std::sync::{Arc, Wait};
-use version_board::Snapshot;
-
-/// A version that can be shared.
-fn shared(alloc: Global, version: Snapshot) -> Result<Arc<Snapshot, Global>, AllocError>
-    ensures { IfOk result (λ at. arc_value at ≡ version) }
-{
-    Arc::new(alloc, version).map_err(|_| AllocError)
-}
-
-/// The version 0, of no change.
-fn empty_version(alloc: Global) -> Result<Arc<Snapshot, Global>, AllocError>
-    ensures { IfOk result (λ at. IsVersion [] (arc_value at)) }
-{
-    let version = Snapshot::empty(alloc)?;
-    shared(alloc, version)
-}
+use std::sync::Wait;
+use version_board::{Naming, Opened, Snapshot, start_board};
 
 /// The version of the start text of this name.
 fn started_version<H: Shelf>(
     alloc: Global,
     shelf: &mut H,
     name: &str,
-) -> Result<Arc<Snapshot, Global>, StartFault>
-    ensures first { IfOk result (λ at. IsFirst (Some name.now) (H.holds shelf.old) (arc_value at)) }
+) -> Result<Snapshot, StartFault>
+    ensures first { IfOk result (λ version. IsFirst (Some name.now) (H.holds shelf.old) version) }
     ensures fault { IfErr result (λ fault. IsOutside fault ⊎ IsStartFault (Some name.now) (H.holds shelf.old) fault) }
     ensures shelf { LeavesShelf (H.holds shelf.old) (H.holds shelf.new) (H.faults shelf.old) (H.faults shelf.new) result }
 {
-    let version = match read_start(alloc, shelf, name) {
-        Ok(version) => version,
-        Err(fault) => return Err(fault),
-    };
-    match shared(alloc, version) {
-        Ok(at) => Ok(at),
-        Err(_) => Err(StartFault::OutOfMemory),
-    }
+    read_start(alloc, shelf, name)
 }
 
 /// The version at which a server starts: that of the start text of this name, or the version 0 where none is named.
@@ -58,47 +33,54 @@ fn first_version<H: Shelf>(
     alloc: Global,
     shelf: &mut H,
     name: Option<&str>,
-) -> Result<Arc<Snapshot, Global>, StartFault>
-    ensures first { IfOk result (λ at. IsFirst (option_map (λ n. n.now) name.entry) (H.holds shelf.old) (arc_value at)) }
+) -> Result<Snapshot, StartFault>
+    ensures first { IfOk result (λ version. IsFirst (option_map (λ n. n.now) name.entry) (H.holds shelf.old) version) }
     ensures fault { IfErr result (λ fault. IsOutside fault ⊎ IsStartFault (option_map (λ n. n.now) name.entry) (H.holds shelf.old) fault) }
     ensures shelf { LeavesShelf (H.holds shelf.old) (H.holds shelf.new) (H.faults shelf.old) (H.faults shelf.new) result }
 {
     match name {
         Some(name) => started_version(alloc, shelf, name),
-        None => match empty_version(alloc) {
-            Ok(at) => Ok(at),
+        None => match Snapshot::empty(alloc) {
+            Ok(version) => Ok(version),
             Err(_) => Err(StartFault::OutOfMemory),
         },
     }
 }
 
-/// Serves a new session over this version, and gives the end back.
-fn serve_version<S: Source + Drop, K: Sink + Drop, H: Drop, R: Wait>(
-    rt: &R,
+/// Serves a new session from this version on, over a board of its own, and gives the end back. Where there is no memory
+/// for the board, nothing is read or written.
+fn serve_board<J: Naming, S: Source + Drop, K: Sink + Drop, H: Shelf + Drop, R: Wait + Drop + Copy>(
+    rt: R,
     alloc: Global,
-    at: &Arc<Snapshot, Global>,
+    opened: Opened,
+    first: Snapshot,
     end: End<S, K, H>,
-) -> (End<S, K, H>, Ended)
-    requires version { IsVersion (history_of (arc_value at.now)) (arc_value at.now) }
-    ensures serves { (next : Seen) × ServesWith (history_of (arc_value at.now)) start next (S.left end.source) (K.written end.sink) (K.written result.0.sink) result.1 }
-    ensures same_shelf { result.0.shelf ≡ end.shelf }
-    ensures read_later { S.faults end.source ≤ S.faults result.0.source }
-    ensures read_cause { result.1.code ≡ 4 → Rose (S.faults end.source) (S.faults result.0.source) }
-    ensures write_later { K.faults end.sink ≤ K.faults result.0.sink }
-    ensures write_cause { result.1.code ≡ 5 → Rose (K.faults end.sink) (K.faults result.0.sink) }
+) -> (End<S, K, H>, Serving)
+    requires book { opened.seen.book ≡ J.book }
+    requires first { IsVersion J.first first }
+    ensures serves { let seen = view_of S.left K.written H.holds S.faults K.faults H.faults in IsServed result.1 J.first (seen end) (seen result.0) }
+    ensures untouched { HasNotBegun result.1 → result.0 ≡ end }
+    ensures lasts { let seen = view_of S.left K.written H.holds S.faults K.faults H.faults in Lasts (seen end) (seen result.0) }
 {
-    let mut client = Client {
+    let (publisher, mut passes) = match start_board::<J, R>(rt, alloc, opened, first, 1) {
+        Ok(board) => board,
+        Err(_) => return (end, Serving::OutOfMemory),
+    };
+    let hub = Hub::new(alloc, publisher);
+    let client = Client {
         end,
         session: Session::new(alloc),
         frames: Frames::new(alloc),
+        pass: passes.pop().unwrap(),
     };
-    let ended = serve_client::<Brand, S, K, H, R>(rt, alloc, at, &mut client);
+    let (client, ended) = serve_client(&rt, alloc, &hub, client);
     let Client {
         end,
         session: _,
         frames: _,
+        pass: _,
     } = client;
-    (end, ended)
+    (end, Serving::Session(ended))
 }
 
 /// Serves over one end, from the start text of this name, and gives the end back. Where there is no version to start
@@ -115,10 +97,7 @@ fn serve_end<S: Source + Drop, K: Sink + Drop, H: Shelf + Drop, R: Wait>(
 {
     let mut end = end;
     match first_version(alloc, &mut end.shelf, name) {
-        Ok(at) => {
-            let (end, ended) = serve_version(rt, alloc, &at, end);
-            (end, Serving::Session(ended))
-        }
+        Ok(first) => serve_board::<Brand, S, K, H, &R>(rt, alloc, Opened::new(), first, end),
         Err(fault) => (end, Serving::of_fault(&fault)),
     }
 }

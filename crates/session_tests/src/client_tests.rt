@@ -1,16 +1,15 @@
-ghost use Rattle.std.specs.Prelude.{◌≤◌, [], IfOk};
-ghost use Rattle.std.specs.Arc.{arc_value};
+ghost use Rattle.std.specs.Prelude.{◌≡◌, ◌≤◌};
 ghost use Rattle.version_board.specs.Versions.{IsVersion};
 
 use json_rpc::{Frames, write_frame};
 use lists::Items;
-use outside::{End, FaultPlan, MemSink, MemSource};
-use sessions::{Client, Ended, FixedWorld, Past, Session, World, serve_client};
+use outside::{End, FaultPlan, MemShelf, MemSink, MemSource};
+use sessions::{Client, Ended, Hub, Session, serve_client};
 use std::alloc::{AllocError, Global};
 use std::marker::Brand;
-use std::sync::{Arc, Wait};
+use std::sync::Wait;
 use std::test::Fail;
-use version_board::Snapshot;
+use version_board::{Naming, Opened, Snapshot, start_board};
 
 const INITIALIZE: &str = r#"{"jsonrpc":"2.0","id":1,"method":"initialize","params":{}}"#;
 
@@ -39,47 +38,44 @@ pub(crate) struct Left {
     pub(crate) output: Vec<u8>,
 }
 
-/// The version 0.
-fn version(alloc: Global) -> Result<Arc<Snapshot, Global>, AllocError>
-    ensures { IfOk result (λ at. IsVersion [] (arc_value at)) }
-{
-    let snapshot = Snapshot::empty(alloc)?;
-    Arc::new(alloc, snapshot).map_err(|_| AllocError)
-}
-
-/// A session over a version.
-pub(crate) fn serve_at<P: Past, R: Wait>(
-    rt: &R,
+/// A session from a version on, over a board of its own, without files.
+pub(crate) fn serve_from<J: Naming, R: Wait + Drop + Copy>(
+    rt: R,
     alloc: Global,
-    at: &Arc<Snapshot, Global>,
+    opened: Opened,
+    first: Snapshot,
     source: MemSource<'_>,
     sink: MemSink,
 ) -> Result<Left, AllocError>
-    requires version { IsVersion P.changes (arc_value at.now) }
+    requires book { opened.seen.book ≡ J.book }
+    requires first { IsVersion J.first first }
 {
-    let mut client = Client {
+    let (publisher, mut passes) = start_board::<J, R>(rt, alloc, opened, first, 1)?;
+    let hub = Hub::new(alloc, publisher);
+    let client = Client {
         end: End {
             source,
             sink,
-            shelf: (),
+            shelf: MemShelf::new(Items::new(alloc), FaultPlan::none(alloc)),
         },
         session: Session::new(alloc),
         frames: Frames::new(alloc),
+        pass: passes.pop().unwrap(),
     };
-    let ended = serve_client::<P, MemSource<'_>, MemSink, (), R>(rt, alloc, at, &mut client);
+    let (client, ended) = serve_client(&rt, alloc, &hub, client);
     let output = client.end.sink.bytes.as_slice().to_vec(alloc)?;
     Ok(Left { ended, output })
 }
 
-/// A session over the version 0.
+/// A session from the version 0 on.
 pub(crate) fn serve<R: Wait>(
     rt: &R,
     alloc: Global,
     source: MemSource<'_>,
     sink: MemSink,
 ) -> Result<Left, AllocError> {
-    let at = version(alloc)?;
-    serve_at::<Brand, R>(rt, alloc, &at, source, sink)
+    let first = Snapshot::empty(alloc)?;
+    serve_from::<Brand, &R>(rt, alloc, Opened::new(), first, source, sink)
 }
 
 /// The frames of these bodies.
@@ -211,14 +207,5 @@ fn a_write_that_fails_ends_the_session(rt: HostRuntime) -> Result<(), Fail> {
     let left = serve(&rt, alloc, source, sink)?;
     assert!(rt; is(&left.ended, 5, 0, 0));
     assert!(rt; left.output.as_slice() == frames(alloc, &[CAPABILITIES])?.as_slice());
-    Ok(())
-}
-
-#[test]
-fn a_fixed_world_gives_its_version(rt: HostRuntime) -> Result<(), Fail> {
-    let at = version(rt.alloc())?;
-    let mut world = FixedWorld::<Brand, HostRuntime>::new(&rt, rt.alloc(), &at)?;
-    assert_eq!(rt; world.read()?.number, 0);
-    assert_eq!(rt; world.faults(), 0);
     Ok(())
 }

@@ -151,10 +151,7 @@ const NO_CURSOR: (usize, &str) = (
     r#"{"error":{"code":-32602,"data":{"cause":6,"index":0},"message":"invalid params"},"id":4,"jsonrpc":"2.0"}"#,
 );
 
-const NO_COMMAND: (usize, &str) = (
-    104,
-    r#"{"error":{"code":-32602,"data":{"cause":7,"index":0},"message":"invalid params"},"id":4,"jsonrpc":"2.0"}"#,
-);
+const PUBLISHED: (usize, &str) = (47, r#"{"id":4,"jsonrpc":"2.0","result":{"version":1}}"#);
 
 const NO_METHOD: (usize, &str) = (
     77,
@@ -349,7 +346,7 @@ const LISTS: [(&[(usize, &str)], u8, &[(usize, &str)]); 4] = [
     (
         &[INITIALIZE, PAGE, PUBLISH],
         1,
-        &[CAPABILITIES, NO_CURSOR, NO_COMMAND],
+        &[CAPABILITIES, NO_CURSOR, PUBLISHED],
     ),
 ];
 

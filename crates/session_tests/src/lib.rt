@@ -16,6 +16,8 @@ mod method_tests;
 #[cfg(test)]
 mod part_tests;
 #[cfg(test)]
+mod publication_tests;
+#[cfg(test)]
 mod run_tests;
 #[cfg(test)]
 mod serve_tests;
@@ -27,6 +29,8 @@ mod snapshot_tests;
 mod start_tests;
 #[cfg(test)]
 mod step_tests;
+#[cfg(test)]
+mod two_client_tests;
 #[cfg(test)]
 mod version_tests;
 #[cfg(test)]

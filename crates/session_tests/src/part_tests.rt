@@ -3,9 +3,7 @@ use json_rpc::Id;
 use lists::{Items, Text};
 use lsp_forms::ChangeForm;
 use serde_json::Value;
-use sessions::{
-    Cursors, Failure, OpenDocuments, failure_reply, makes_change, result_reply, text_in, uri_in,
-};
+use sessions::{Cursors, Failure, OpenDocuments, failure_reply, result_reply, text_in, uri_in};
 use std::alloc::{AllocError, Global};
 use std::test::Fail;
 
@@ -145,9 +143,7 @@ fn parameters_are_looked_at(rt: HostRuntime) -> Result<(), Fail> {
     let opened = Value::from_slice(rt.alloc(), OPENED)?;
     assert_eq!(rt; uri_in(&opened), Some("file:///A"));
     assert_eq!(rt; text_in(&opened), Some("ab"));
-    assert!(rt; !makes_change(&opened));
     let withdraw = Value::from_slice(rt.alloc(), b"{\"command\":\"insynth.withdraw\"}")?;
-    assert!(rt; makes_change(&withdraw));
     assert_eq!(rt; text_in(&withdraw), None);
     Ok(())
 }

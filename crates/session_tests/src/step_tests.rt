@@ -1,13 +1,9 @@
-ghost use Rattle.std.specs.Prelude.{◌≡◌, [], IfOk};
-ghost use Rattle.std.specs.Arc.{arc_value};
-ghost use Rattle.version_board.specs.Versions.{IsVersion};
-
-use sessions::{FixedWorld, Outcome, Session, World};
+use lists::Items;
+use outside::{FaultPlan, MemShelf};
+use sessions::{MemWorld, Outcome, Session, World};
 use std::alloc::{AllocError, Global};
-use std::marker::Brand;
-use std::sync::{Arc, Wait};
+use std::sync::Wait;
 use std::test::Fail;
-use version_board::Snapshot;
 
 const INITIALIZE: &str = r#"{"jsonrpc":"2.0","id":1,"method":"initialize","params":{}}"#;
 
@@ -25,14 +21,6 @@ const NO_JSON: &str =
 const TOO_EARLY: &str =
     r#"{"error":{"code":-32002,"message":"not initialized"},"id":1,"jsonrpc":"2.0"}"#;
 
-/// The version 0.
-fn version(alloc: Global) -> Result<Arc<Snapshot, Global>, AllocError>
-    ensures { IfOk result (λ at. IsVersion [] (arc_value at)) }
-{
-    let snapshot = Snapshot::empty(alloc)?;
-    Arc::new(alloc, snapshot).map_err(|_| AllocError)
-}
-
 /// The outcome of the last of these bodies.
 fn step_each<W: World>(
     alloc: Global,
@@ -49,8 +37,8 @@ fn step_each<W: World>(
 
 /// The same in a new session over the version 0.
 fn last<R: Wait>(rt: &R, alloc: Global, bodies: &[&str]) -> Result<Outcome, AllocError> {
-    let at = version(alloc)?;
-    let mut world = FixedWorld::<Brand, R>::new(rt, alloc, &at)?;
+    let shelf = MemShelf::new(Items::new(alloc), FaultPlan::none(alloc));
+    let mut world = MemWorld::new(rt, alloc, shelf)?;
     let mut session = Session::new(alloc);
     step_each(alloc, &mut session, &mut world, bodies)
 }

@@ -1,32 +1,30 @@
 ghost use Rattle.std.specs.Prelude.{◌≡◌, ◌∷◌, [], IfOk};
-ghost use Rattle.std.specs.Arc.{arc_value};
 ghost use Rattle.version_board.specs.Versions.{IsVersion};
 
-use crate::client_tests::{Left, serve_at};
+use crate::client_tests::{Left, serve_from};
 use crate::frame_tests::{CAPABILITIES, INITIALIZE, framed};
 use decl_index::Change;
 use known_classes::{ClassSummary, MethodSummary};
 use lists::{Items, Text};
 use outside::{FaultPlan, MemSink, MemSource};
-use sessions::Past;
 use std::alloc::{AllocError, Global};
 use std::marker::Brand;
-use std::sync::{Arc, Wait};
+use std::sync::Wait;
 use std::test::Fail;
 use type_names::{Base, Erased};
-use version_board::Snapshot;
+use version_board::{Naming, Opened, Snapshot};
 
 const BY_THREE: (usize, &str) = (
     93,
     r#"{"jsonrpc":"2.0","id":1,"method":"initialize","params":{"initializationOptions":{"count":3}}}"#,
 );
 
-const DEMO: (usize, &str) = (
+pub(crate) const DEMO: (usize, &str) = (
     236,
     r#"{"jsonrpc":"2.0","method":"textDocument/didOpen","params":{"textDocument":{"uri":"file:///Demo.java","languageId":"java","version":1,"text":"import java.io.*;\nclass Demo {\n  static void go(String name) {\n    Reader r = \n  }\n}\n"}}}"#,
 );
 
-const AFTER_READER: (usize, &str) = (
+pub(crate) const AFTER_READER: (usize, &str) = (
     150,
     r#"{"jsonrpc":"2.0","id":2,"method":"textDocument/completion","params":{"textDocument":{"uri":"file:///Demo.java"},"position":{"line":3,"character":15}}}"#,
 );
@@ -95,7 +93,7 @@ fn reader(alloc: Global, name: &str, of: &str) -> Result<ClassSummary, AllocErro
 }
 
 /// The publication of three readers; the one above the others is abstract.
-fn readers(alloc: Global) -> Result<Change, AllocError> {
+pub(crate) fn readers(alloc: Global) -> Result<Change, AllocError> {
     let above = class(
         alloc,
         "java/io/Reader",
@@ -117,29 +115,32 @@ fn readers(alloc: Global) -> Result<Change, AllocError> {
 }
 
 /// The version after one change.
-fn version_after(alloc: Global, change: &Change) -> Result<Arc<Snapshot, Global>, AllocError>
-    ensures { IfOk result (λ at. IsVersion (change.now ∷ []) (arc_value at)) }
+pub(crate) fn version_after(alloc: Global, change: &Change) -> Result<Snapshot, AllocError>
+    ensures { IfOk result (λ version. IsVersion (change.now ∷ []) version) }
 {
     let empty = Snapshot::empty(alloc)?;
     match empty.after(alloc, change) {
-        Ok(snapshot) => Arc::new(alloc, snapshot).map_err(|_| AllocError),
+        Ok(version) => Ok(version),
         Err(_) => Err(AllocError),
     }
 }
 
-/// A session over the version after one change.
-fn serve_after<P: Past, R: Wait>(
+/// A session from the version after one change on.
+fn serve_after<J: Naming, R: Wait>(
     rt: &R,
     alloc: Global,
+    opened: Opened,
     change: &Change,
+    first: Snapshot,
     input: &[u8],
 ) -> Result<Left, AllocError>
-    requires past { P.changes ≡ change.now ∷ [] }
+    requires book { opened.seen.book ≡ J.book }
+    requires history { J.first ≡ change.now ∷ [] }
+    requires first { IsVersion (change.now ∷ []) first }
 {
-    let at = version_after(alloc, change)?;
     let source = MemSource::new(input, FaultPlan::none(alloc));
     let sink = MemSink::new(alloc, FaultPlan::none(alloc));
-    serve_at::<P, R>(rt, alloc, &at, source, sink)
+    serve_from::<J, &R>(rt, alloc, opened, first, source, sink)
 }
 
 /// Whether a client that sends these frames over the version after a change is replied those.
@@ -152,7 +153,9 @@ pub(crate) fn gives<R: Wait>(
 ) -> Result<bool, AllocError> {
     let input = framed(alloc, sent)?;
     let output = framed(alloc, replied)?;
-    let left = serve_after::<Brand, R>(rt, alloc, change, input.as_bytes())?;
+    let first = version_after(alloc, change)?;
+    let bytes = input.as_bytes();
+    let left = serve_after::<Brand, R>(rt, alloc, Opened::new(), change, first, bytes)?;
     Ok(left.output.as_slice() == output.as_bytes())
 }
 

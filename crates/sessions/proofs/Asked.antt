@@ -17,7 +17,7 @@ use Rattle.answers.specs.declared.types.Cursor.{Cursor}
 use Rattle.answers.specs.declared.types.Hole.{Hole}
 use Rattle.answers.specs.Cursors.{Lists, IsPageOf, look, moved, without, with_cursor}
 use Rattle.answers.specs.Holes.{IsSite}
-use Rattle.answers.specs.Asks.{complete, page, close, Enough, Met, fixed, opened, turned, withdrawn, quiet, new_cursor, is_used_up, completed_at, turned_or, paged}
+use Rattle.answers.specs.Asks.{complete, page, close, Enough, Met, classes, opened, turned, withdrawn, quiet, new_cursor, is_used_up, completed_at, turned_or, paged}
 use Rattle.answers.specs.Failures.{invalid_params, version_withdrawn}
 use Rattle.answers.specs.Replies.{reply_text, reply_of, result, failure, page_data}
 use Rattle.sessions.specs.Kept.{StandsAt}
@@ -37,7 +37,7 @@ no_page = record { items = []; last = false; grown = 0 }
 
 -- What is met where the world isn't touched.
 abbrev met_at : Option HoleSite → Met
-met_at site = record { at = []; loads = fixed; site = site; env = no_env; page = no_page; fault = None; short = Enough }
+met_at site = record { at = []; loads = classes []; site = site; env = no_env; page = no_page; fault = None; short = Enough }
 
 site_of : (text : List ℕ) (place : ℕ) (options : Initialize) (u : unit.Unit) (site : Option HoleSite) → IsSpot text place u site → IsSite (hole_in text place options) site
 site_of text place options u site h = record { tokens = h.tokens; unit = u; lexed = h.lexed; parsed = h.parsed; is = h.is }
@@ -49,7 +49,7 @@ pub no_hole : (l : Lists) (id : Id) (text : List ℕ) (place : ℕ) (options : I
 no_hole l id text place options u site reply old new h none told same = record {
   met = met_at None;
   enough = refl;
-  fixed = refl;
+  no_file = refl;
   lawful = (site_of text place options u None (subst (λ o. IsSpot text place u o) none h), tt);
   lists = refl;
   told = sym told;
@@ -71,11 +71,11 @@ used_up l id text place options u site s reply old new h some e told same =
     record {
       met = met;
       enough = refl;
-      fixed = refl;
+      no_file = refl;
       lawful = (site_of text place options u (Some s) (subst (λ o. IsSpot text place u o) some h), λ f. absurd (true≢false (sym e ∙ f)));
       lists = ap (λ p. p.0) is;
       told = ap (λ p. reply_text (Some id) (reply_of l met (complete hole options.count) p.1)) is ∙ sym told;
-      leaves = subst (λ p. Leaves p.1 [] old new) (sym is) same;
+      leaves = subst (λ p. Leaves p.1 [] [] old new) (sym is) same;
     }
 
 room : (l : Lists) (m : Met) (hole : Hole) (site : HoleSite) → is_used_up l ≡ false → completed_at l m hole site ≡ (with_cursor (new_cursor l m hole site) l, opened (new_cursor l m hole site) m.page)
@@ -92,7 +92,7 @@ opens l next id text place options u site s c reply old mid new h some e made re
     let hole : Hole = hole_in text place options in
     let start : ℕ × ℕ = position_of (chars text) s.prefix.0 in
     let end : ℕ × ℕ = position_of (chars text) s.prefix.1 in
-    let met : Met = record { at = mid.known; loads = fixed; site = Some s; env = c.env; page = op.page; fault = None; short = Enough } in
+    let met : Met = record { at = mid.known; loads = classes []; site = Some s; env = c.env; page = op.page; fault = None; short = Enough } in
     let spot : IsSpot text place u (Some s) = subst (λ o. IsSpot text place u o) some h in
     let cursor : answering c op.page ≡ new_cursor l met hole s =
     let n : ℕ = length op.page.items in
@@ -104,7 +104,7 @@ opens l next id text place options u site s c reply old mid new h some e made re
     record {
       met = met;
       enough = refl;
-      fixed = refl;
+      no_file = refl;
       lawful = (
         site_of text place options u (Some s) spot,
         λ f. (
@@ -114,7 +114,7 @@ opens l next id text place options u site s c reply old mid new h some e made re
       );
       lists = ap (λ p. p.0) answer ∙ ap (λ x. with_cursor x l) (sym cursor) ∙ sym op.lists;
       told = ap (λ p. reply_text (Some id) (reply_of l met (complete hole options.count) p.1)) answer ∙ ap (λ x. reply_text (Some id) (result (page_data x 0 op.page))) (sym cursor) ∙ sym op.told;
-      leaves = subst (λ p. Leaves p.1 mid.known old new) (sym answer) (ap (λ w. w.known) (sym same), read_then old mid new read same);
+      leaves = subst (λ p. Leaves p.1 mid.known [] old new) (sym answer) (ap (λ w. w.known) (sym same), read_then old mid new read same);
     }
 
 -- The cursor of a number by whether its version is withdrawn.
@@ -130,18 +130,18 @@ pub turns : (l next : Lists) (id : Id) (k i n : ℕ) (c : Cursor) (p : Page) (re
     → next ≡ record l { cursors = moved k (length p.items) l.cursors } → reply ≡ reply_text (Some id) (result (page_data c c.answered p))
     → Answers l (page k n) id next reply old new
 turns l next id k i n c p reply old mid new stands at stays_on read same is_page to told =
-    let met : Met = record { at = mid.known; loads = fixed; site = None; env = no_env; page = p; fault = None; short = Enough } in
+    let met : Met = record { at = mid.known; loads = classes []; site = None; env = no_env; page = p; fault = None; short = Enough } in
     let here : look k l.cursors ≡ Some c = look_at k i l.cursors c stands at in
     let number : c.number ≡ k = numbered k i l.cursors c stands at in
     let answer : paged l met (look k l.cursors) ≡ (record l { cursors = moved c.number (length p.items) l.cursors }, turned c p) = found l met k c None here (sym stays_on) in
     record {
       met = met;
       enough = refl;
-      fixed = refl;
+      no_file = refl;
       lawful = λ d e f. subst (λ x. IsPageOf x.env x.answered n p) (some_same c d (sym here ∙ e)) is_page;
       lists = ap (λ q. q.0) answer ∙ ap (λ x. record l { cursors = moved x (length p.items) l.cursors }) number ∙ sym to;
       told = ap (λ q. reply_text (Some id) (reply_of l met (page k n) q.1)) answer ∙ sym told;
-      leaves = subst (λ q. Leaves q.1 mid.known old new) (sym answer) (ap (λ w. w.known) (sym same), read_then old mid new read same);
+      leaves = subst (λ q. Leaves q.1 mid.known [] old new) (sym answer) (ap (λ w. w.known) (sym same), read_then old mid new read same);
     }
 
 none_some : (o : Option ℕ) (n : ℕ) → o ≡ None → o ≡ Some n → ⊥
@@ -153,17 +153,17 @@ pub gone : (l : Lists) (id : Id) (k i n through : ℕ) (c : Cursor) (reply : Lis
     → reply ≡ reply_text (Some id) (failure (version_withdrawn through c.version))
     → Answers l (page k n) id l reply old new
 gone l id k i n through c reply old new stands at out read told =
-    let met : Met = record { at = new.known; loads = fixed; site = None; env = no_env; page = no_page; fault = None; short = Enough } in
+    let met : Met = record { at = new.known; loads = classes []; site = None; env = no_env; page = no_page; fault = None; short = Enough } in
     let here : look k l.cursors ≡ Some c = look_at k i l.cursors c stands at in
     let answer : paged l met (look k l.cursors) ≡ (l, withdrawn c.number c.version through) = found l met k c (Some through) here (sym out) in
     record {
       met = met;
       enough = refl;
-      fixed = refl;
+      no_file = refl;
       lawful = λ d e f. absurd (none_some (first_withdrawal new.known c.version) through (ap (λ x. first_withdrawal new.known x.version) (some_same c d (sym here ∙ e)) ∙ f) (sym out));
       lists = ap (λ q. q.0) answer;
       told = ap (λ q. reply_text (Some id) (reply_of l met (page k n) q.1)) answer ∙ sym told;
-      leaves = subst (λ q. Leaves q.1 new.known old new) (sym answer) (refl, read);
+      leaves = subst (λ q. Leaves q.1 new.known [] old new) (sym answer) (refl, read);
     }
 
 nothing_here : {P : Type 0} (c : Cursor) → None ≡ Some c → P
@@ -179,11 +179,11 @@ missing l id k n reply old new none told same =
     record {
       met = met;
       enough = refl;
-      fixed = refl;
+      no_file = refl;
       lawful = λ c e f. nothing_here c (sym none ∙ e);
       lists = ap (λ q. q.0) answer;
       told = ap (λ q. reply_text (Some id) (reply_of l met (page k n) q.1)) answer ∙ sym told;
-      leaves = subst (λ q. Leaves q.1 [] old new) (sym answer) same;
+      leaves = subst (λ q. Leaves q.1 [] [] old new) (sym answer) same;
     }
 
 -- A cursor is closed, kept or not.
@@ -193,7 +193,7 @@ pub shuts : (l next : Lists) (id : Id) (k : ℕ) (reply : List ℕ) (w : WorldSt
 shuts l next id k reply w to told = record {
   met = met_at None;
   enough = refl;
-  fixed = refl;
+  no_file = refl;
   lawful = tt;
   lists = sym to;
   told = sym told;

@@ -6,7 +6,6 @@ use Rattle.std.specs.Io.KnownBytes.{Appends}
 use Rattle.std.proofs.KnownBytes.{Appends-trans}
 use Rattle.std.proofs.Math.Seq.{take-append-add}
 use Rattle.std.proofs.lemmas.List.{map-append, flat_map_more}
-use Rattle.std.proofs.lemmas.List.Elements.{All-append, All-nil, All-cons}
 use Rattle.decl_index.specs.declared.change.Change.{Change}
 use Rattle.outside.specs.Gathered.{WrotePrefix}
 use Rattle.json_rpc.specs.declared.fault.FrameFault.{FrameFault}
@@ -14,8 +13,7 @@ use Rattle.json_rpc.specs.declared.fault.FrameFault.TheVariants.{OutOfMemory}
 use Rattle.json_rpc.specs.Streams.{Progress, Gives, Ends, Fails, budget}
 use Rattle.json_rpc.specs.Whole.{Reads}
 use Rattle.json_rpc.proofs.Inputs.{follows-more, follows-end, follows-fail, follows-first}
-use Rattle.answers.specs.Asks.{fixed}
-use Rattle.answers.specs.Turns.{answer, AllMet, AllSee, change_of}
+use Rattle.answers.specs.Turns.{answer, AllMet, AllSee}
 use Rattle.answers.specs.Sessions.{Seen, start}
 use Rattle.answers.specs.Messages.{Outcome, exited, lost}
 use Rattle.answers.specs.Runs.{Message, outcome, session_after, turn_of, turns_of, replies_to, seen_after, Holds}
@@ -24,9 +22,9 @@ use Rattle.answers.proofs.Headlines.{headline}
 use Rattle.sessions.specs.Worlds.{WorldState}
 use Rattle.sessions.specs.declared.ending.Ending as ways
 use Rattle.sessions.specs.declared.ending.Ending.TheVariants.{Exit, Input, Frames, Sink, Memory}
-use Rattle.sessions.specs.Served.{bytes_of, GoesOn, bodies_in, Begins, ReadsBy, WritesBy, EndsWith, EndedBy, AllAdd, Serves}
+use Rattle.sessions.specs.Served.{bytes_of, GoesOn, bodies_in, Begins, ReadsBy, WritesBy, EndsWith, EndedBy, AllAdd, AllLoad, AllGrow, Serves}
 use Rattle.sessions.specs.Serving.{Answers, Writes, IsServing, IsReading}
-use Rattle.sessions.proofs.Touched.{touch_sees, touch_adds, touch_whole}
+use Rattle.sessions.proofs.Touched.{touch_sees, touch_adds, touch_whole, touch_files}
 use Rattle.sessions.proofs.Furthers.{turns_one, replies_one, after_one}
 
 prefix_more : (a b c : Option (List ℕ)) (p q : List ℕ) → Appends a b p → WrotePrefix b c q → WrotePrefix a c (p ++ q)
@@ -76,18 +74,19 @@ holds_of s messages known end met sees is = headline known end messages (record 
 module _ (s now next : Seen) (input before between after : Option (List ℕ)) (first old new : WorldState) (bodies : List (List ℕ)) (body : List ℕ) (way : ways.Ending) where
   -- The last message.
   finish : IsServing s now before between first old bodies → Answers now body next old new between after (Some way) → ReadsBy way input (bodies ++ body ∷ []) → Serves s next input before after first new way
-  unfolding AllMet AllSee AllAdd
+  unfolding AllMet AllSee AllAdd AllLoad AllGrow
   finish h a read =
       let m : Message = record { body = body; met = a.meets.met } in
       let all : List Message = h.messages ++ m ∷ [] in
       let o : outcome now m ≡ a.outcome = ap (λ (r : Seen × Outcome). r.1) a.meets.answer in
       let n : session_after now m ≡ next = ap (λ (r : Seen × Outcome). r.0) a.meets.answer in
+      let files : (new.holds ≡ old.holds) × (new.faults ≡ a.meets.faults) = touch_files m.met.short (turn_of now m).ask (answer now.lists (turn_of now m)) m.met.at (record old { faults = a.meets.faults }) new a.meets.world in
       let one : replies_to s all ≡ replies_to s h.messages ++ a.outcome ∷ [] =
       h.replies (m ∷ []) ∙ ap (λ x. replies_to s h.messages ++ x) (replies_one now m ∙ ap (λ x. x ∷ []) o) in
       let given : bodies_in all ≡ bodies ++ body ∷ [] = map-append (λ (x : Message). x.body) h.messages (m ∷ []) ∙ ap (λ x. x ++ body ∷ []) h.given in
       let lawful : AllMet s.lists (turns_of s all) = h.lawful (m ∷ []) (subst (AllMet now.lists) (sym (turns_one now m)) (a.meets.lawful, tt)) in
       let sees : AllSee first.known s.lists (turns_of s all) new.known = h.sees (m ∷ []) new.known (subst (λ ts. AllSee old.known now.lists ts new.known) (sym (turns_one now m))
-      (new.known, touch_sees m.met.short (turn_of now m).ask now.lists m.met (change_of (turn_of now m).ask) old new a.meets.world, prefix_self new.known)) in
+      (new.known, touch_sees m.met.short (turn_of now m).ask now.lists m.met (record old { faults = a.meets.faults }) new a.meets.world, prefix_self new.known)) in
       record {
         messages = all;
         read = subst (ReadsBy way input) (sym given) read;
@@ -96,11 +95,12 @@ module _ (s now next : Seen) (input before between after : Option (List ℕ)) (f
         ended_by = ended_by way a.outcome between after (replies_to s all) a.writes (record { before = replies_to s h.messages; go_on = h.go_on; is = one });
         session = sym (h.session (m ∷ []) ∙ after_one now m ∙ n);
         met = record {
-          fixed_version = All-append (λ (x : Message). x.met.loads ≡ fixed) h.messages (m ∷ []) h.fixed_version (All-cons (λ (x : Message). x.met.loads ≡ fixed) m [] a.meets.fixed (All-nil (λ (x : Message). x.met.loads ≡ fixed)));
+          loads = h.loads (m ∷ []) new.faults (a.meets.faults, a.meets.loads, files.1);
           lawful = lawful;
           sees = sees;
-          reads = h.reads (m ∷ []) new.reads (new.reads, touch_adds m.met.short (turn_of now m).ask (answer now.lists (turn_of now m)) m.met.at old new a.meets.world, refl);
-          whole = touch_whole m.met.short (turn_of now m).ask (answer now.lists (turn_of now m)) m.met.at old new a.meets.world ∙ h.whole;
+          reads = h.reads (m ∷ []) new.reads (new.reads, touch_adds m.met.short (turn_of now m).ask (answer now.lists (turn_of now m)) m.met.at (record old { faults = a.meets.faults }) new a.meets.world, refl);
+          whole = h.grows (m ∷ []) new.whole (touch_whole m.met.short (turn_of now m).ask now.lists m.met (record old { faults = a.meets.faults }) new a.meets.world);
+          holds = files.0 ∙ h.holds;
         };
         chain = chains first.known s.lists (turns_of s all) new.known sees;
         holds = holds_of s all first.known new.known lawful sees;
@@ -119,7 +119,7 @@ module _ (s now : Seen) (input left before after : Option (List ℕ)) (reader : 
   -- No message more.
   stop : (h : IsReading s now input left before after reader first old) → ReadsBy way input h.bodies
       → ((xs : List ℕ) → Appends before after xs → WritesBy way before after xs) → ((os : List Outcome) → All GoesOn os → EndedBy way os) → Serves s now input before after first old way
-  unfolding turns_of AllMet AllSee AllAdd replies_to seen_after
+  unfolding turns_of AllMet AllSee AllAdd AllLoad AllGrow replies_to seen_after
   stop h read written ended =
       let k : IsServing s now before after first old h.bodies = h.serving in
       let lawful : AllMet s.lists (turns_of s k.messages) = subst (λ x. AllMet s.lists (turns_of s x)) (append-nil k.messages) (k.lawful [] tt) in
@@ -131,11 +131,12 @@ module _ (s now : Seen) (input left before after : Option (List ℕ)) (reader : 
         ended_by = ended (replies_to s k.messages) k.go_on;
         session = sym (ap (seen_after s) (sym (append-nil k.messages)) ∙ k.session []);
         met = record {
-          fixed_version = k.fixed_version;
+          loads = subst (λ x. AllLoad first.holds first.faults s x old.faults) (append-nil k.messages) (k.loads [] old.faults refl);
           lawful = lawful;
           sees = sees;
           reads = subst (λ x. AllAdd first.reads s x old.reads) (append-nil k.messages) (k.reads [] old.reads refl);
-          whole = k.whole;
+          whole = subst (λ x. AllGrow first.whole s x old.whole) (append-nil k.messages) (k.grows [] old.whole refl);
+          holds = k.holds;
         };
         chain = chains first.known s.lists (turns_of s k.messages) old.known sees;
         holds = holds_of s k.messages first.known old.known lawful sees;

@@ -10,16 +10,15 @@ use Rattle.decl_index.specs.declared.change.Change.{Change}
 use Rattle.json_rpc.specs.Streams.{Progress, Gives, budget}
 use Rattle.json_rpc.specs.Whole.{Follows}
 use Rattle.json_rpc.proofs.Inputs.{follows-start, follows-more}
-use Rattle.answers.specs.Asks.{fixed}
 use Rattle.answers.specs.Turns.{answer, AllMet, AllSee, Sees, change_of}
 use Rattle.answers.specs.Sessions.{Seen}
 use Rattle.answers.specs.Messages.{Outcome}
 use Rattle.answers.specs.Runs.{Message, ends, outcome, session_after, turn_of, turns_of, replies_to, seen_after, IsMet}
 use Rattle.answers.proofs.Headlines.{lists_step}
 use Rattle.sessions.specs.Worlds.{WorldState}
-use Rattle.sessions.specs.Served.{bytes_of, GoesOn, AllAdd}
+use Rattle.sessions.specs.Served.{bytes_of, GoesOn, AllAdd, AllLoad, AllGrow}
 use Rattle.sessions.specs.Serving.{Answers, IsServing, IsReading}
-use Rattle.sessions.proofs.Touched.{touch_sees, touch_adds, touch_whole}
+use Rattle.sessions.proofs.Touched.{touch_sees, touch_adds, touch_whole, touch_files}
 
 -- One message more, after which the session goes on.
 turns_on : (now : Seen) (m : Message) (ms : List Message) → GoesOn (outcome now m) → turns_of now (m ∷ ms) ≡ turn_of now m ∷ turns_of (session_after now m) ms
@@ -63,12 +62,13 @@ sees_on now next m ms known after end on is see rest =
 module _ (s now next : Seen) (before between after : Option (List ℕ)) (first old new : WorldState) (bodies : List (List ℕ)) (body : List ℕ) where
   -- One message is answered, and the session goes on.
   pub goes : IsServing s now before between first old bodies → Answers now body next old new between after None → IsServing s next before after first new (bodies ++ body ∷ [])
-  unfolding AllAdd
+  unfolding AllAdd AllLoad AllGrow
   goes h a =
       let m : Message = record { body = body; met = a.meets.met } in
       let o : outcome now m ≡ a.outcome = ap (λ (r : Seen × Outcome). r.1) a.meets.answer in
       let n : session_after now m ≡ next = ap (λ (r : Seen × Outcome). r.0) a.meets.answer in
       let on : GoesOn (outcome now m) = ap ends o ∙ a.writes.1 in
+      let files : (new.holds ≡ old.holds) × (new.faults ≡ a.meets.faults) = touch_files m.met.short (turn_of now m).ask (answer now.lists (turn_of now m)) m.met.at (record old { faults = a.meets.faults }) new a.meets.world in
       let one : replies_to s (h.messages ++ m ∷ []) ≡ replies_to s h.messages ++ a.outcome ∷ [] =
       h.replies (m ∷ []) ∙ ap (λ x. replies_to s h.messages ++ x) (replies_one now m ∙ ap (λ x. x ∷ []) o) in
       record {
@@ -77,7 +77,6 @@ module _ (s now next : Seen) (before between after : Option (List ℕ)) (first o
         written = subst (Appends before after) (flat_map_more bytes_of [] (replies_to s h.messages) a.outcome ∙ sym (ap (flat_map bytes_of) one))
             (Appends-trans before between after (flat_map bytes_of (replies_to s h.messages)) (bytes_of a.outcome) h.written a.writes.0);
         go_on = subst (All GoesOn) (sym one) (All-append GoesOn (replies_to s h.messages) (a.outcome ∷ []) h.go_on (All-cons GoesOn a.outcome [] a.writes.1 (All-nil GoesOn)));
-        fixed_version = All-append (λ (x : Message). x.met.loads ≡ fixed) h.messages (m ∷ []) h.fixed_version (All-cons (λ (x : Message). x.met.loads ≡ fixed) m [] a.meets.fixed (All-nil (λ (x : Message). x.met.loads ≡ fixed)));
         replies = λ ms.
             ap (replies_to s) (append_assoc h.messages (m ∷ []) ms) ∙ h.replies (m ∷ ms)
             ∙ ap (λ x. replies_to s h.messages ++ x) (replies_on now m ms on ∙ ap (λ x. x ∷ replies_to (session_after now m) ms) o ∙ ap (λ x. a.outcome ∷ replies_to x ms) n)
@@ -85,20 +84,24 @@ module _ (s now next : Seen) (before between after : Option (List ℕ)) (first o
         lawful = λ ms law. subst (λ x. AllMet s.lists (turns_of s x)) (sym (append_assoc h.messages (m ∷ []) ms)) (h.lawful (m ∷ ms) (met_on now next m ms on n a.meets.lawful law));
         sees = λ ms end see. subst (λ x. AllSee first.known s.lists (turns_of s x) end) (sym (append_assoc h.messages (m ∷ []) ms))
             (h.sees (m ∷ ms) end (sees_on now next m ms old.known new.known end on n
-            (touch_sees m.met.short (turn_of now m).ask now.lists m.met (change_of (turn_of now m).ask) old new a.meets.world) see));
+            (touch_sees m.met.short (turn_of now m).ask now.lists m.met (record old { faults = a.meets.faults }) new a.meets.world) see));
         reads = λ ms end adds. subst (λ x. AllAdd first.reads s x end) (sym (append_assoc h.messages (m ∷ []) ms))
             (h.reads (m ∷ ms) end (
               new.reads,
-              touch_adds m.met.short (turn_of now m).ask (answer now.lists (turn_of now m)) m.met.at old new a.meets.world,
+              touch_adds m.met.short (turn_of now m).ask (answer now.lists (turn_of now m)) m.met.at (record old { faults = a.meets.faults }) new a.meets.world,
               subst (λ x. AllAdd new.reads x ms end) (sym n) adds,
             ));
+        loads = λ ms end loads. subst (λ x. AllLoad first.holds first.faults s x end) (sym (append_assoc h.messages (m ∷ []) ms))
+            (h.loads (m ∷ ms) end (a.meets.faults, a.meets.loads, subst (λ x. AllLoad old.holds a.meets.faults x ms end) (sym n) (subst (λ f. AllLoad old.holds f next ms end) files.1 (subst (λ x. AllLoad x new.faults next ms end) files.0 loads))));
+        grows = λ ms end grows. subst (λ x. AllGrow first.whole s x end) (sym (append_assoc h.messages (m ∷ []) ms))
+            (h.grows (m ∷ ms) end (subst (λ o. AllGrow o (session_after now m) ms end) (touch_whole m.met.short (turn_of now m).ask now.lists m.met (record old { faults = a.meets.faults }) new a.meets.world) (subst (λ x. AllGrow new.whole x ms end) (sym n) grows)));
         session = λ ms. ap (seen_after s) (append_assoc h.messages (m ∷ []) ms) ∙ h.session (m ∷ ms) ∙ after_on now m ms on ∙ ap (λ x. seen_after x ms) n;
-        whole = touch_whole m.met.short (turn_of now m).ask (answer now.lists (turn_of now m)) m.met.at old new a.meets.world ∙ h.whole;
+        holds = files.0 ∙ h.holds;
       }
 
 -- Nothing was read yet.
 pub starts : (s : Seen) (input before : Option (List ℕ)) (reader : Progress) (w : WorldState) → reader ≡ record { place = 0; held = []; fault = None } → IsReading s s input input before before reader w w
-unfolding replies_to AllAdd
+unfolding replies_to AllAdd AllLoad AllGrow
 starts s input before reader w is = record {
   bodies = [];
   follows = subst (λ x. Follows x input input []) (sym is) (follows-start input);
@@ -108,13 +111,14 @@ starts s input before reader w is = record {
     given = refl;
     written = Appends-nil before;
     go_on = All-nil GoesOn;
-    fixed_version = All-nil (λ (x : Message). x.met.loads ≡ fixed);
     replies = λ ms. refl;
     lawful = λ ms law. law;
     sees = λ ms end see. see;
     reads = λ ms end adds. adds;
+    loads = λ ms end loads. loads;
+    grows = λ ms end grows. grows;
     session = λ ms. refl;
-    whole = refl;
+    holds = refl;
   };
 }
 

@@ -17,8 +17,11 @@ pub mod Noticed
 pub mod Touched
 pub mod Furthers
 pub mod Finishing
-pub mod FixedWorlds
+pub mod MemWorlds
 pub mod Statuses
 pub mod Completed
+pub mod Changing
 pub mod Commanded
+pub mod Versions
+pub mod Filing
 pub mod RunningWorlds

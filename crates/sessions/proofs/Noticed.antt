@@ -15,18 +15,19 @@ use Rattle.answers.specs.declared.types.Phase.TheVariants.{Fresh, Running, Stopp
 use Rattle.answers.specs.declared.types.DocumentState.{DocumentState}
 use Rattle.answers.specs.declared.types.DocumentState.TheVariants.{NoMemory}
 use Rattle.answers.specs.declared.types.OpenDocument.{OpenDocument}
-use Rattle.answers.specs.Asks.{Short, Enough, Lacking, Ending, Met, fixed}
+use Rattle.answers.specs.Asks.{Short, Enough, Lacking, Ending, Met, classes}
 use Rattle.answers.specs.Sessions.{Seen, document_of, with_document, without_document, state_of, state_by}
-use Rattle.answers.specs.Messages.{Meaning, leaves, drops, edits, DocumentEdit, opening, changing, closing, Outcome, silent, exited, lost, is_stopped, documents_after, open_by, change_by, close_by, edit_if_open, running_notice, notice_by, notice_in}
+use Rattle.answers.specs.Messages.{Meaning, files_in, leaves, drops, edits, DocumentEdit, opening, changing, closing, Outcome, silent, exited, lost, is_stopped, documents_after, open_by, change_by, close_by, edit_if_open, running_notice, notice_by, notice_in}
 use Rattle.sessions.specs.Edited.{IsSetTo, IsSetBy}
 use Rattle.sessions.specs.Worlds.{WorldState}
 use Rattle.sessions.specs.Outcomes.{silent_or}
 use Rattle.sessions.specs.Meets.{Answered}
+use Rattle.sessions.proofs.Answering.{none_loaded, lacking_loaded, ending_loaded}
 use Rattle.sessions.proofs.Cases.{by_test}
 
 -- What is met where no question is asked.
 abbrev met_by : Short → Met
-met_by short = record { at = []; loads = fixed; site = None; env = record { types = []; pairs = []; decls = []; goal = 0; limit = 0; depth = 0; binder = [] }; page = record { items = []; last = false; grown = 0 }; fault = None; short = short }
+met_by short = record { at = []; loads = classes []; site = None; env = record { types = []; pairs = []; decls = []; goal = 0; limit = 0; depth = 0; binder = [] }; page = record { items = []; last = false; grown = 0 }; fault = None; short = short }
 
 -- A session whose documents are as they were.
 documents_same : (s t : Seen) (ds : List OpenDocument) → t ≡ record s { documents = ds } → ds ≡ s.documents → t ≡ s
@@ -35,17 +36,17 @@ documents_same s t ds to same = to ∙ ap (λ l. record s { documents = l }) sam
 taken : (s t : Seen) (uri : List ℕ) (edit : DocumentEdit) (ds : List OpenDocument) (w : WorldState)
     → (ds ≡ documents_after uri edit s.documents (document_of uri s.documents)) ⊎ (ds ≡ with_document uri NoMemory s.documents) → t ≡ record s { documents = ds }
     → Answered s (edits uri edit) t silent w w
-taken s t uri edit ds w (inl e) to = record { met = met_by Enough; fixed = refl; lawful = tt; answer = ap (λ x. (x, silent)) (ap (λ d. record s { documents = d }) (sym e) ∙ sym to); world = refl }
-taken s t uri edit ds w (inr e) to = record { met = met_by Lacking; fixed = refl; lawful = tt; answer = ap (λ x. (x, silent)) (ap (λ d. record s { documents = d }) (sym e) ∙ sym to); world = refl }
+taken s t uri edit ds w (inl e) to = record { met = met_by Enough; faults = w.faults; loads = none_loaded w.holds w.faults; lawful = tt; answer = ap (λ x. (x, silent)) (ap (λ d. record s { documents = d }) (sym e) ∙ sym to); world = refl }
+taken s t uri edit ds w (inr e) to = record { met = met_by Lacking; faults = w.faults; loads = lacking_loaded w.holds [] w.faults; lawful = tt; answer = ap (λ x. (x, silent)) (ap (λ d. record s { documents = d }) (sym e) ∙ sym to); world = refl }
 
 passed : (s t : Seen) (w : WorldState) → t ≡ s → Answered s drops t silent w w
-passed s t w to = record { met = met_by Enough; fixed = refl; lawful = tt; answer = ap (λ x. (x, silent)) (sym to); world = refl }
+passed s t w to = record { met = met_by Enough; faults = w.faults; loads = none_loaded w.holds w.faults; lawful = tt; answer = ap (λ x. (x, silent)) (sym to); world = refl }
 
 gone : (s t : Seen) (w : WorldState) → t ≡ s → Answered s leaves t (exited (is_stopped s.phase)) w w
-gone s t w to = record { met = met_by Enough; fixed = refl; lawful = tt; answer = ap (λ x. (x, exited (is_stopped s.phase))) (sym to); world = refl }
+gone s t w to = record { met = met_by Enough; faults = w.faults; loads = none_loaded w.holds w.faults; lawful = tt; answer = ap (λ x. (x, exited (is_stopped s.phase))) (sym to); world = refl }
 
 over : (s t : Seen) (meaning : Meaning) (w : WorldState) → t ≡ s → Answered s meaning t lost w w
-over s t meaning w to = record { met = met_by Ending; fixed = refl; lawful = tt; answer = ap (λ x. (x, lost)) (sym to); world = refl }
+over s t meaning w to = record { met = met_by Ending; faults = w.faults; loads = ending_loaded w.holds (files_in meaning) w.faults; lawful = tt; answer = ap (λ x. (x, lost)) (sym to); world = refl }
 
 -- `didOpen`.
 abbrev text_in : Data → Option (List ℕ)

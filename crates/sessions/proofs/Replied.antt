@@ -1,10 +1,9 @@
 -- The reply to each request, by what its method and its parameters are.
-use Rattle.std.proofs.Common.{◌≡◌, ◌∙◌, ℕ, sym, ap, subst, refl, List, true, false, Option, Some, None, Result, Ok, Err, Vec, Global}
+use Rattle.std.proofs.Common.{◌≡◌, ◌∙◌, ℕ, sym, ap, subst, refl, List, [], true, false, Option, Some, None, Result, Ok, Err, Vec, Global}
 use Rattle.std.specs.Prelude.{IfOk, codes, bytes_eq}
 use Rattle.std.specs.Str.{chars}
 use Rattle.std.specs.declared.alloc.AllocError.{AllocError}
 use Rattle.serde_json.specs.Data.{Data}
-use Rattle.serde_json.specs.Find.{get}
 use Rattle.documents.specs.Places.{offset_of}
 use Rattle.json_rpc.specs.declared.message.Id.{Id}
 use Rattle.json_rpc.specs.declared.message.Refused.{Refused}
@@ -14,38 +13,46 @@ use Rattle.lsp_forms.specs.declared.forms.Initialize.{Initialize}
 use Rattle.lsp_forms.specs.declared.forms.Completion.{Completion}
 use Rattle.lsp_forms.specs.declared.forms.Command.{Command}
 use Rattle.lsp_forms.specs.declared.forms.Command.TheVariants as command
-use Rattle.lsp_forms.specs.Params.{RefusedAs, FaultedAs, text_of}
+use Rattle.lsp_forms.specs.Params.{RefusedAs, FaultedAs}
 use Rattle.lsp_forms.specs.Forms.{initialize_of, completion_of}
 use Rattle.lsp_forms.specs.Commands.{command_of}
 use Rattle.answers.specs.declared.types.Phase.TheVariants.{Fresh, Running, Stopped}
 use Rattle.answers.specs.declared.types.DocumentState.{DocumentState}
 use Rattle.answers.specs.declared.types.DocumentState.TheVariants.{Sure, Unsure, NoMemory}
-use Rattle.answers.specs.Asks.{Ask, complete, page, close, change, exit, other, Lacking, fixed}
+use Rattle.answers.specs.Asks.{Ask, complete, page, close, change, exit, other, Lacking, classes}
 use Rattle.answers.specs.Sessions.{Seen, document_of}
 use Rattle.answers.specs.Replies.{failure, reply_text}
 use Rattle.answers.specs.Failures.{invalid_request, not_initialized, invalid_params}
-use Rattle.answers.specs.Messages.{Meaning, fault_of, starts, Outcome, replied, no_memory, lacking_for, ask_in, request_by, fresh_request, running_request, initialize_by, completion_by, completion_in, completion_at, command_by, fixed_command, makes_change}
+use Rattle.answers.specs.Messages.{Meaning, fault_of, starts, Outcome, replied, no_memory, lacking_for, files_in, ask_in, request_by, fresh_request, running_request, initialize_by, completion_by, completion_in, completion_at, command_by}
 use Rattle.sessions.specs.Worlds.{WorldState}
 use Rattle.sessions.specs.Questions.{MayLeave}
 use Rattle.sessions.specs.Outcomes.{replied_or}
 use Rattle.sessions.specs.Meets.{Answered}
 use Rattle.sessions.specs.Refusing.{IsRefusal}
 use Rattle.sessions.proofs.WorldReads.{stays}
-use Rattle.sessions.proofs.Answering.{met_with, asked_by, said_by, lacked, started, started_in_vain, stopped, stopped_in_vain}
-use Rattle.sessions.proofs.Methods.{fresh_other, fresh_initialize, fixed_other}
-use Rattle.sessions.proofs.Ranged.{options_in_range, fair_count}
+use Rattle.sessions.proofs.Answering.{met_with, lacking_loaded, said_by, started, started_in_vain, stopped, stopped_in_vain}
+use Rattle.sessions.proofs.Changing.{nothing_learnt}
+use Rattle.sessions.proofs.Methods.{fresh_other, fresh_initialize}
+use Rattle.sessions.proofs.Ranged.{options_in_range}
 
 leaves_same : (ask : Ask) (old new : WorldState) → new ≡ old → MayLeave ask old new
 leaves_same (complete hole count) old new e = stays old new e
 leaves_same (page k count) old new e = stays old new e
 leaves_same (close k) old new e = e
-leaves_same (change c) old new e = e
+leaves_same (change c) old new e = nothing_learnt old new e
 leaves_same exit old new e = e
 leaves_same other old new e = e
 
 -- Memory was wanting for a request, before the world was touched.
 in_vain : (s t : Seen) (id : Id) (meaning : Meaning) (old new : WorldState) → lacking_for s meaning ≡ (s, no_memory id) → t ≡ s → new ≡ old → Answered s meaning t (no_memory id) old new
-in_vain s t id meaning old new is to same = record { met = met_with Lacking; fixed = refl; lawful = tt; answer = is ∙ ap (λ x. (x, no_memory id)) (sym to); world = leaves_same (ask_in meaning) old new same }
+in_vain s t id meaning old new is to same = record {
+  met = met_with Lacking;
+  faults = old.faults;
+  loads = lacking_loaded old.holds (files_in meaning) old.faults;
+  lawful = tt;
+  answer = is ∙ ap (λ x. (x, no_memory id)) (sym to);
+  world = leaves_same (ask_in meaning (classes [])) old new same;
+}
 
 lacks_initialize : (s : Seen) (id : Id) (r : Result Initialize ParamFault) → lacking_for s (initialize_by id r) ≡ (s, no_memory id)
 lacks_initialize s id (Err f) = refl
@@ -65,7 +72,7 @@ lacks_completion : (s : Seen) (id : Id) (r : Result Completion ParamFault) → l
 lacks_completion s id (Err f) = refl
 lacks_completion s id (Ok form) = lacks_in s id form (document_of form.uri s.documents)
 
-lacks_command : (s : Seen) (id : Id) (r : Result Command ParamFault) → lacking_for s (command_by id fixed r) ≡ (s, no_memory id)
+lacks_command : (s : Seen) (id : Id) (r : Result Command ParamFault) → lacking_for s (command_by id r) ≡ (s, no_memory id)
 lacks_command s id (Err f) = refl
 lacks_command s id (Ok (command.Page k n)) = refl
 lacks_command s id (Ok (command.Close k)) = refl
@@ -86,9 +93,8 @@ pub completion_refused : (s t : Seen) (id : Id) (d : Data) (e : Refused ParamFau
 completion_refused s t id d e r old new is told to same = refused s t id (completion_by s id) (completion_of d) e r old new (lacks_completion s id (completion_of d)) (λ f. refl) is told to same
 
 pub command_refused : (s t : Seen) (id : Id) (d : Data) (e : Refused ParamFault) (r : Result (Vec ℕ Global) AllocError) (old new : WorldState)
-    → makes_change (text_of (get (codes "command") d)) ≡ false → RefusedAs (command_of d) e → IsRefusal id e r → t ≡ s → new ≡ old → Answered s (fixed_command id d) t (replied_or id r) old new
-command_refused s t id d e r old new test is told to same =
-    subst (λ m. Answered s m t (replied_or id r) old new) (fixed_other id d test) (refused s t id (command_by id fixed) (command_of d) e r old new (lacks_command s id (command_of d)) (λ f. refl) is told to same)
+    → RefusedAs (command_of d) e → IsRefusal id e r → t ≡ s → new ≡ old → Answered s (command_by id (command_of d)) t (replied_or id r) old new
+command_refused s t id d e r old new is told to same = refused s t id (command_by id) (command_of d) e r old new (lacks_command s id (command_of d)) (λ f. refl) is told to same
 
 faulted : (d : Data) (e : Refused ParamFault) → FaultedAs (initialize_of d) e → RefusedAs (initialize_of d) e
 faulted d (Fault f) is = is
@@ -113,18 +119,18 @@ completion_formed s t id d form said old new is a = subst (λ m. Answered s m t 
 
 -- A request by the phase.
 pub by_fresh : (s t : Seen) (id : Id) (method : List ℕ) (d : Data) (o : Outcome) (old new : WorldState) → s.phase ≡ Fresh → ((w : WorldState) → Answered s (fresh_request id method d) t o w w) → new ≡ old
-    → Answered s (request_by s.phase s fixed id method d) t o old new
+    → Answered s (request_by s.phase s id method d) t o old new
 by_fresh s t id method d o old new e a same =
-    subst (λ p. Answered s (request_by p s fixed id method d) t o old new) (sym e) (subst (λ w. Answered s (fresh_request id method d) t o old w) (sym same) (a old))
+    subst (λ p. Answered s (request_by p s id method d) t o old new) (sym e) (subst (λ w. Answered s (fresh_request id method d) t o old w) (sym same) (a old))
 
-pub by_running : (s t : Seen) (id : Id) (method : List ℕ) (d : Data) (o : Outcome) (old new : WorldState) → s.phase ≡ Running → Answered s (running_request s fixed id method d) t o old new
-    → Answered s (request_by s.phase s fixed id method d) t o old new
-by_running s t id method d o old new e a = subst (λ p. Answered s (request_by p s fixed id method d) t o old new) (sym e) a
+pub by_running : (s t : Seen) (id : Id) (method : List ℕ) (d : Data) (o : Outcome) (old new : WorldState) → s.phase ≡ Running → Answered s (running_request s id method d) t o old new
+    → Answered s (request_by s.phase s id method d) t o old new
+by_running s t id method d o old new e a = subst (λ p. Answered s (request_by p s id method d) t o old new) (sym e) a
 
 pub by_stopped : (s t : Seen) (id : Id) (method : List ℕ) (d : Data) (r : Result (Vec ℕ Global) AllocError) (old new : WorldState) → s.phase ≡ Stopped → IfOk r (λ b. b.items ≡ reply_text (Some id) (failure invalid_request)) → t ≡ s → new ≡ old
-    → Answered s (request_by s.phase s fixed id method d) t (replied_or id r) old new
+    → Answered s (request_by s.phase s id method d) t (replied_or id r) old new
 by_stopped s t id method d r old new e told to same =
-    subst (λ p. Answered s (request_by p s fixed id method d) t (replied_or id r) old new) (sym e) (said_by s t id (failure invalid_request) r old new told to same)
+    subst (λ p. Answered s (request_by p s id method d) t (replied_or id r) old new) (sym e) (said_by s t id (failure invalid_request) r old new told to same)
 
 -- What the reply to a request says.
 pub replies : (s t : Seen) (id : Id) (meaning : Meaning) (r : Result (Vec ℕ Global) AllocError) (b : Vec ℕ Global) (old new : WorldState) → r ≡ Ok b → Answered s meaning t (replied_or id r) old new → Answered s meaning t (replied b.items) old new

@@ -3,10 +3,10 @@ use Rattle.std.proofs.Common.{◌≡◌, ◌∙◌, sym, ap, subst, [], inl, inr
 use Rattle.sessions.specs.Worlds.{WorldState, IsRead, MayRead}
 
 pub may_read : (old new : WorldState) → IsRead old new → MayRead old new
-may_read old new r = record { later = r.later; entry = inr r.entry; whole = r.whole }
+may_read old new r = record { later = r.later; entry = inr r.entry; whole = r.whole; holds = r.holds; faults = r.faults }
 
 pub stays : (old new : WorldState) → new ≡ old → MayRead old new
-stays old new e = record { later = ([], append-nil old.known ∙ ap (λ w. w.known) (sym e)); entry = inl (ap (λ w. w.reads) e); whole = ap (λ w. w.whole) e }
+stays old new e = record { later = ([], append-nil old.known ∙ ap (λ w. w.known) (sym e)); entry = inl (ap (λ w. w.reads) e); whole = ap (λ w. w.whole) e; holds = ap (λ w. w.holds) e; faults = ap (λ w. w.faults) e }
 
 pub read_then : (old mid new : WorldState) → IsRead old mid → new ≡ mid → IsRead old new
 read_then old mid new r e = subst (λ w. IsRead old w) (sym e) r

@@ -4,6 +4,7 @@ use Rattle.std.specs.Prelude.{pos, negsuc, map, ◌+◌, ◌∷◌, []}
 use Rattle.serde_json.specs.Data.{Data}
 use Rattle.serde_json.specs.View.{items_of}
 use Rattle.serde_json.specs.Written.{has_float, items_have_float, compact_text}
+use Rattle.decl_index.specs.declared.change.ChangeFault.TheVariants as change
 use Rattle.json_rpc.specs.declared.message.Id.{Id}
 use Rattle.json_rpc.specs.declared.message.Id.TheVariants.{Number, Text}
 use Rattle.lsp_forms.specs.declared.forms.ItemForm.{ItemForm}
@@ -30,7 +31,15 @@ failure_whole id variant.InvalidRequest = rw (id_whole id) refl
 failure_whole id variant.UnknownMethod = rw (id_whole id) refl
 failure_whole id variant.NotInitialized = rw (id_whole id) refl
 failure_whole id (variant.InvalidParams cause index) = rw (id_whole id) refl
+failure_whole id (variant.NoClass index class_fault place) = rw (id_whole id) refl
+failure_whole id (variant.ChangeRefused (change.Cyclic name)) = rw (id_whole id) refl
+failure_whole id (variant.ChangeRefused (change.Full parts)) = rw (id_whole id) refl
+failure_whole id (variant.ChangeRefused (change.TooHigh through)) = rw (id_whole id) refl
+failure_whole id (variant.ChangeRefused change.JournalFull) = rw (id_whole id) refl
+failure_whole id (variant.ChangeRefused (change.NestCycle name)) = rw (id_whole id) refl
+failure_whole id (variant.ChangeRefused change.OutOfMemory) = rw (id_whole id) refl
 failure_whole id (variant.VersionWithdrawn number version) = rw (id_whole id) refl
+failure_whole id (variant.ReadFault index) = rw (id_whole id) refl
 
 -- The text of a reply with a result.
 pub result_written : (id : Option Id) (d v : Data) (body : List ℕ) → has_float d ≡ false → v ≡ reply_data id (result d) → (has_float v ≡ false → body ≡ compact_text v) → body ≡ compact_text (reply_data id (result d))

@@ -1,20 +1,21 @@
 -- What serving one client leaves.
-use Rattle.std.specs.Prelude.{◌≡◌, ◌⊎◌, ℕ, true, false, List, [], ◌∷◌, ◌++◌, map, length, All, Option, Some, None}
+use Rattle.std.specs.Prelude.{◌≡◌, ◌⊎◌, ℕ, true, false, List, [], ◌∷◌, ◌++◌, map, length, All, Option, Some, None, option_map}
 use Rattle.std.specs.List.{flat_map}
 use Rattle.std.specs.Io.KnownBytes.{Appends}
 use Rattle.outside.specs.Gathered.{WrotePrefix}
+use Rattle.outside.specs.declared.shelf.HeldFile.{HeldFile}
 use Rattle.json_rpc.specs.declared.fault.FrameFault.{FrameFault}
 use Rattle.json_rpc.specs.declared.fault.FrameFault.TheVariants.{Header, NoLength, TooLong, Cut, ReadFault, Budget, OutOfMemory}
 use Rattle.json_rpc.specs.Whole.{Reads, BeginFramesOf}
 use Rattle.json_rpc.specs.Replies.{frame_of, no_memory_reply}
 use Rattle.decl_index.specs.declared.change.Change.{Change}
-use Rattle.answers.specs.Asks.{Ask, complete, page, close, change, exit, other, Short, Enough, Lacking, Ending, Answer, opened, turned, withdrawn, accepted, refused, quiet, ended, fixed}
-use Rattle.answers.specs.Turns.{answer, AllMet, AllSee, IsChain}
+use Rattle.answers.specs.Asks.{Ask, complete, page, close, change, exit, other, Short, Enough, Lacking, Ending, Answer, opened, turned, withdrawn, accepted, refused, quiet, ended}
+use Rattle.answers.specs.Turns.{answer, change_of, AllMet, AllSee, IsChain}
 use Rattle.answers.specs.Sessions.{Seen, start}
-use Rattle.answers.specs.Messages.{Outcome, replied, no_memory, silent, exited, lost}
+use Rattle.answers.specs.Messages.{Outcome, replied, no_memory, silent, exited, lost, meaning_of, files_in}
 use Rattle.answers.specs.Runs.{Message, ends, replies_to, session_after, turn_of, turns_of, seen_after, Holds}
 use Rattle.sessions.specs.Worlds.{WorldState}
-use Rattle.sessions.specs.FixedStates.{fixed_state}
+use Rattle.sessions.specs.Loads.{IsLoaded}
 use Rattle.sessions.specs.declared.ending.Ending as ways
 use Rattle.sessions.specs.declared.ending.Ending.TheVariants.{Exit, Input, Frames, Sink, Memory}
 use Rattle.sessions.specs.declared.ending.Ended.{Ended}
@@ -127,14 +128,35 @@ unfoldable pub AllAdd : List ℕ → Seen → List Message → List ℕ → Type
 AllAdd reads s [] end = end ≡ reads
 AllAdd reads s (m ∷ ms) end = (mid : List ℕ) × AddsBy m.met.short (turn_of s m).ask (answer s.lists (turn_of s m)) (length m.met.at) reads mid × AllAdd mid (session_after s m) ms end
 
--- What of the world was met by messages: each met what it may, over a fixed version; what the client had seen only grew, and its
--- reads by those of the answers; and the whole history, where it is told, stayed.
+-- From the count of faults before messages to that after them: the files of each gave what it met.
+unfoldable pub AllLoad : Option (List HeldFile) → ℕ → Seen → List Message → ℕ → Type 0
+AllLoad holds count s [] end = end ≡ count
+AllLoad holds count s (m ∷ ms) end = (mid : ℕ) × IsLoaded m.met.short holds (files_in (meaning_of s m.body)) m.met.loads count mid × AllLoad holds mid (session_after s m) ms end
+
+-- The whole history after an answer, where it is told: an accepted change is added to it.
+abbrev pub whole_after : Option (List Change) → Answer → List Change → Option (List Change)
+whole_after whole (opened c p) made = whole
+whole_after whole (turned c p) made = whole
+whole_after whole (withdrawn k v through) made = whole
+whole_after whole (accepted v) made = option_map (λ history. history ++ made) whole
+whole_after whole (refused fault) made = whole
+whole_after whole quiet made = whole
+whole_after whole ended made = whole
+
+-- From the whole history before messages to that after them.
+unfoldable pub AllGrow : Option (List Change) → Seen → List Message → Option (List Change) → Type 0
+AllGrow whole s [] end = end ≡ whole
+AllGrow whole s (m ∷ ms) end = AllGrow (whole_after whole (answer s.lists (turn_of s m)) (change_of (turn_of s m).ask)) (session_after s m) ms end
+
+-- What of the world was met by messages: their files gave what each met, and each met what it may; what the client had seen only
+-- grew, its reads by those of the answers, and the whole history, where it is told, by the accepted changes.
 pub record AreMet (s : Seen) (messages : List Message) (old new : WorldState) : Type 0 where
-  pub fixed_version : All (λ (m : Message). m.met.loads ≡ fixed) messages
+  pub loads : AllLoad old.holds old.faults s messages new.faults
   pub lawful : AllMet s.lists (turns_of s messages)
   pub sees : AllSee old.known s.lists (turns_of s messages) new.known
   pub reads : AllAdd old.reads s messages new.reads
-  pub whole : new.whole ≡ old.whole
+  pub whole : AllGrow old.whole s messages new.whole
+  pub holds : new.holds ≡ old.holds
 
 -- A client was served: its messages are the frames of the input, what was written are the frames of the replies in order, and
 -- the session after it is that after the messages. What it met is a chain, and what holds of a new session's answers holds.
@@ -148,13 +170,8 @@ pub record Serves (s next : Seen) (input before after : Option (List ℕ)) (old 
   pub chain : IsChain s.lists (turns_of s messages)
   pub holds : s ≡ start → Holds messages
 
--- A client was served over the version of a history.
-pub record ServesAt (history : List Change) (s next : Seen) (input before after : Option (List ℕ)) (way : ways.Ending) : Type 0 where
-  pub reads : List ℕ
-  pub serves : Serves s next input before after (fixed_state history []) (fixed_state history reads) way
-
 -- The status tells how its session ended.
-pub record ServesWith (history : List Change) (s next : Seen) (input before after : Option (List ℕ)) (status : Ended) : Type 0 where
+pub record ServesWith (s next : Seen) (input before after : Option (List ℕ)) (old new : WorldState) (status : Ended) : Type 0 where
   pub way : ways.Ending
-  pub serves : ServesAt history s next input before after way
+  pub serves : Serves s next input before after old new way
   pub told : status ≡ status_of way

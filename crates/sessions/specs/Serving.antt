@@ -4,7 +4,6 @@ use Rattle.std.specs.List.{flat_map}
 use Rattle.std.specs.Io.KnownBytes.{Appends}
 use Rattle.outside.specs.Gathered.{WrotePrefix}
 use Rattle.decl_index.specs.declared.change.Change.{Change}
-use Rattle.answers.specs.Asks.{fixed}
 use Rattle.answers.specs.Turns.{AllMet, AllSee}
 use Rattle.answers.specs.Sessions.{Seen}
 use Rattle.answers.specs.Messages.{Outcome, exited, lost}
@@ -15,7 +14,7 @@ use Rattle.sessions.specs.Worlds.{WorldState}
 use Rattle.sessions.specs.Meets.{Meets}
 use Rattle.sessions.specs.declared.ending.Ending as ways
 use Rattle.sessions.specs.declared.ending.Ending.TheVariants.{Exit, Input, Frames, Sink, Memory}
-use Rattle.sessions.specs.Served.{bytes_of, GoesOn, bodies_in, AllAdd}
+use Rattle.sessions.specs.Served.{bytes_of, GoesOn, bodies_in, AllAdd, AllLoad, AllGrow}
 
 -- What was written of an outcome, and whether it ended the session.
 abbrev pub Writes : Option ways.Ending → Outcome → Option (List ℕ) → Option (List ℕ) → Type 0
@@ -38,13 +37,14 @@ pub record IsServing (s now : Seen) (before after : Option (List ℕ)) (old new 
   pub given : bodies_in messages ≡ bodies
   pub written : Appends before after (flat_map bytes_of (replies_to s messages))
   pub go_on : All GoesOn (replies_to s messages)
-  pub fixed_version : All (λ (m : Message). m.met.loads ≡ fixed) messages
   pub replies : (ms : List Message) → replies_to s (messages ++ ms) ≡ replies_to s messages ++ replies_to now ms
   pub lawful : (ms : List Message) → AllMet now.lists (turns_of now ms) → AllMet s.lists (turns_of s (messages ++ ms))
   pub sees : (ms : List Message) (end : List Change) → AllSee new.known now.lists (turns_of now ms) end → AllSee old.known s.lists (turns_of s (messages ++ ms)) end
   pub reads : (ms : List Message) (end : List ℕ) → AllAdd new.reads now ms end → AllAdd old.reads s (messages ++ ms) end
+  pub loads : (ms : List Message) (end : ℕ) → AllLoad new.holds new.faults now ms end → AllLoad old.holds old.faults s (messages ++ ms) end
+  pub grows : (ms : List Message) (end : Option (List Change)) → AllGrow new.whole now ms end → AllGrow old.whole s (messages ++ ms) end
   pub session : (ms : List Message) → seen_after s (messages ++ ms) ≡ seen_after now ms
-  pub whole : new.whole ≡ old.whole
+  pub holds : new.holds ≡ old.holds
 
 -- The same with the frames that were read: those from where the reader stands complete the input.
 pub record IsReading (s now : Seen) (input left before after : Option (List ℕ)) (reader : Progress) (old new : WorldState) : Type 0 where

@@ -2,6 +2,7 @@
 use Rattle.std.specs.Prelude.{ℕ, List, Bool, if◌then◌else◌, Option, Some}
 use Rattle.serde_json.specs.Data.{Data}
 use Rattle.json_rpc.specs.declared.message.Id.{Id}
+use Rattle.lsp_forms.specs.Results.{version_answer}
 use Rattle.serde_json.specs.Data.{object, null}
 use Rattle.answers.specs.Failures.{invalid_params, data_of}
 use Rattle.answers.specs.Replies.{reply_data, reply_text, error_members, result, failure}
@@ -11,6 +12,10 @@ use Rattle.sessions.specs.Failing.{failure_of}
 -- The reply with a result.
 abbrev pub result_text : Id → Data → List ℕ
 result_text id d = reply_text (Some id) (result d)
+
+-- The reply that tells a version.
+abbrev pub version_text : Id → ℕ → List ℕ
+version_text id number = result_text id (version_answer number)
 
 -- The reply with an error, which has the id null where none is shown.
 abbrev pub failure_text : Option Id → code.Failure → List ℕ

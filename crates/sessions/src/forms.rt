@@ -3,7 +3,6 @@ ghost use Rattle.serde_json.specs.Find.{get};
 ghost use Rattle.serde_json.specs.View.{view};
 ghost use Rattle.lsp_forms.specs.Params.{member_of, text_of};
 ghost use Rattle.lsp_forms.specs.Forms.{uri_in};
-ghost use Rattle.answers.specs.Messages.{makes_change};
 
 use serde_json::Value;
 
@@ -33,26 +32,4 @@ pub fn text_in(params: &Value) -> Option<&str>
     ensures text { option_map (λ s. s.now) result ≡ text_of (member_of (codes "text") (get (codes "textDocument") (view params.now))) }
 {
     document_text(params, "text")
-}
-
-/// The name of a command.
-#[tactic(auto, unfolding(lsp_forms::specs::Params::text_of))]
-fn command_in(params: &Value) -> Option<&str>
-    ensures name { option_map (λ s. s.now) result ≡ text_of (get (codes "command") (view params.now)) }
-{
-    match params.get("command") {
-        Some(value) => value.as_str(),
-        None => None,
-    }
-}
-
-/// Whether a command asks for a change.
-#[tactic(auto, unfolding(answers::specs::Messages::makes_change))]
-pub fn makes_change(params: &Value) -> bool
-    ensures change { result ≡ makes_change (text_of (get (codes "command") (view params.now))) }
-{
-    match command_in(params) {
-        Some(name) => name == "insynth.publish" || name == "insynth.withdraw",
-        None => false,
-    }
 }

@@ -58,7 +58,6 @@ fn environment_now<W: World>(
     ensures made { IfOk result (λ made. IsMade (W.state world.new).known unit.now site.now options made.0 made.1) }
     ensures read { OnOk result (IsRead (W.state world.old) (W.state world.new)) }
     ensures no_memory { OnErr result (MayRead (W.state world.old) (W.state world.new)) }
-    ensures no_fault { W.failed world.new ≡ W.failed world.old }
 {
     let version = world.read()?;
     let env = environment(
@@ -100,7 +99,6 @@ impl Cursors {
         ensures opens { IfOk result (λ reply. Opens self.old id.now cursor count self.new reply.items) }
         ensures unchanged { OnErr result (self.new ≡ self.old) }
         ensures same { W.state world.new ≡ W.state world.old }
-        ensures no_fault { W.failed world.new ≡ W.failed world.old }
     {
         let page = world.page(alloc, &cursor.env, 0, count)?;
         let answered = page.items.len() as u64;
@@ -130,7 +128,6 @@ impl Cursors {
         ensures made { IfOk result (λ c. IsMade (W.state world.new).known unit.now site.now options c.env c.version) }
         ensures read { OnOk result (IsRead (W.state world.old) (W.state world.new)) }
         ensures no_memory { OnErr result (MayRead (W.state world.old) (W.state world.new)) }
-        ensures no_fault { W.failed world.new ≡ W.failed world.old }
     {
         let (env, version) = environment_now(alloc, unit, site, options, world)?;
         Ok(Cursor {
@@ -159,7 +156,6 @@ impl Cursors {
         ensures answers { IfOk result (λ reply. Answers self.old (complete (hole_in document.now place options) options.count) id.now self.new reply.items (W.state world.old) (W.state world.new)) }
         ensures unchanged { OnErr result (self.new ≡ self.old) }
         ensures no_memory { OnErr result (MayRead (W.state world.old) (W.state world.new)) }
-        ensures no_fault { W.failed world.new ≡ W.failed world.old }
     {
         let Spot { unit, site } = spot_at(alloc, document.text(), place)?;
         let Some(site) = site else {
@@ -192,7 +188,6 @@ impl Cursors {
         ensures answers { IfOk result (λ reply. Answers self.old (page number count) id.now self.new reply.items (W.state world.old) (W.state world.new)) }
         ensures unchanged { OnErr result (self.new ≡ self.old) }
         ensures no_memory { OnErr result (MayRead (W.state world.old) (W.state world.new)) }
-        ensures no_fault { W.failed world.new ≡ W.failed world.old }
     {
         let version = world.read()?;
         let cursor = self.at(place);
@@ -223,7 +218,6 @@ impl Cursors {
         ensures answers { IfOk result (λ reply. Answers self.old (page number count) id.now self.new reply.items (W.state world.old) (W.state world.new)) }
         ensures unchanged { OnErr result (self.new ≡ self.old) }
         ensures no_memory { OnErr result (MayRead (W.state world.old) (W.state world.new)) }
-        ensures no_fault { W.failed world.new ≡ W.failed world.old }
     {
         match self.place(number) {
             Some(place) => self.turn(alloc, id, number, place, count, world),

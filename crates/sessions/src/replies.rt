@@ -63,8 +63,8 @@ pub fn null_reply(alloc: Global, id: &Id) -> Result<Vec<u8>, AllocError>
 }
 
 /// An error as JSON.
-fn error_value(alloc: Global, failure: Failure) -> Result<Value, AllocError>
-    ensures { IfOk result (λ v. view v ≡ error_data failure) }
+fn error_value(alloc: Global, failure: &Failure) -> Result<Value, AllocError>
+    ensures { IfOk result (λ v. view v ≡ error_data failure.now) }
 {
     let message = Value::try_from_str(alloc, failure.message())?;
     let data = failure.data(alloc)?;
@@ -78,8 +78,8 @@ fn error_value(alloc: Global, failure: Failure) -> Result<Value, AllocError>
 }
 
 /// The reply with an error, as JSON.
-fn failure_value(alloc: Global, id: Option<&Id>, failure: Failure) -> Result<Value, AllocError>
-    ensures { IfOk result (λ v. view v ≡ failure_data (option_map (λ i. i.now) id.entry) failure) }
+fn failure_value(alloc: Global, id: Option<&Id>, failure: &Failure) -> Result<Value, AllocError>
+    ensures { IfOk result (λ v. view v ≡ failure_data (option_map (λ i. i.now) id.entry) failure.now) }
 {
     let error = error_value(alloc, failure)?;
     let id = id_value(alloc, id)?;
@@ -100,7 +100,7 @@ pub fn failure_reply(
 ) -> Result<Vec<u8>, AllocError>
     ensures body { IfOk result (λ body. body.items ≡ failure_text (option_map (λ i. i.now) id.entry) failure) }
 {
-    let reply = failure_value(alloc, id, failure)?;
+    let reply = failure_value(alloc, id, &failure)?;
     reply.to_vec(alloc)
 }
 

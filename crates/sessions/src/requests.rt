@@ -3,9 +3,9 @@ ghost use Rattle.std.specs.Prelude.{Ok};
 ghost use Rattle.serde_json.specs.View.{view};
 ghost use Rattle.answers.specs.declared.types.Phase.TheVariants.{Fresh, Running};
 ghost use Rattle.lsp_forms.specs.Forms.{completion_of};
-ghost use Rattle.answers.specs.Asks.{fixed};
+ghost use Rattle.lsp_forms.specs.Commands.{command_of};
 ghost use Rattle.answers.specs.Sessions.{document_of};
-ghost use Rattle.answers.specs.Messages.{request_by, fresh_request, running_request, starts, stops, completion_by, completion_in, command_in};
+ghost use Rattle.answers.specs.Messages.{request_by, fresh_request, running_request, starts, stops, completion_by, completion_in, command_by};
 ghost use Rattle.sessions.specs.declared.failure.Failure.TheVariants as variant;
 ghost use Rattle.sessions.specs.Options.{AreInRange};
 ghost use Rattle.sessions.specs.Outcomes.{said_of, replied_or};
@@ -15,12 +15,13 @@ ghost use Rattle.sessions.specs.Meets.{Answered};
 ghost use Rattle.sessions.specs.Refusing.{IsRefusal};
 
 use crate::failure::Failure;
-use crate::forms::makes_change;
 use crate::outcome::Outcome;
+use crate::publications::{make_change, publish};
 use crate::replies::{failure_reply, null_reply, result_reply};
 use crate::session::Session;
 use crate::world::World;
 use answers::{DocumentState, Phase};
+use decl_index::Change;
 use json_rpc::{Id, Refused};
 use lsp_forms::{
     Command, Completion, Initialize, ParamFault, make_capabilities, read_command, read_completion,
@@ -61,8 +62,7 @@ impl Session {
         params: &Value,
         world: &mut W,
     ) -> Outcome
-        ensures answered { Answered self.old (request_by self.old.phase self.old fixed id method.now (view params.now)) self.new (said_of (Ok result)) (W.state world.old) (W.state world.new) }
-        ensures no_fault { W.failed world.new ≡ W.failed world.old }
+        ensures answered { Answered self.old (request_by self.old.phase self.old id method.now (view params.now)) self.new (said_of (Ok result)) (W.state world.old) (W.state world.new) }
     {
         match self.reply(alloc, &id, method, params, world) {
             Ok(reply) => Outcome::Reply(reply),
@@ -80,8 +80,7 @@ impl Session {
         params: &Value,
         world: &mut W,
     ) -> Result<Vec<u8>, AllocError>
-        ensures answered { Answered self.old (request_by self.old.phase self.old fixed id.now method.now (view params.now)) self.new (replied_or id.now result) (W.state world.old) (W.state world.new) }
-        ensures no_fault { W.failed world.new ≡ W.failed world.old }
+        ensures answered { Answered self.old (request_by self.old.phase self.old id.now method.now (view params.now)) self.new (replied_or id.now result) (W.state world.old) (W.state world.new) }
     {
         match self.phase {
             Phase::Fresh => self.reply_fresh(alloc, id, method, params),
@@ -132,8 +131,7 @@ impl Session {
         params: &Value,
         world: &mut W,
     ) -> Result<Vec<u8>, AllocError>
-        ensures answered { Answered self.old (running_request self.old fixed id.now method.now (view params.now)) self.new (replied_or id.now result) (W.state world.old) (W.state world.new) }
-        ensures no_fault { W.failed world.new ≡ W.failed world.old }
+        ensures answered { Answered self.old (running_request self.old id.now method.now (view params.now)) self.new (replied_or id.now result) (W.state world.old) (W.state world.new) }
     {
         if method == "textDocument/completion" {
             return self.complete(alloc, id, params, world);
@@ -170,7 +168,6 @@ impl Session {
         world: &mut W,
     ) -> Result<Vec<u8>, AllocError>
         ensures answered { Answered self.old (completion_by self.old id.now (completion_of (view params.now))) self.new (replied_or id.now result) (W.state world.old) (W.state world.new) }
-        ensures no_fault { W.failed world.new ≡ W.failed world.old }
     {
         match read_completion(alloc, params) {
             Ok(form) => self.complete_in(alloc, id, &form, world),
@@ -187,7 +184,6 @@ impl Session {
         world: &mut W,
     ) -> Result<Vec<u8>, AllocError>
         ensures answered { Answered self.old (completion_in self.old id.now form.now (document_of form.now.uri self.old.documents)) self.new (replied_or id.now result) (W.state world.old) (W.state world.new) }
-        ensures no_fault { W.failed world.new ≡ W.failed world.old }
     {
         match self.documents.state(form.uri.as_str()) {
             None => fault_reply(alloc, id, 3, 0),
@@ -212,19 +208,23 @@ impl Session {
         params: &Value,
         world: &mut W,
     ) -> Result<Vec<u8>, AllocError>
-        ensures answered { Answered self.old (command_in id.now (view params.now) fixed) self.new (replied_or id.now result) (W.state world.old) (W.state world.new) }
-        ensures no_fault { W.failed world.new ≡ W.failed world.old }
+        ensures answered { Answered self.old (command_by id.now (command_of (view params.now))) self.new (replied_or id.now result) (W.state world.old) (W.state world.new) }
     {
-        if makes_change(params) {
-            return fault_reply(alloc, id, 7, 0);
-        }
         match read_command(alloc, params) {
             Ok(Command::Page { cursor, count }) => {
                 self.cursors.page(alloc, id, cursor, count, world)
             }
             Ok(Command::Close { cursor }) => self.cursors.shut(alloc, id, cursor),
-            Ok(Command::Publish { .. }) => fault_reply(alloc, id, 7, 0),
-            Ok(Command::Withdraw { .. }) => fault_reply(alloc, id, 7, 0),
+            Ok(
+                Command::Publish {
+                    puts,
+                    removes,
+                    counts,
+                },
+            ) => publish(alloc, id, puts, removes, counts, world),
+            Ok(Command::Withdraw { through }) => {
+                make_change(alloc, id, Change::Withdraw(through), world)
+            }
             Err(refused) => refusal_reply(alloc, id, refused),
         }
     }

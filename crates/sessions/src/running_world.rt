@@ -6,11 +6,12 @@ use crate::hub::Hub;
 use crate::shared_pages::shared_page;
 use crate::world::World;
 use answers::Page;
-use outside::Shelf;
+use decl_index::{Change, ChangeFault};
+use outside::{LoadFault, Loaded, Shelf};
 use std::alloc::{AllocError, Global};
 use std::sync::{Arc, Wait};
 use terms::Env;
-use version_board::{Naming, Pass, Snapshot};
+use version_board::{Naming, Pass, Snapshot, publish_and_learn};
 
 /// The world of one client of a running program: the versions that all clients publish, listings that they share, and
 /// files of its own. Others publish as well, so its history isn't told. It owns its pass and its shelf of files.
@@ -22,13 +23,11 @@ pub struct RunningWorld<'r, J: Naming, R: Wait + Drop, H: Drop> {
     pub shelf: H,
 }
 
-#[tactic(auto, using(crate::proofs::RunningWorlds::running_reads))]
+#[tactic(auto, using(crate::proofs::RunningWorlds::running))]
 impl<J: Naming, R: Wait + Drop, H: Shelf + Drop> World for RunningWorld<'_, J, R, H> {
     ghost use Rattle.sessions.specs.RunningStates.{running_state};
 
-    ghost state = { λ w. running_state w.pass };
-
-    ghost failed = { λ w. H.faults w.shelf };
+    ghost state = { λ w. running_state w.pass (H.holds w.shelf) (H.faults w.shelf) };
 
     fn faults(&self) -> u64 {
         self.shelf.faults()
@@ -36,6 +35,14 @@ impl<J: Naming, R: Wait + Drop, H: Shelf + Drop> World for RunningWorld<'_, J, R
 
     fn read(&mut self) -> Result<Arc<Snapshot, Global>, AllocError> {
         self.pass.read(self.rt)
+    }
+
+    fn publish(&mut self, alloc: Global, change: Change) -> Result<u32, ChangeFault> {
+        publish_and_learn(self.rt, &self.hub.publisher, alloc, &mut self.pass, change)
+    }
+
+    fn load(&mut self, name: &str, out: &mut Vec<u8>) -> Result<Loaded, LoadFault> {
+        self.shelf.load(name, out)
     }
 
     fn page(

@@ -1,6 +1,5 @@
 ghost use Rattle.std.specs.Prelude.{◌≡◌, Option};
 ghost use Rattle.json_rpc.specs.Messages.{Heard, IsFaultOf, parse_error, invalid_request};
-ghost use Rattle.answers.specs.Asks.{fixed};
 ghost use Rattle.answers.specs.Sessions.{Seen, start};
 ghost use Rattle.answers.specs.Messages.{meaning_in};
 ghost use Rattle.sessions.specs.declared.failure.Failure.TheVariants as variant;
@@ -55,7 +54,7 @@ fn failure_at(fault: &RpcFault) -> Failure
 /// The outcome of a body that is no message: a reply with the id that it shows, or with null.
 #[tactic(auto, using(crate::proofs::Faulted::faulted))]
 fn refuse(alloc: Global, fault: RpcFault) -> Result<Outcome, AllocError>
-    ensures refused { (s : Seen) (h : Option Heard) (w : WorldState) → IsFaultOf h fault → Answered s (meaning_in s fixed h) s (said_of result) w w }
+    ensures refused { (s : Seen) (h : Option Heard) (w : WorldState) → IsFaultOf h fault → Answered s (meaning_in s h) s (said_of result) w w }
 {
     let failure = failure_at(&fault);
     let RpcFault { id, .. } = fault;
@@ -94,7 +93,6 @@ impl Session {
         world: &mut W,
     ) -> Result<Outcome, AllocError>
         ensures meets { Meets self.old body.now self.new (said_of result) (W.state world.old) (W.state world.new) }
-        ensures no_fault { W.failed world.new ≡ W.failed world.old }
     {
         match read_message(alloc, body) {
             Ok(Message::Request { id, method, params }) => {

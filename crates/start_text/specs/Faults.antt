@@ -36,16 +36,16 @@ pub record LeavesShelf {T : Type 0} (held held' : Option (List HeldFile)) (count
   pub cause : IsErrOf result Failed → Rose count count'
 
 -- The line at which a fault is; 0 for the text as a whole, for the change, and for what is no fault of the text.
-abbrev pub place_of : StartFault → ℕ
-place_of (NoFile line) = line
-place_of (LongFile line) = line
-place_of (NotClass line why) = line
-place_of NoText = 0
-place_of LongText = 0
-place_of NotUtf8 = 0
-place_of (Refused why) = 0
-place_of Failed = 0
-place_of OutOfMemory = 0
+abbrev pub fault_line : StartFault → ℕ
+fault_line (NoFile line) = line
+fault_line (LongFile line) = line
+fault_line (NotClass line why) = line
+fault_line NoText = 0
+fault_line LongText = 0
+fault_line NotUtf8 = 0
+fault_line (Refused why) = 0
+fault_line Failed = 0
+fault_line OutOfMemory = 0
 
 -- The number of a refusal of a change.
 abbrev pub change_number : ChangeFault → Option ℕ

@@ -24,8 +24,8 @@ fn no_class(line: u32, fault: ClassFault) -> StartFault
     }
 }
 
-/// The class of the bytes of a line's file.
-fn class_of(alloc: Global, bytes: &[u8], line: u32) -> Result<ClassSummary, StartFault>
+/// The class of the bytes of the file of this line. `Failed` never comes.
+pub fn class_of(alloc: Global, bytes: &[u8], line: u32) -> Result<ClassSummary, StartFault>
     requires { length bytes.now ≤ longest_load }
     ensures fault { Meets (file_fault line (Some bytes.now)) result }
     ensures class { IfOk result (λ class. IsClassOf (Some bytes.now) class) }

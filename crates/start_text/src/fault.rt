@@ -1,5 +1,5 @@
 ghost use Rattle.std.specs.Prelude.{◌≡◌};
-ghost use Rattle.start_text.specs.Faults.{place_of, number_of, change_number, of_load, of_change};
+ghost use Rattle.start_text.specs.Faults.{fault_line, number_of, change_number, of_load, of_change};
 ghost use Rattle.start_text.specs.declared.fault.StartFault.TheVariants.{OutOfMemory};
 
 use class_pool::ClassFault;
@@ -48,7 +48,7 @@ impl StartFault {
     /// The line at which the fault is; 0 for the text as a whole, for the change, and for what is no fault of
     /// the text.
     pub fn place(&self) -> u32
-        ensures line { result ≡ place_of self.now }
+        ensures line { result ≡ fault_line self.now }
     {
         match self {
             StartFault::NoFile(line) => *line,

@@ -8,5 +8,6 @@ mod fault;
 mod start;
 mod text;
 
+pub use class_files::class_of;
 pub use fault::StartFault;
 pub use start::read_start;

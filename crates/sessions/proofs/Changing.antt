@@ -1,0 +1,209 @@
+-- How a change is answered, and a publication.
+use Rattle.std.proofs.Common.{◌≡◌, ◌∙◌, ℕ, sym, ap, subst, refl, inl, inr, ⊎_elim, ◌⊎◌, ◌++◌, List, [], ◌∷◌, false, Some, None, Result, Ok, Err, Vec, Global}
+use Rattle.std.specs.Prelude.{IfOk, OnErr, codes, decimal}
+use Rattle.std.specs.declared.alloc.AllocError.{AllocError}
+use Rattle.decl_index.specs.declared.change.Change.{Change}
+use Rattle.decl_index.specs.declared.change.Change.TheVariants.{Publish}
+use Rattle.decl_index.specs.declared.change.ChangeFault.{ChangeFault}
+use Rattle.decl_index.specs.declared.change.ChangeFault.TheVariants.{OutOfMemory}
+use Rattle.known_classes.specs.declared.summary.ClassSummary.{ClassSummary}
+use Rattle.json_rpc.specs.declared.message.Id.{Id}
+use Rattle.answers.specs.Asks.{change, other, Enough, Lacking, Met, Loaded, classes, missing, too_long, no_class_file, unreadable}
+use Rattle.answers.specs.Failures.{Failure, invalid_params, no_class, read_fault, change_refused}
+use Rattle.answers.specs.Sessions.{Seen}
+use Rattle.answers.specs.Replies.{failure, reply_text}
+use Rattle.answers.specs.Messages.{asks, publishes, asked, said, published, ask_by, replied, no_memory}
+use Rattle.answers.proofs.Chains.{prefix_is}
+use Rattle.sessions.specs.Worlds.{WorldState}
+use Rattle.sessions.specs.Publications.{Adds, Learns, Accepts, Declines, LeavesFiles}
+use Rattle.sessions.specs.Loads.{Give, IsLoaded, loads_of}
+use Rattle.sessions.specs.Loading.{IsUnreadable}
+use Rattle.sessions.specs.declared.loading.Files as code
+use Rattle.sessions.specs.declared.loading.Files.TheVariants as variant
+use Rattle.sessions.specs.Changed.{IsMade, IsRefused, IsChanged, Opens}
+use Rattle.sessions.specs.Texts.{version_text}
+use Rattle.sessions.specs.Outcomes.{replied_or}
+use Rattle.sessions.specs.Meets.{Answered}
+use Rattle.sessions.proofs.Answering.{met_with, none_loaded, asked_in_vain}
+
+-- What a change meets that is made at a history, and one that is refused after it.
+abbrev made_at : Loaded → List Change → Met
+made_at loads at = record { at = at; loads = loads; site = None; env = record { types = []; pairs = []; decls = []; goal = 0; limit = 0; depth = 0; binder = [] }; page = record { items = []; last = false; grown = 0 }; fault = None; short = Enough }
+
+abbrev refused_at : Loaded → List Change → ChangeFault → Met
+refused_at loads at fault = record { at = at; loads = loads; site = None; env = record { types = []; pairs = []; decls = []; goal = 0; limit = 0; depth = 0; binder = [] }; page = record { items = []; last = false; grown = 0 }; fault = Some fault; short = Enough }
+
+-- The session and the reply are those of the change.
+made_answer : (s t : Seen) (id : Id) (c : Change) (loads : Loaded) (reply : List ℕ) (old new : WorldState) (m : IsMade c id reply old new) → t ≡ s
+    → asked s id (change c) (made_at loads m.accepts.at) ≡ (t, replied reply)
+made_answer s t id c loads reply old new m to =
+    ap (λ n. (s, replied (version_text id n))) (sym m.accepts.counted) ∙ ap (λ b. (s, replied b)) (sym m.told) ∙ ap (λ x. (x, replied reply)) (sym to)
+
+refused_answer : (s t : Seen) (id : Id) (c : Change) (loads : Loaded) (reply : List ℕ) (old new : WorldState) (r : IsRefused c id reply old new) → t ≡ s
+    → asked s id (change c) (refused_at loads new.known r.fault) ≡ (t, replied reply)
+refused_answer s t id c loads reply old new r to = ap (λ b. (s, replied b)) (sym r.told) ∙ ap (λ x. (x, replied reply)) (sym to)
+
+-- Where nothing happened nothing is learnt.
+pub nothing_learnt : (old new : WorldState) → new ≡ old → Learns old new
+nothing_learnt old new e = record {
+  later = prefix_is old.known new.known (ap (λ (x : WorldState). x.known) (sym e));
+  reads = ap (λ (x : WorldState). x.reads) e;
+  whole = ap (λ (x : WorldState). x.whole) e;
+  holds = ap (λ (x : WorldState). x.holds) e;
+  faults = ap (λ (x : WorldState). x.faults) e;
+}
+
+-- A change that is asked for without files.
+changed : (s t : Seen) (id : Id) (c : Change) (reply : List ℕ) (old new : WorldState) → IsChanged c id reply old new → t ≡ s → Answered s (asks id (change c)) t (replied reply) old new
+changed s t id c reply old new (inl m) to = record {
+  met = made_at (classes []) m.accepts.at;
+  faults = old.faults;
+  loads = none_loaded old.holds old.faults;
+  lawful = m.accepts.lawful;
+  answer = made_answer s t id c (classes []) reply old new m to;
+  world = m.accepts.adds;
+}
+changed s t id c reply old new (inr r) to = record {
+  met = refused_at (classes []) new.known r.fault;
+  faults = old.faults;
+  loads = none_loaded old.holds old.faults;
+  lawful = r.refuses;
+  answer = refused_answer s t id c (classes []) reply old new r to;
+  world = (refl, r.newest, r.learns);
+}
+
+pub changed_by : (s t : Seen) (id : Id) (c : Change) (r : Result (Vec ℕ Global) AllocError) (old new : WorldState)
+    → IfOk r (λ reply. IsChanged c id reply.items old new) → OnErr r (Learns old new) → t ≡ s → Answered s (asks id (change c)) t (replied_or id r) old new
+changed_by s t id c (Ok b) old new h l to = changed s t id c b.items old new h to
+changed_by s t id c (Err e) old new h l to = asked_in_vain s t id (change c) old new l to
+
+-- The files of a publication gave their classes.
+loaded : (names : List (List ℕ)) (puts : List ClassSummary) (old mid : WorldState) {P : Type 0} → Give old.holds names (classes puts) → LeavesFiles P old mid → (names ≡ [] → mid ≡ old)
+    → IsLoaded Enough old.holds names (classes puts) old.faults mid.faults
+loaded names puts old mid gives files none = record { gives = gives; later = files.later; cause = λ i e. absurd cc; none = λ e. ap (λ (x : WorldState). x.faults) (none e) }
+
+lacking : (names : List (List ℕ)) (old mid : WorldState) {P : Type 0} → LeavesFiles P old mid → (names ≡ [] → mid ≡ old) → IsLoaded Lacking old.holds names (classes []) old.faults mid.faults
+lacking names old mid files none = record { gives = tt; later = files.later; cause = λ i e. absurd cc; none = λ e. ap (λ (x : WorldState). x.faults) (none e) }
+
+-- The change of a publication was answered.
+published_so : (s : Seen) (id : Id) (names removes : List (List ℕ)) (counts : List (List ℕ × ℕ)) (puts : List ClassSummary) (reply : List ℕ) (old mid new : WorldState) {P : Type 0}
+    → Give old.holds names (classes puts) → LeavesFiles P old mid → (names ≡ [] → mid ≡ old) → IsChanged (Publish puts removes counts) id reply mid new
+    → Answered s (publishes id names removes counts) s (replied reply) old new
+published_so s id names removes counts puts reply old mid new gives files none (inl m) = record {
+  met = made_at (classes puts) m.accepts.at;
+  faults = mid.faults;
+  loads = loaded names puts old mid gives files none;
+  lawful = m.accepts.lawful;
+  answer = made_answer s s id (Publish puts removes counts) (classes puts) reply mid new m refl;
+  world = subst (λ w. Adds m.accepts.at (Publish puts removes counts ∷ []) w new) files.same m.accepts.adds;
+}
+published_so s id names removes counts puts reply old mid new gives files none (inr r) = record {
+  met = refused_at (classes puts) new.known r.fault;
+  faults = mid.faults;
+  loads = loaded names puts old mid gives files none;
+  lawful = r.refuses;
+  answer = refused_answer s s id (Publish puts removes counts) (classes puts) reply mid new r refl;
+  world = (refl, r.newest, subst (λ w. Learns w new) files.same r.learns);
+}
+
+-- There was no memory for it.
+unpublished : (s : Seen) (id : Id) (names removes : List (List ℕ)) (counts : List (List ℕ × ℕ)) (old mid new : WorldState) {P : Type 0}
+    → LeavesFiles P old mid → (names ≡ [] → mid ≡ old) → Learns mid new → Answered s (publishes id names removes counts) s (no_memory id) old new
+unpublished s id names removes counts old mid new files none learns = record {
+  met = met_with Lacking;
+  faults = mid.faults;
+  loads = lacking names old mid files none;
+  lawful = tt;
+  answer = refl;
+  world = subst (λ w. Learns w new) files.same learns;
+}
+
+published_by : (s : Seen) (id : Id) (names removes : List (List ℕ)) (counts : List (List ℕ × ℕ)) (puts : List ClassSummary) (r : Result (Vec ℕ Global) AllocError) (old mid new : WorldState) {P : Type 0}
+    → Give old.holds names (classes puts) → LeavesFiles P old mid → (names ≡ [] → mid ≡ old) → IfOk r (λ reply. IsChanged (Publish puts removes counts) id reply.items mid new) → OnErr r (Learns mid new)
+    → Answered s (publishes id names removes counts) s (replied_or id r) old new
+published_by s id names removes counts puts (Ok b) old mid new gives files none h l = published_so s id names removes counts puts b.items old mid new gives files none h
+published_by s id names removes counts puts (Err e) old mid new gives files none h l = unpublished s id names removes counts old mid new files none l
+
+-- There was no memory for its files.
+pub unloaded : (s : Seen) (id : Id) (names listed removes : List (List ℕ)) (counts : List (List ℕ × ℕ)) (old new : WorldState) {P : Type 0}
+    → listed ≡ names → LeavesFiles P old new → (listed ≡ [] → new ≡ old) → Answered s (publishes id names removes counts) s (no_memory id) old new
+unloaded s id names listed removes counts old new is files none = unpublished s id names removes counts old new new files (λ e. none (is ∙ e)) (nothing_learnt new new refl)
+
+-- What loading the files of these names left, by what it answered.
+pub record HasLoaded (names : List (List ℕ)) (files : code.Files) (old new : WorldState) : Type 0 where
+  pub gives : Give old.holds names (loads_of files)
+  pub leaves : LeavesFiles (IsUnreadable (Ok files)) old new
+  pub none : names ≡ [] → new ≡ old
+
+pub has_loaded : (names listed : List (List ℕ)) (files : code.Files) (old new : WorldState) → listed ≡ names → Give old.holds listed (loads_of files) → LeavesFiles (IsUnreadable (Ok files)) old new → (listed ≡ [] → new ≡ old)
+    → HasLoaded names files old new
+has_loaded names listed files old new is gives leaves none = record { gives = subst (λ ns. Give old.holds ns (loads_of files)) is gives; leaves = leaves; none = λ e. none (is ∙ e) }
+
+told_here : (names : List (List ℕ)) (files other_files : code.Files) (old new : WorldState) → HasLoaded names files old new → files ≡ other_files → Give old.holds names (loads_of other_files)
+told_here names files other_files old new h is = subst (λ f. Give old.holds names (loads_of f)) is h.gives
+
+pub classes_told : (s : Seen) (id : Id) (names removes : List (List ℕ)) (counts : List (List ℕ × ℕ)) (files : code.Files) (puts : List ClassSummary) (r : Result (Vec ℕ Global) AllocError) (old mid new : WorldState)
+    → HasLoaded names files old mid → files ≡ variant.Classes puts → IfOk r (λ reply. IsChanged (Publish puts removes counts) id reply.items mid new) → OnErr r (Learns mid new)
+    → Answered s (publishes id names removes counts) s (replied_or id r) old new
+classes_told s id names removes counts files puts r old mid new h is changed learns =
+    published_by s id names removes counts puts r old mid new (told_here names files (variant.Classes puts) old mid h is) h.leaves h.none changed learns
+
+abbrev met_files : Loaded → Met
+met_files loads = record { at = []; loads = loads; site = None; env = record { types = []; pairs = []; decls = []; goal = 0; limit = 0; depth = 0; binder = [] }; page = record { items = []; last = false; grown = 0 }; fault = None; short = Enough }
+
+-- One of its files gave no class.
+file_told : (s : Seen) (id : Id) (names removes : List (List ℕ)) (counts : List (List ℕ × ℕ)) (o : Loaded) (f : Failure) (r : Result (Vec ℕ Global) AllocError) (old new : WorldState) {P : Type 0}
+    → ((m : Met) → published s id removes counts m o ≡ said s (Some id) (failure f)) → ask_by removes counts o ≡ other → ((i : ℕ) → o ≡ unreadable i → P)
+    → Give old.holds names o → LeavesFiles P old new → (names ≡ [] → new ≡ old) → Learns new new → IfOk r (λ b. b.items ≡ reply_text (Some id) (failure f))
+    → Answered s (publishes id names removes counts) s (replied_or id r) old new
+file_told s id names removes counts o f (Ok b) old new is quiet fails gives files none learns told = record {
+  met = met_files o;
+  faults = new.faults;
+  loads = record { gives = gives; later = files.later; cause = λ i e. files.cause (fails i e); none = λ e. ap (λ (x : WorldState). x.faults) (none e) };
+  lawful = rw quiet tt;
+  answer = is (met_files o) ∙ ap (λ x. (s, replied x)) (sym told);
+  world = rw quiet files.same;
+}
+file_told s id names removes counts o f (Err e) old new is quiet fails gives files none learns told = unpublished s id names removes counts old new new files none learns
+
+-- The first file that gave none, by its kind.
+pub missing_told : (s : Seen) (id : Id) (names removes : List (List ℕ)) (counts : List (List ℕ × ℕ)) (files : code.Files) (index : ℕ) (r : Result (Vec ℕ Global) AllocError) (old new : WorldState)
+    → HasLoaded names files old new → files ≡ variant.Missing index → IfOk r (λ b. b.items ≡ reply_text (Some id) (failure (invalid_params 9 index))) → Answered s (publishes id names removes counts) s (replied_or id r) old new
+missing_told s id names removes counts files index r old new h is told =
+    file_told s id names removes counts (missing index) (invalid_params 9 index) r old new (λ m. refl) refl (λ i e. absurd cc) (told_here names files (variant.Missing index) old new h is) h.leaves h.none (nothing_learnt new new refl) told
+
+pub too_long_told : (s : Seen) (id : Id) (names removes : List (List ℕ)) (counts : List (List ℕ × ℕ)) (files : code.Files) (index : ℕ) (r : Result (Vec ℕ Global) AllocError) (old new : WorldState)
+    → HasLoaded names files old new → files ≡ variant.TooLong index → IfOk r (λ b. b.items ≡ reply_text (Some id) (failure (invalid_params 10 index))) → Answered s (publishes id names removes counts) s (replied_or id r) old new
+too_long_told s id names removes counts files index r old new h is told =
+    file_told s id names removes counts (too_long index) (invalid_params 10 index) r old new (λ m. refl) refl (λ i e. absurd cc) (told_here names files (variant.TooLong index) old new h is) h.leaves h.none (nothing_learnt new new refl) told
+
+pub no_class_told : (s : Seen) (id : Id) (names removes : List (List ℕ)) (counts : List (List ℕ × ℕ)) (files : code.Files) (index class_fault place : ℕ) (r : Result (Vec ℕ Global) AllocError) (old new : WorldState)
+    → HasLoaded names files old new → files ≡ variant.NoClass index class_fault place → IfOk r (λ b. b.items ≡ reply_text (Some id) (failure (no_class index class_fault place))) → Answered s (publishes id names removes counts) s (replied_or id r) old new
+no_class_told s id names removes counts files index class_fault place r old new h is told =
+    file_told s id names removes counts (no_class_file index class_fault place) (no_class index class_fault place) r old new (λ m. refl) refl (λ i e. absurd cc) (told_here names files (variant.NoClass index class_fault place) old new h is) h.leaves h.none (nothing_learnt new new refl) told
+
+pub unreadable_told : (s : Seen) (id : Id) (names removes : List (List ℕ)) (counts : List (List ℕ × ℕ)) (files : code.Files) (index : ℕ) (r : Result (Vec ℕ Global) AllocError) (old new : WorldState)
+    → HasLoaded names files old new → files ≡ variant.Unreadable index → IfOk r (λ b. b.items ≡ reply_text (Some id) (failure (read_fault index))) → Answered s (publishes id names removes counts) s (replied_or id r) old new
+unreadable_told s id names removes counts files index r old new h is told =
+    file_told s id names removes counts (unreadable index) (read_fault index) r old new (λ m. refl) refl (λ i e. subst (λ f. IsUnreadable (Ok f)) (sym is) tt)
+    (told_here names files (variant.Unreadable index) old new h is) h.leaves h.none (nothing_learnt new new refl) told
+
+-- The change was made, and the reply is its opening with its version.
+pub made_by : (id : Id) (c : Change) (opening reply : List ℕ) (number : ℕ) (old new : WorldState) → Opens id opening → Accepts c number old new → reply ≡ opening ++ (decimal number ++ codes "}}") → IsChanged c id reply old new
+made_by id c opening reply number old new opens accepts is = inl (record { number = number; accepts = accepts; told = is ∙ sym (opens number) })
+
+refuses_by : (id : Id) (c : Change) (fault : ChangeFault) (reply : List ℕ) (old new : WorldState) → (fault ≡ OutOfMemory → ⊥) → Declines c fault old new → reply ≡ reply_text (Some id) (failure (change_refused fault)) → IsChanged c id reply old new
+refuses_by id c fault reply old new some declines told = ⊎_elim (λ e. absurd (some e)) (λ r. inr (record { fault = fault; refuses = r.0; newest = r.1; learns = declines.learns; told = told })) declines.cause
+
+-- It was refused for another cause than want of memory.
+pub refused_by : (id : Id) (c : Change) (fault : ChangeFault) (r : Result (Vec ℕ Global) AllocError) (old new : WorldState) → (fault ≡ OutOfMemory → ⊥) → Declines c fault old new
+    → IfOk r (λ b. b.items ≡ reply_text (Some id) (failure (change_refused fault))) → IfOk r (λ b. IsChanged c id b.items old new)
+refused_by id c fault (Ok b) old new some declines told = refuses_by id c fault b.items old new some declines told
+refused_by id c fault (Err e) old new some declines told = tt
+
+-- What was learnt at a refusal, or where nothing was asked.
+pub declined_learns : (c : Change) (fault : ChangeFault) (r : Result (Vec ℕ Global) AllocError) (old new : WorldState) → Declines c fault old new → OnErr r (Learns old new)
+declined_learns c fault (Ok b) old new declines = tt
+declined_learns c fault (Err e) old new declines = declines.learns
+
+pub ruleset changes = (made_by, refused_by, declined_learns, nothing_learnt)

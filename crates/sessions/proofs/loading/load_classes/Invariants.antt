@@ -1,0 +1,17 @@
+use Rattle.std.proofs.Common.{◌≡◌, List, [], length, Some}
+use Rattle.outside.specs.declared.shelf.HeldFile.{HeldFile}
+use Rattle.sessions.specs.Publications.{LeavesFiles}
+use Rattle.sessions.proofs.Filing.{IsUpTo}
+use Rattle.sessions.proofs.loading.load_classes.Given as goal
+
+abbrev pub invariant-loop-name : goal.invariant-loop-name
+invariant-loop-name g l =
+    let state = g.W.World.state in
+    record {
+      files : LeavesFiles ⊥ (state l.fn.world) (state l.world);
+      read : (files : List HeldFile) → (state l.fn.world).holds ≡ Some files → IsUpTo files l.names l.rest l.index l.classes;
+      none : l.names ≡ [] → (l.rest ≡ []) × (state l.world ≡ state l.fn.world);
+    }
+
+abbrev pub decreases-loop-name : goal.decreases-loop-name
+decreases-loop-name g l = length l.rest
