@@ -1,5 +1,5 @@
-use crate::item_rows;
-use checker::Row;
+use crate::{floors, item_rows};
+use checker::{Row, check_floors};
 use lists::{Items, Text};
 use std::alloc::Global;
 use std::process::Abort;
@@ -110,4 +110,17 @@ fn a_lambda_weighs_its_binders(rt: HostRuntime) {
             &[row(5, 1, 36), row(3, 0, 25), row(1, 0, 5)]
         )
     );
+}
+
+/// Whether the floors that are told hold, the first one being this.
+fn first_floor_is(rt: &impl Abort, alloc: Global, env: &Env, first: u32) -> bool {
+    let told = floors(alloc, env).expect(rt, "memory");
+    check_floors(alloc, env, told.as_slice()).expect(rt, "memory") == Some(first)
+}
+
+#[test]
+fn the_first_floor_is_the_least_total(rt: HostRuntime) {
+    let alloc = rt.alloc();
+    assert!(rt; first_floor_is(&rt, alloc, &env(&rt, alloc, 0), 5));
+    assert!(rt; first_floor_is(&rt, alloc, &env(&rt, alloc, 1), 12));
 }

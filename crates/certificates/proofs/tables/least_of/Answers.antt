@@ -1,0 +1,4 @@
+use Rattle.certificates.proofs.tables.least_of.Goals as goal
+
+pub derive-requires-clause-patterns : goal.derive-requires-clause-patterns
+derive-requires-clause-patterns c = (c.args.env.now.goal, c.requires.patterns)
