@@ -11,3 +11,5 @@ pub mod Sizes
 pub mod Forms
 pub mod Faults
 pub mod PieceTexts
+pub mod TextFacts
+pub mod Readables

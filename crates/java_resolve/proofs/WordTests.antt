@@ -1,5 +1,5 @@
 -- Tests of words by their characters, and how words go on.
-use Rattle.std.proofs.Common.{◌≡◌, ◌∙◌, ◌⊎◌, inl, inr, ap, ap₂, sym, refl, ℕ, zero, suc, ◌<◌, ◌==◌, ◌&&◌, ◌||◌, Bool, true, false, List, [], ◌∷◌, ◌++◌, lit<, bytes_eq, chars, codes, encode_utf8_all, IsUtf8, rules, tests, length, append-nil, eq-eqb, ne_eqb, eqb-true, get_or, arith}
+use Rattle.std.proofs.Common.{◌≡◌, ◌∙◌, ◌⊎◌, inl, inr, ap, ap₂, sym, refl, ℕ, zero, suc, ◌<◌, ◌==◌, ◌&&◌, ◌||◌, Bool, true, false, List, [], ◌∷◌, ◌++◌, lit<, bytes_eq, chars, codes, encode_utf8_all, IsUtf8, rules, tests, length, append-nil, Result, Ok, Err, OnErr, eq-eqb, ne_eqb, eqb-true, get_or, arith}
 use Rattle.std.specs.List.{list_all}
 use Rattle.std.specs.Char.{is_ascii}
 use Rattle.std.specs.Str.{IsAscii}
@@ -20,6 +20,11 @@ use Rattle.java_shapes.specs.Reader.{begins_first, is_empty}
 use Rattle.java_shapes.proofs.Identifiers.{same_identifiers}
 use Rattle.java_shapes.proofs.WordFacts.{has_cases, has_none}
 use Rattle.java_shapes.proofs.RunWords.{word_begins}
+
+-- what holds anyhow
+pub on_err : {T E : Type 0} (result : Result T E) {P : Type 0} → P → OnErr result P
+on_err (Ok x) p = tt
+on_err (Err e) p = p
 
 below : (c : ℕ) → is_ascii c ≡ true → c < 128
 below c e = search (rules, tests)

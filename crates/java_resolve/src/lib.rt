@@ -19,15 +19,18 @@ mod openings;
 mod passing;
 mod paths;
 mod place;
+mod readable;
 mod reader;
 mod shape;
 mod steps;
+mod texts;
 mod types;
 mod word;
 
 pub use fault::{ReadFault, TextFault};
 pub use known::{may_read, read_known};
 pub use laws::piece_laws;
+pub use readable::may_resolve;
 pub use reader::read_shape;
 pub use shape::{Argument, Before, Shape};
 pub use word::Word;

@@ -1,4 +1,4 @@
-ghost use Rattle.std.specs.Prelude.{◌≡◌, ◌∷◌, [], ◌++◌, ◌==◌, ◌||◌, true, OnOk, IfOk, chars, ◌⊎◌};
+ghost use Rattle.std.specs.Prelude.{◌≡◌, ◌∷◌, [], ◌++◌, ◌==◌, ◌||◌, true, OnOk, OnErr, IfOk, chars, ◌⊎◌};
 ghost use Rattle.std.specs.List.{list_all};
 ghost use Rattle.std.specs.Char.{is_ascii};
 ghost use Rattle.java_tokens.specs.Classes.{is_word_start};
@@ -38,7 +38,7 @@ impl Model for Word {
 }
 
 /// Whether a table has the text.
-fn has(table: &[&str], word: &str) -> bool
+pub fn has(table: &[&str], word: &str) -> bool
     ensures { result ≡ has (texts table.now) word.now }
 {
     for i in 0..table.len() {
@@ -68,7 +68,7 @@ impl Word {
 
     /// A copy of a text.
     pub fn from_str(alloc: Global, text: &str) -> Result<Word, AllocError>
-        ensures { IfOk result (λ w. w ≡ chars text.now) }
+        ensures value { IfOk result (λ w. w ≡ chars text.now) }
     {
         Ok(Word {
             inner: String::from_str(alloc, text)?,
@@ -84,7 +84,8 @@ impl Word {
 
     /// Adds a character at the end.
     pub fn push(&mut self, c: char) -> Result<(), AllocError>
-        ensures { OnOk result (self.new ≡ self.old ++ c ∷ []) }
+        ensures added { OnOk result (self.new ≡ self.old ++ c ∷ []) }
+        ensures unchanged { OnErr result (self.new ≡ self.old) }
     {
         self.inner.push(c)?;
         Ok(())
@@ -92,7 +93,8 @@ impl Word {
 
     /// Adds a text at the end.
     pub fn push_word(&mut self, more: &Word) -> Result<(), AllocError>
-        ensures { OnOk result (self.new ≡ self.old ++ more.now) }
+        ensures added { OnOk result (self.new ≡ self.old ++ more.now) }
+        ensures unchanged { OnErr result (self.new ≡ self.old) }
     {
         self.inner.push_str(more.as_str())?;
         Ok(())

@@ -4,7 +4,7 @@ use Rattle.java_resolve.proofs.Pieces.{char_goes_on, char_ends, char_unknown}
 use Rattle.java_resolve.proofs.passing.Passing.pass_char.Goals as goal
 
 pub returns-then-is_word_part-clause-known : goal.returns-then-is_word_part-clause-known
-returns-then-is_word_part-clause-known c = λ d bound k. char_goes_on d bound c.args.name c.push.new.self c.args.c c.args.self.now.at c.args.self.now.at (sym c.is_word_part.ensures ∙ c.if-is_word_part.true) c.in_ok-push.ensures refl
+returns-then-is_word_part-clause-known c = λ d bound k. char_goes_on d bound c.args.name c.push.new.self c.args.c c.args.self.now.at c.args.self.now.at (sym c.is_word_part.ensures ∙ c.if-is_word_part.true) c.in_ok-push.ensures.added refl
 
 pub returns-then-not-is_known-clause-unknown : goal.returns-then-not-is_known-clause-unknown
 returns-then-not-is_known-clause-unknown c = λ d bound k. char_unknown d bound c.args.name c.args.c c.args.self.now.at c.pass_word.new.self.at c.in_ok-is_known.is_known (sym c.is_word_part.ensures ∙ c.if-is_word_part.false) c.if-not-is_known.true (c.in_ok-is_known.ensures.passes d bound k)
