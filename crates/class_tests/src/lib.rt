@@ -8,6 +8,8 @@ mod index_tests;
 #[cfg(test)]
 mod merged_tests;
 #[cfg(test)]
+mod sample_tests;
+#[cfg(test)]
 mod shape_tests;
 #[cfg(test)]
 mod summary_tests;

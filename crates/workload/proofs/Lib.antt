@@ -1,5 +1,6 @@
 mod DistinctLaws
 mod FileLaws
+mod Drawing
 mod PlanLaws
 mod PoolLaws
 mod RowLaws

@@ -5,3 +5,4 @@ pub mod Layout
 pub mod Writing
 pub mod Flags
 pub mod Spelled
+pub mod Samples

@@ -11,8 +11,10 @@ mod needs;
 mod parts;
 mod plan;
 mod pool;
+mod sample;
 mod writer;
 
 pub use checks::is_whole;
 pub use fault::WriteFault;
+pub use sample::{Sample, make_sample};
 pub use writer::write_class;
