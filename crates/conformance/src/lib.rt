@@ -9,8 +9,6 @@ mod environments;
 #[cfg(test)]
 mod file_tests;
 #[cfg(test)]
-mod hole_tests;
-#[cfg(test)]
 mod list_tests;
 #[cfg(test)]
 mod name_tests;

@@ -1,8 +1,12 @@
-// Tests of what a hole sees: the members that are offered, and its environment.
+// Tests of what a hole sees: the members that are offered, its environment, and the items of its list.
 // There is no other code here: a test is proved with the crate that it stands in, and a crate that held its own
 // tests would be proved twice.
 #![tactic(auto)]
 
+#[cfg(test)]
+mod holes;
+#[cfg(test)]
+mod item_tests;
 #[cfg(test)]
 mod offer_tests;
 #[cfg(test)]

@@ -1,123 +1,16 @@
 // Holes in small texts, and the environments that they have among a few published classes.
-ghost use Rattle.std.specs.Prelude.{◌≡◌, ◌+◌, ◌<◌, ◌≤◌, ◌^◌, length, Some, IfOk};
-ghost use Rattle.std.specs.Str.{IsCharBoundary};
-ghost use Rattle.java_tokens.specs.Tokens.{AreTokensOf, Tile};
-ghost use Rattle.java_bodies.specs.Sites.{hole_of};
-ghost use Rattle.java_units.specs.Units.{IsUnit};
-ghost use Rattle.java_units.specs.UnitLaws.{IsNested};
-ghost use Rattle.java_units.specs.Dimensions.{dims_of_bounds, greatest, type_dims};
-ghost use Rattle.scopes.specs.Holes.{IsHoleIn};
-
-use class_summary::Resolver;
-use decl_index::{Change, Index};
-use java_bodies::{HoleSite, hole_at};
-use java_tokens::{Token, tokens};
-use java_units::{Unit, read_unit};
-use lists::{Items, Text};
-use scopes::environment;
+use crate::holes::{made, published};
+use decl_index::Index;
+use lists::Text;
 use std::alloc::{AllocError, Global};
 use std::test::Fail;
 use terms::{Arg, Decl, Env, Form};
 
-/// A text's unit, and the site of a hole in it.
-#[derive(Drop)]
-struct Hole {
-    unit: Unit,
-    site: HoleSite,
-}
-
-/// The site of the hole at a place of a text with these tokens and this unit.
-fn site_in(
-    alloc: Global,
-    text: &str,
-    tokens: &[Token],
-    unit: &Unit,
-    place: u32,
-) -> Result<HoleSite, Fail>
-    requires own_tokens { AreTokensOf text.now tokens.now }
-    requires own_unit { IsUnit text.now tokens.now unit.now }
-    requires boundary { IsCharBoundary text.now place }
-    ensures { IfOk result (λ site. hole_of text.now tokens.now unit.now place ≡ Some site) }
-{
-    match hole_at(alloc, text, tokens, unit, place)? {
-        Some(site) => Ok(site),
-        None => Err(Fail::from("a hole")),
-    }
-}
-
-/// The hole at a place of a text with these tokens.
-fn hole_among(alloc: Global, text: &str, tokens: &[Token], place: u32) -> Result<Hole, Fail>
-    requires short { length text.now ≤ 16777216 }
-    requires own_tokens { AreTokensOf text.now tokens.now }
-    requires tile { Tile 0 (length text.now) tokens.now }
-    requires boundary { IsCharBoundary text.now place }
-    ensures { IfOk result (λ hole. IsHoleIn hole.unit hole.site) }
-{
-    let unit = read_unit(alloc, text, tokens)?;
-    let site = site_in(alloc, text, tokens, &unit, place)?;
-    Ok(Hole { unit, site })
-}
-
-/// The hole at a place of a text.
-fn hole_in(alloc: Global, text: &str, place: u32) -> Result<Hole, Fail>
-    ensures { IfOk result (λ hole. IsHoleIn hole.unit hole.site) }
-{
-    if text.len() > 16_777_216 || !text.is_char_boundary(place as usize) {
-        return Err(Fail::from("a place of a short text"));
-    }
-    let all = tokens(alloc, text)?;
-    let hole = hole_among(alloc, text, all.as_slice(), place)?;
-    Ok(hole)
-}
-
-/// The unit of a text.
-fn unit_of(alloc: Global, text: &str) -> Result<Unit, AllocError>
-    ensures nested { IfOk result (λ u. IsNested u.classes) }
-    ensures dims { IfOk result (λ u. greatest type_dims u.classes + dims_of_bounds u.classes < 2 ^ 64) }
-{
-    if text.len() > 16_777_216 {
-        return Err(AllocError);
-    }
-    let all = tokens(alloc, text)?;
-    read_unit(alloc, text, all.as_slice())
-}
-
-/// The index after one more publication.
-fn with_change(alloc: Global, index: &Index, change: &Change) -> Result<Index, Fail> {
-    if index.number() == u32::MAX {
-        return Err(Fail::from("few texts"));
-    }
-    index
-        .apply(alloc, change)
-        .map_err(|_| Fail::from("an index"))
-}
-
-/// The index of the classes of these texts, each of which sees those of the texts before it.
-fn published(alloc: Global, texts: [&str; 3]) -> Result<Index, Fail> {
-    let mut index = Index::empty(alloc)?;
-    for text in texts {
-        let unit = unit_of(alloc, text)?;
-        let change = Change::Publish {
-            puts: Resolver::new(alloc, &unit, &index)?.summaries(alloc)?,
-            removes: Items::new(alloc),
-            counts: Items::new(alloc),
-        };
-        index = with_change(alloc, &index, &change)?;
-    }
-    Ok(index)
-}
-
-/// The environment at a place of a text.
-fn made(alloc: Global, index: &Index, text: &str, place: u32) -> Result<Env, Fail> {
-    let hole = hole_in(alloc, text, place)?;
-    Ok(environment(alloc, index, &hole.unit, &hole.site, 45, 1)?)
-}
-
 /// The environment at the end of a text among the classes of other texts.
 fn made_among(alloc: Global, texts: [&str; 3], text: &str) -> Result<Env, Fail> {
-    let index = published(alloc, texts)?;
+    let index = published(alloc, &texts)?;
     let place = u32::try_from(text.len()).map_err(|_| Fail::from("a short text"))?;
-    made(alloc, &index, text, place)
+    made(alloc, &index, text, place, 45)
 }
 
 fn push_word(text: &mut Text, word: &str) -> Result<(), AllocError> {
@@ -290,7 +183,7 @@ fn each_hole_has_its_environment(rt: HostRuntime) -> Result<(), Fail> {
 fn a_hole_stands_behind_a_comment(rt: HostRuntime) -> Result<(), Fail> {
     let text = "class D {\r\n  void f() {\r\n    /*\u{1F600}*/ int k = \r\n  }\r\n}\r\n";
     let index = Index::empty(rt.alloc())?;
-    let env = made(rt.alloc(), &index, text, 46)?;
+    let env = made(rt.alloc(), &index, text, 46, 45)?;
     let all = shown(rt.alloc(), &env)?;
     assert_eq!(rt;
         all.as_str(),

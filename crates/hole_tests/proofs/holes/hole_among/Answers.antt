@@ -1,4 +1,4 @@
-use Rattle.conformance.proofs.hole_tests.hole_among.Goals as goal
+use Rattle.hole_tests.proofs.holes.hole_among.Goals as goal
 
 pub returns : goal.returns
 returns c = record {

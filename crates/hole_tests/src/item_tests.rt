@@ -1,31 +1,12 @@
 // From a text with a hole, and texts whose classes it sees, to the Java expressions that fit the hole.
-ghost use Rattle.std.specs.Prelude.{◌≡◌, ◌≤◌, length, Some, IfOk};
-ghost use Rattle.std.specs.Str.{IsCharBoundary};
-ghost use Rattle.java_tokens.specs.Tokens.{AreTokensOf, Tile};
-ghost use Rattle.java_bodies.specs.Sites.{hole_of};
-ghost use Rattle.java_units.specs.Units.{IsUnit};
-ghost use Rattle.scopes.specs.Holes.{IsHoleIn};
-
-use crate::sources::summaries_of;
-use decl_index::{Change, Index};
+use crate::holes::{Hole, hole_in, made, published};
+use decl_index::Index;
 use documents::Document;
-use java_bodies::{HoleSite, hole_at};
-use java_tokens::{Token, tokens};
-use java_units::{Unit, read_unit};
 use listing::{Item, Listing};
-use lists::Items;
 use reconstruction::Rebuild;
-use scopes::environment;
 use std::alloc::{AllocError, Global};
 use std::test::Fail;
 use terms::Env;
-
-/// A text's unit, and the site of a hole in it.
-#[derive(Drop)]
-struct Hole {
-    unit: Unit,
-    site: HoleSite,
-}
 
 /// Texts whose classes are published one after the other, a text with a hole, the line and UTF-16 unit of the hole,
 /// the greatest weight, and the weights and texts of all items.
@@ -48,87 +29,6 @@ fn document(alloc: Global, text: &str) -> Result<Document, Fail> {
         return Err(Fail::from("a short text"));
     }
     Ok(Document::from_text(alloc, text))
-}
-
-/// The site of the hole at a place of a text with these tokens and this unit.
-fn site_in(
-    alloc: Global,
-    text: &str,
-    tokens: &[Token],
-    unit: &Unit,
-    place: u32,
-) -> Result<HoleSite, Fail>
-    requires own_tokens { AreTokensOf text.now tokens.now }
-    requires own_unit { IsUnit text.now tokens.now unit.now }
-    requires boundary { IsCharBoundary text.now place }
-    ensures { IfOk result (λ site. hole_of text.now tokens.now unit.now place ≡ Some site) }
-{
-    match hole_at(alloc, text, tokens, unit, place)? {
-        Some(site) => Ok(site),
-        None => Err(Fail::from("a hole")),
-    }
-}
-
-/// The hole at a place of a text with these tokens.
-fn hole_among(alloc: Global, text: &str, tokens: &[Token], place: u32) -> Result<Hole, Fail>
-    requires short { length text.now ≤ 16777216 }
-    requires own_tokens { AreTokensOf text.now tokens.now }
-    requires tile { Tile 0 (length text.now) tokens.now }
-    requires boundary { IsCharBoundary text.now place }
-    ensures { IfOk result (λ hole. IsHoleIn hole.unit hole.site) }
-{
-    let unit = read_unit(alloc, text, tokens)?;
-    let site = site_in(alloc, text, tokens, &unit, place)?;
-    Ok(Hole { unit, site })
-}
-
-/// The hole at a place of a text.
-fn hole_in(alloc: Global, text: &str, place: u32) -> Result<Hole, Fail>
-    ensures { IfOk result (λ hole. IsHoleIn hole.unit hole.site) }
-{
-    if text.len() > 16_777_216 || !text.is_char_boundary(place as usize) {
-        return Err(Fail::from("a place of a short text"));
-    }
-    let all = tokens(alloc, text)?;
-    let hole = hole_among(alloc, text, all.as_slice(), place)?;
-    Ok(hole)
-}
-
-/// The index after one more publication.
-fn with_change(alloc: Global, index: &Index, change: &Change) -> Result<Index, Fail> {
-    if index.number() == u32::MAX {
-        return Err(Fail::from("few texts"));
-    }
-    index
-        .apply(alloc, change)
-        .map_err(|_| Fail::from("an index"))
-}
-
-/// The publication of the classes of a text, which sees those of an index.
-fn publication(alloc: Global, index: &Index, text: &str) -> Result<Change, AllocError> {
-    Ok(Change::Publish {
-        puts: summaries_of(alloc, text, index)?,
-        removes: Items::new(alloc),
-        counts: Items::new(alloc),
-    })
-}
-
-/// The index of the classes of these texts, each of which sees those of the texts before it.
-fn published(alloc: Global, texts: &[&str]) -> Result<Index, Fail> {
-    let mut index = Index::empty(alloc)?;
-    for text in texts {
-        let change = publication(alloc, &index, text)?;
-        index = with_change(alloc, &index, &change)?;
-    }
-    Ok(index)
-}
-
-/// The environment at a place of a text.
-fn made(alloc: Global, index: &Index, text: &str, place: u32, limit: u32) -> Result<Env, Fail>
-    requires limit { (1 ≤ limit) × (limit ≤ 10000) }
-{
-    let hole = hole_in(alloc, text, place)?;
-    Ok(environment(alloc, index, &hole.unit, &hole.site, limit, 1)?)
 }
 
 /// The environment at the hole of a row.
