@@ -11,6 +11,7 @@ use Rattle.terms.specs.Weights.{binders_weight, args_weight}
 use Rattle.terms.specs.declared.parts.Arg.{Arg}
 use Rattle.terms.specs.declared.parts.Arg.TheVariants.{Plain, Fun}
 use Rattle.terms.specs.declared.parts.Parts.{Parts}
+use Rattle.terms.proofs.Weighing.{binders_weight-none, binders_weight-more}
 use Rattle.succinct.specs.Compression.{Compression, need_of, AreNeedsOf}
 use Rattle.succinct.specs.Sets.{has, types_bound}
 use Rattle.succinct.specs.declared.need.Need.{Need}
@@ -46,7 +47,7 @@ Outcome g fs ctx left wanted rest = (top g ≤ args_floor g fs (types_bound ctx)
 -- the binders alone
 binders-low : (g : Parts) (fs : List Floor) (set : List ℕ) (left : ℕ) (wanted : List Arg) → (top g ≤ args_floor g fs set left wanted) ⊎ (binders_weight g (binders wanted) + 0 ≤ args_floor g fs set left wanted)
 unfolding binders
-binders-low g fs set left [] = inr (omega arith)
+binders-low g fs set left [] = inr (omega (arith, binders_weight-none g))
 binders-low g fs set left (Plain b ∷ more) = elim (binders-low g fs set left more) [
   | inl high ↦ inl (omega (arith, high))
   | inr low ↦ inr (omega (arith, low))
@@ -54,7 +55,7 @@ binders-low g fs set left (Plain b ∷ more) = elim (binders-low g fs set left m
 binders-low g fs set zero (Fun ps r ∷ more) = inl (omega arith)
 binders-low g fs set (suc left) (Fun ps r ∷ more) = elim (binders-low g fs set (suc left) more) [
   | inl high ↦ inl (omega (arith, high))
-  | inr low ↦ inr (omega (arith, low))
+  | inr low ↦ inr (omega (arith, low, binders_weight-more g (length ps) (binders more)))
 ]
 
 -- where a need is sought at state i, unless it is a lambda and none is left
@@ -118,7 +119,7 @@ module _ (g : Parts) (c : Compression) (d : Patterned) {goal : ℕ} (made : AreP
   fun-more : (j : ℕ) (ctx : List (List ℕ)) (left : ℕ) (ps : List ℕ) (r rest : ℕ) (more : List Arg) → length ctx + suc left ≡ g.depth → IsAt d g.depth j (ctx ++ ps ∷ []) left r → has j told ≡ true → Outcome g fs ctx (suc left) more (rest - number_of g weights j) → Outcome g fs ctx (suc left) (Fun ps r ∷ more) rest
   unfolding binders
   fun-more j ctx left ps r rest more rows at h (inl high) = inl (omega (arith, high))
-  fun-more j ctx left ps r rest more rows at h (inr (inl far)) = (let found = fun-found j ctx left ps r at h in inr (inl (omega (arith, far, found))))
+  fun-more j ctx left ps r rest more rows at h (inr (inl far)) = (let found = fun-found j ctx left ps r at h in inr (inl (omega (arith, far, found, binders_weight-more g (length ps) (binders more)))))
   fun-more j ctx left ps r rest more rows at h (inr (inr filled)) = fun-filled j ctx left ps r rest more rows at (fun-found j ctx left ps r at h) filled (cases_lt g.limit (number_of g weights j))
 
   -- the arguments of a head at state i

@@ -9,7 +9,7 @@ use Rattle.std.proofs.Math.ListN.{set}
 use Rattle.terms.specs.Expr.{Expr, var, head, Args, no_args, plain, lam}
 use Rattle.terms.specs.View.{expr, arg, args_view}
 use Rattle.terms.specs.Typing.{most_rows, joined, type_in, fits, some_below, result_if, args_wanted}
-use Rattle.terms.specs.Weights.{weight_in, args_weight, step_in, variable_weight, binder_weight, decl_weight}
+use Rattle.terms.specs.Weights.{weight_in, args_weight, step_in, variable_weight, binders_weight, decl_weight}
 use Rattle.terms.specs.Place.{shallow, fits_place, weigh, goal_place, IsInhabitant, total_of}
 use Rattle.terms.specs.declared.parts.Arg.{Arg}
 use Rattle.terms.specs.declared.parts.Arg.TheVariants.{Plain, Fun}
@@ -19,6 +19,7 @@ use Rattle.terms.specs.declared.term.Term.{Term}
 use Rattle.terms.specs.declared.term.TermArg.{TermArg}
 use Rattle.terms.specs.declared.term.TermArg as code
 use Rattle.terms.proofs.Views.{arg-Plain, arg-Lam}
+use Rattle.terms.proofs.Weighing.{binders_weight-most}
 use Rattle.checker.specs.declared.row.Row.{Row}
 use Rattle.checker.specs.Rows.{IsItem, rows_of, args_rows}
 use Rattle.checker.proofs.TypeSets.{joined_more}
@@ -224,7 +225,7 @@ lam-part g ctx e a ps b is r =
     let both = and_parts (nat_lt (length ctx) most_rows && some_below g (type_in g inner e) b) true r'.fit in
     let typed = typed_below g (type_in g inner e) b (and_parts (nat_lt (length ctx) most_rows) (some_below g (type_in g inner e) b) both.0).1 in
     let long : length (joined inner) ≡ length (joined ctx) + length ps = ap length (joined_more ctx ps) ∙ length-append (joined ctx) ps in
-    record { result = typed.0; typed = typed.1; light = omega (arith, light, long) }
+    record { result = typed.0; typed = typed.1; light = omega (arith, light, long, binders_weight-most g (length ps)) }
 
 pub lam-room : (g : Parts) (ctx : List (List ℕ)) (e : Expr) (a : Arg) (ps : List ℕ) (b : ℕ) → a ≡ Fun ps b → AreReadable g ctx (lam e no_args) (a ∷ []) → length ctx < 3
 unfolding fits
@@ -234,13 +235,7 @@ lam-room g ctx e a ps b is r =
     let both = and_parts (nat_lt (length ctx) most_rows && some_below g (type_in g inner e) b) true r'.fit in
     ltb-true (length ctx) 3 (and_parts (nat_lt (length ctx) most_rows) (some_below g (type_in g inner e) b) both.0).0
 
-times_one : (n p w : ℕ) → n ≡ p → w ≡ 1 → n * w ≡ p
-times_one n p w e f = rw (e, f) (omega arith)
-
-pub binders-weight : (g : Parts) (ps : List ℕ) (n w : ℕ) → n ≡ length ps → w ≡ binder_weight g → n * w ≡ length ps
-binders-weight g ps n w e f = times_one n (length ps) w e f
-
-pub lam-weight : (g : Parts) (ctx : List (List ℕ)) (e : Expr) (a : Arg) (ps : List ℕ) (b : ℕ) (row : Row) (n s : ℕ) → a ≡ Fun ps b → IsRated g (ctx ++ ps ∷ []) e row → n ≡ length ps → s ≡ step_in g (Some row.result) b → row.weight + n + s ≡ args_weight g ctx (lam e no_args) (a ∷ [])
+pub lam-weight : (g : Parts) (ctx : List (List ℕ)) (e : Expr) (a : Arg) (ps : List ℕ) (b : ℕ) (row : Row) (n s : ℕ) → a ≡ Fun ps b → IsRated g (ctx ++ ps ∷ []) e row → n ≡ binders_weight g (length ps) → s ≡ step_in g (Some row.result) b → row.weight + n + s ≡ args_weight g ctx (lam e no_args) (a ∷ [])
 unfolding args_weight
 lam-weight g ctx e a ps b row n s is r many step =
     let typed : step_in g (type_in g (ctx ++ ps ∷ []) e) b ≡ s = ap (λ o. step_in g o b) r.typed ∙ sym step in
@@ -252,7 +247,7 @@ pub lam-rows : (g : Parts) (ctx : List (List ℕ)) (e : Expr) (a : Arg) (ps : Li
 unfolding args_rows
 lam-rows g ctx e a ps b is = sym (append-nil (rows_of g (ctx ++ ps ∷ []) e)) ∙ ap (λ z. args_rows g ctx (lam e no_args) (z ∷ [])) (sym is)
 
-pub lam-binders : (g : Parts) (ctx : List (List ℕ)) (e : Expr) (a : Arg) (ps : List ℕ) (b : ℕ) → a ≡ Fun ps b → AreReadable g ctx (lam e no_args) (a ∷ []) → length ps < 2 ^ 31
+pub lam-binders : (g : Parts) (ctx : List (List ℕ)) (e : Expr) (a : Arg) (ps : List ℕ) (b : ℕ) → a ≡ Fun ps b → AreReadable g ctx (lam e no_args) (a ∷ []) → binders_weight g (length ps) < 2 ^ 31
 unfolding args_weight
 lam-binders g ctx e a ps b is r =
     let r' : AreReadable g ctx (lam e no_args) (Fun ps b ∷ []) = subst (λ z. AreReadable g ctx (lam e no_args) (z ∷ [])) is r in

@@ -187,7 +187,7 @@ fn push_lambda(
         Arg::Plain(_) => unreachable!(),
         Arg::Fun(params, to) => {
             let row = push_rows(env, &ctx.with(params.as_slice()), body, list)?;
-            let binders = params.len() as u32 * env.binder_weight();
+            let binders = env.binders_weight(params.len()) as u32;
             Ok(row.weight + binders + env.step(row.result, *to))
         }
     }

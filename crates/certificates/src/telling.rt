@@ -17,13 +17,6 @@ use number_places::list_at;
 use std::alloc::AllocError;
 use terms::{Arg, Decl, Env};
 
-/// What so many binders weigh together.
-fn binders_weight(env: &Env, count: usize) -> u64
-    ensures { result ≡ binders_weight env.now count }
-{
-    (count as u64).saturating_mul(u64::from(env.binder_weight()))
-}
-
 /// What is left of a number after a weight.
 fn less(rest: u32, weight: u64) -> u32
     ensures { result ≡ rest - weight }
@@ -37,7 +30,7 @@ fn after_binders(env: &Env, arg: &Arg, rest: u32) -> u32
 {
     match arg {
         Arg::Plain(_) => rest,
-        Arg::Fun(params, _) => less(rest, binders_weight(env, params.as_slice().len())),
+        Arg::Fun(params, _) => less(rest, env.binders_weight(params.as_slice().len())),
     }
 }
 

@@ -9,7 +9,7 @@ use Rattle.terms.specs.declared.parts.Decl.{Decl}
 use Rattle.terms.specs.declared.parts.Arg.{Arg}
 use Rattle.terms.specs.declared.parts.Arg.TheVariants.{Plain, Fun}
 use Rattle.terms.specs.Typing.{joined, is_below, some_below, result_if, args_wanted, type_in, fits}
-use Rattle.terms.specs.Weights.{step_in, decl_weight, weight_in, args_weight}
+use Rattle.terms.specs.Weights.{variable_weight, binders_weight, step_in, decl_weight, weight_in, args_weight}
 use Rattle.terms.specs.Place.{shallow, args_shallow, fits_place, weigh, goal_place, total_of, IsInhabitant}
 use Rattle.checker.specs.declared.floor.Floor.{Floor}
 use Rattle.terms.specs.Table.{has}
@@ -22,11 +22,11 @@ AllHold g fs = (i : ℕ) (f : Floor) → slice_get fs i ≡ Some f → IsFloor g
 reached : (g : Parts) (floor sum : ℕ) → floor ≤ top g → Reaches g floor sum → floor ≤ sum
 reached g floor sum within r = ⊎_elim (λ l. l) (λ l. omega (arith, l, within)) r
 
-floor_var : (g : Parts) (fs : List Floor) → AllHold g fs → (set : List ℕ) (left b a : ℕ) → has a set ≡ true → is_below g a b ≡ true → floor_of fs set left b ≤ 1 + step_in g (Some a) b
+floor_var : (g : Parts) (fs : List Floor) → AllHold g fs → (set : List ℕ) (left b a : ℕ) → has a set ≡ true → is_below g a b ≡ true → floor_of fs set left b ≤ variable_weight g + step_in g (Some a) b
 floor_var g fs all set left b a h below =
     ⊎_elim
     (λ (e : floor_of fs set left b ≡ 0). omega (arith, e))
-    (λ (f : IsFloor g fs (record { set = set; left = left; goal = b; floor = floor_of fs set left b })). reached g (floor_of fs set left b) (1 + step_in g (Some a) b) f.within (f.variables a h below))
+    (λ (f : IsFloor g fs (record { set = set; left = left; goal = b; floor = floor_of fs set left b })). reached g (floor_of fs set left b) (variable_weight g + step_in g (Some a) b) f.within (f.variables a h below))
     (floor_at (IsFloor g fs) fs all set left b)
 
 floor_head : (g : Parts) (fs : List Floor) → AllHold g fs → (set : List ℕ) (left b i : ℕ) (d : Decl) → slice_get g.decls i ≡ Some d → is_below g d.result b ≡ true → floor_of fs set left b ≤ d.weight + step_in g (Some d.result) b + args_floor g fs set left d.args
@@ -36,7 +36,7 @@ floor_head g fs all set left b i d at below =
     (λ (f : IsFloor g fs (record { set = set; left = left; goal = b; floor = floor_of fs set left b })). reached g (floor_of fs set left b) (d.weight + step_in g (Some d.result) b + args_floor g fs set left d.args) f.within (f.heads i d at below))
     (floor_at (IsFloor g fs) fs all set left b)
 
-by_var : (g : Parts) (fs : List Floor) → AllHold g fs → (ctx : List (List ℕ)) (set : List ℕ) (left b n : ℕ) → Covers set ctx → (o : Option ℕ) → slice_get (joined ctx) n ≡ o → some_below g o b ≡ true → floor_of fs set left b ≤ 1 + step_in g o b
+by_var : (g : Parts) (fs : List Floor) → AllHold g fs → (ctx : List (List ℕ)) (set : List ℕ) (left b n : ℕ) → Covers set ctx → (o : Option ℕ) → slice_get (joined ctx) n ≡ o → some_below g o b ≡ true → floor_of fs set left b ≤ variable_weight g + step_in g o b
 by_var g fs all ctx set left b n covers None e below = absurd (false≢true below)
 by_var g fs all ctx set left b n covers (Some a) e below = floor_var g fs all set left b a (covers n a e) below
 
@@ -87,7 +87,7 @@ mutual
       let h = and_parts (nat_lt (length ctx) 3 && some_below g (type_in g (ctx ++ ps ∷ []) e) r) (fits g ctx rest more) fit in
       let f = and_parts (nat_lt (length ctx) 3) (some_below g (type_in g (ctx ++ ps ∷ []) e) r) h.0 in
       let d = and_parts (shallow left e) (args_shallow (suc left) rest) deep in
-      sum_lambda (weight_in g (ctx ++ ps ∷ []) e) (length ps) (step_in g (type_in g (ctx ++ ps ∷ []) e) r) (args_weight g ctx rest more) (floor_of fs (with_types ps set) left r) (args_floor g fs set (suc left) more)
+      sum_lambda (weight_in g (ctx ++ ps ∷ []) e) (binders_weight g (length ps)) (step_in g (type_in g (ctx ++ ps ∷ []) e) r) (args_weight g ctx rest more) (floor_of fs (with_types ps set) left r) (args_floor g fs set (suc left) more)
       (lower g fs all e (ctx ++ ps ∷ []) (with_types ps set) left r (covers_more set ctx ps covers) f.1 d.0) (lower_args g fs all rest ctx set (suc left) more covers h.1 d.1)
 
 first_is : (g : Parts) (fs : List Floor) (w : ℕ) → IsFirst g fs w → floor_of fs [] g.depth g.goal ≡ w

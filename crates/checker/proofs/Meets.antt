@@ -7,7 +7,7 @@ use Rattle.terms.specs.declared.parts.Parts.{Parts}
 use Rattle.terms.specs.declared.parts.Decl.{Decl}
 use Rattle.terms.specs.Table.{has}
 use Rattle.terms.specs.Typing.{is_below, is_pair}
-use Rattle.terms.specs.Weights.{step_in}
+use Rattle.terms.specs.Weights.{variable_weight, step_in}
 use Rattle.checker.specs.declared.floor.Floor.{Floor}
 use Rattle.checker.specs.Floors.{top, args_floor, Reaches, IsFloor}
 use Rattle.checker.specs.Checks.{head_reaches, variable_reaches, variables_reach}
@@ -46,7 +46,7 @@ two_of_one f x l = omega (arith, l)
 least : (g : Parts) (f x : ℕ) → f ≤ top g → Reaches g f x → f ≤ x
 least g f x within r = ⊎_elim (λ l. l) (λ l. omega (arith, l, within)) r
 
-variables_yes : (g : Parts) (f : Floor) (set : List ℕ) → variables_reach g f set ≡ true → (a : ℕ) → has a set ≡ true → is_below g a f.goal ≡ true → Reaches g f.floor (1 + step_in g (Some a) f.goal)
+variables_yes : (g : Parts) (f : Floor) (set : List ℕ) → variables_reach g f set ≡ true → (a : ℕ) → has a set ≡ true → is_below g a f.goal ≡ true → Reaches g f.floor (variable_weight g + step_in g (Some a) f.goal)
 unfolding variables_reach variable_reaches
 variables_yes g f [] e a h below = absurd (no_has a h)
 variables_yes g f (x ∷ set) e a h below =
@@ -54,19 +54,19 @@ variables_yes g f (x ∷ set) e a h below =
     ⊎_elim
     (λ t.
     let same : x ≡ a = eqb-true x a t in
-    subst (λ y. is_below g y f.goal ≡ true → Reaches g f.floor (1 + step_in g (Some y) f.goal)) same
-    (λ b. inl (one_of_two f.floor (1 + step_in g (Some x) f.goal) (reaches (is_below g x f.goal) (f.floor - (1 + step_in g (Some x) f.goal)) parts.0 b))) below)
+    subst (λ y. is_below g y f.goal ≡ true → Reaches g f.floor (variable_weight g + step_in g (Some y) f.goal)) same
+    (λ b. inl (one_of_two f.floor (variable_weight g + step_in g (Some x) f.goal) (reaches (is_below g x f.goal) (f.floor - (variable_weight g + step_in g (Some x) f.goal)) parts.0 b))) below)
     (λ t. variables_yes g f set parts.1 a t below)
     (has_tail a x set h)
 
-variables_no : (g : Parts) (f : Floor) (set : List ℕ) → f.floor ≤ top g → variables_reach g f set ≡ false → ((a : ℕ) → has a set ≡ true → is_below g a f.goal ≡ true → Reaches g f.floor (1 + step_in g (Some a) f.goal)) → ⊥
+variables_no : (g : Parts) (f : Floor) (set : List ℕ) → f.floor ≤ top g → variables_reach g f set ≡ false → ((a : ℕ) → has a set ≡ true → is_below g a f.goal ≡ true → Reaches g f.floor (variable_weight g + step_in g (Some a) f.goal)) → ⊥
 unfolding variables_reach variable_reaches
 variables_no g f [] within e all = false≢true (sym e)
 variables_no g f (x ∷ set) within e all =
     ⊎_elim
     (λ o.
-    let n = falls (is_below g x f.goal) (f.floor - (1 + step_in g (Some x) f.goal)) o in
-    n.1 (two_of_one f.floor (1 + step_in g (Some x) f.goal) (least g f.floor (1 + step_in g (Some x) f.goal) within (all x (has_hit x x set (eq-eqb x x refl)) n.0))))
+    let n = falls (is_below g x f.goal) (f.floor - (variable_weight g + step_in g (Some x) f.goal)) o in
+    n.1 (two_of_one f.floor (variable_weight g + step_in g (Some x) f.goal) (least g f.floor (variable_weight g + step_in g (Some x) f.goal) within (all x (has_hit x x set (eq-eqb x x refl)) n.0))))
     (λ o. variables_no g f set within o (λ a h below. all a (has_more a x set h) below))
     (one_of (variable_reaches g f x) (variables_reach g f set) e)
 

@@ -4,7 +4,7 @@ use Rattle.std.specs.Prelude.{if◌then◌else◌}
 use Rattle.std.proofs.lemmas.Bool.{and_parts, and_from, false≢true, eqb-true}
 use Rattle.terms.specs.Expr.{Expr, var, head, Args, no_args, plain, lam}
 use Rattle.terms.specs.Typing.{most_rows, type_in, fits, some_below, is_below, joined}
-use Rattle.terms.specs.Weights.{weight_in, args_weight, step_in, variable_weight}
+use Rattle.terms.specs.Weights.{weight_in, args_weight, step_in, variable_weight, binders_weight}
 use Rattle.terms.specs.Place.{shallow, args_shallow}
 use Rattle.terms.specs.Reading.{Symbol, variable, declared, symbol, and_then}
 use Rattle.terms.specs.declared.parts.Parts.{Parts}
@@ -48,9 +48,15 @@ variable_part g ctx left n (Some t) h xs at is fit =
       term = var n;
       type = at;
       weight = omega arith;
-      rows = rw at refl;
+      rows = rw at (ap row no_args_weigh);
       flat = refl;
     })) fit
+  where
+    row : ℕ → List Row
+    row w = record { code = 2 * n; result = t; weight = w } ∷ []
+
+    no_args_weigh : variable_weight g ≡ variable_weight g + 0
+    no_args_weigh = omega arith
 
 declared_part : (g : Parts) (ctx : List (List ℕ)) (left n : ℕ) (o : Option Decl) (h : Head) (xs : Args) → slice_get g.decls n ≡ o → declared_head o ≡ Some h → fits g ctx xs h.args ≡ true → args_shallow left xs ≡ true → Part g ctx left (2 * n + 1) h xs
 unfolding type_in weight_in shallow rows_of
@@ -100,10 +106,10 @@ put g ctx left (Plain b) more p e rest is below deep fit flat =
 put g ctx zero (Fun ps r) more p e rest is below deep fit flat = absurd cc
 put g ctx (suc left) (Fun ps r) more p e rest is below deep fit flat = go (nat_lt (length ctx) most_rows) refl is
   where
-    go : (b : Bool) → nat_lt (length ctx) most_rows ≡ b → (if b then Some (record { ctx = ctx ++ ps ∷ []; left = left; wanted = r; binders = length ps }) else None) ≡ Some p → Put g ctx (suc left) (Fun ps r) more p e rest
+    go : (b : Bool) → nat_lt (length ctx) most_rows ≡ b → (if b then Some (record { ctx = ctx ++ ps ∷ []; left = left; wanted = r; binders = binders_weight g (length ps) }) else None) ≡ Some p → Put g ctx (suc left) (Fun ps r) more p e rest
     go false few is' = absurd cc
     go true few is' =
-        let made : Spot = record { ctx = ctx ++ ps ∷ []; left = left; wanted = r; binders = length ps } in
+        let made : Spot = record { ctx = ctx ++ ps ∷ []; left = left; wanted = r; binders = binders_weight g (length ps) } in
         let same : made ≡ p = cc in
         let P : Spot → Type 0 = λ q. some_below g (type_in g q.ctx e) q.wanted ≡ true → shallow q.left e ≡ true → Put g ctx (suc left) (Fun ps r) more q e rest in
         subst P same (λ bl dp. record {

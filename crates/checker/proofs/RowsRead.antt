@@ -4,7 +4,7 @@ use Rattle.std.specs.Prelude.{if◌then◌else◌}
 use Rattle.std.proofs.lemmas.Bool.{and_parts, and_from, false≢true, eq-eqb, le-leb}
 use Rattle.terms.specs.Expr.{Expr, var, head, Args, no_args, plain, lam}
 use Rattle.terms.specs.Typing.{most_rows, type_in, fits, some_below, is_below, joined, args_wanted, result_if}
-use Rattle.terms.specs.Weights.{weight_in, args_weight, step_in, variable_weight, decl_weight}
+use Rattle.terms.specs.Weights.{weight_in, args_weight, step_in, variable_weight, binders_weight, decl_weight}
 use Rattle.terms.specs.Place.{shallow, args_shallow}
 use Rattle.terms.specs.Reading.{and_then}
 use Rattle.terms.specs.declared.parts.Parts.{Parts}
@@ -109,7 +109,7 @@ lam_rest w a b s m l h = omega (arith, h)
 lam_out : (w a b s m : ℕ) → w + b + (a + s) + m ≡ w + (a + b + s + m)
 lam_out w a b s m = omega arith
 
-lambda_spot : (g : Parts) (ctx : List (List ℕ)) (left : ℕ) (ps : List ℕ) (r : ℕ) → nat_lt (length ctx) most_rows ≡ true → spot_of g ctx (suc left) (Fun ps r) ≡ Some (record { ctx = ctx ++ ps ∷ []; left = left; wanted = r; binders = length ps })
+lambda_spot : (g : Parts) (ctx : List (List ℕ)) (left : ℕ) (ps : List ℕ) (r : ℕ) → nat_lt (length ctx) most_rows ≡ true → spot_of g ctx (suc left) (Fun ps r) ≡ Some (record { ctx = ctx ++ ps ∷ []; left = left; wanted = r; binders = binders_weight g (length ps) })
 unfolding spot_of
 lambda_spot g ctx left ps r few = rw few refl
 
@@ -172,13 +172,13 @@ mutual
       let h = and_parts (nat_lt (length ctx) 3 && some_below g (type_in g inner e) r) (fits g ctx rest more) fit in
       let f = and_parts (nat_lt (length ctx) 3) (some_below g (type_in g inner e) r) h.0 in
       let d = and_parts (shallow left e) (args_shallow (suc left) rest) flat in
-      let p : Spot = record { ctx = inner; left = left; wanted = r; binders = length ps } in
+      let p : Spot = record { ctx = inner; left = left; wanted = r; binders = binders_weight g (length ps) } in
       let a = weight_in g inner e in
       let s = step_in g (type_in g inner e) r in
       let m = args_weight g ctx rest more in
       open_on g ctx (suc left) (Fun ps r) more w end fs ((rows_of g inner e ++ args_rows g ctx rest more) ++ rs)
       ∙ next_rows g ctx (suc left) (Fun ps r) more p w end fs ((rows_of g inner e ++ args_rows g ctx rest more) ++ rs) (lambda_spot g ctx left ps r f.0)
       ∙ ap (λ t. begun_rows g w p (frame ctx (suc left) more end ∷ fs) t) (append_assoc (rows_of g inner e) (args_rows g ctx rest more) rs)
-      ∙ part_read g e p w (frame ctx (suc left) more end ∷ fs) (args_rows g ctx rest more ++ rs) f.1 d.0 (lam_in w a (length ps) s m g.limit low)
-      ∙ args_read g rest ctx (suc left) more (w + length ps + (a + s)) end fs rs h.1 d.1 (lam_rest w a (length ps) s m g.limit low)
-      ∙ ap (λ v. resume g v (frame ctx (suc left) [] end ∷ fs) rs) (lam_out w a (length ps) s m)
+      ∙ part_read g e p w (frame ctx (suc left) more end ∷ fs) (args_rows g ctx rest more ++ rs) f.1 d.0 (lam_in w a (binders_weight g (length ps)) s m g.limit low)
+      ∙ args_read g rest ctx (suc left) more (w + binders_weight g (length ps) + (a + s)) end fs rs h.1 d.1 (lam_rest w a (binders_weight g (length ps)) s m g.limit low)
+      ∙ ap (λ v. resume g v (frame ctx (suc left) [] end ∷ fs) rs) (lam_out w a (binders_weight g (length ps)) s m)

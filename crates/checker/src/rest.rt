@@ -5,7 +5,6 @@ ghost use Rattle.checker.specs.Floors.{arg_floor, args_floor, top};
 
 use crate::floor_table::FloorTable;
 use crate::sets::with_types;
-use crate::spots::binders_weight;
 use std::alloc::{AllocError, Global};
 use terms::{Arg, Env};
 
@@ -34,7 +33,7 @@ fn rest_after(
             }
             let more = with_types(alloc, set, params.as_slice())?;
             let inside = u64::from(floors.floor_of(alloc, &more, left - 1, *wanted)?);
-            let binders = binders_weight(env, params.as_slice().len());
+            let binders = env.binders_weight(params.as_slice().len());
             Ok(rest.saturating_sub(binders).saturating_sub(inside))
         }
     }

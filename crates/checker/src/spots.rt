@@ -1,21 +1,13 @@
 // Where parts are wanted, and the heads that rows name.
 
-ghost use Rattle.std.specs.Prelude.{◌≡◌, ◌≤◌, ◌%◌, length};
+ghost use Rattle.std.specs.Prelude.{◌≡◌, ◌≤◌, ◌%◌};
 ghost use Rattle.std.specs.Option.{option_map};
 ghost use Rattle.terms.specs.Typing.{rows};
-ghost use Rattle.terms.specs.Weights.{binders_weight};
 ghost use Rattle.checker.specs.Frames.{spot_of, head_of};
 ghost use Rattle.checker.specs.OpenParts.{spot_view, head_view};
 
 use crate::open_part::{Head, Spot};
 use terms::{Arg, Ctx, Env, MOST_ROWS};
-
-/// What so many binders weigh together.
-pub(crate) fn binders_weight(env: &Env, count: usize) -> u64
-    ensures { result ≡ binders_weight env.now count }
-{
-    (count as u64).saturating_mul(u64::from(env.binder_weight()))
-}
 
 /// Where an argument is wanted; nowhere for a lambda where none may stand.
 #[tactic(auto, using(crate::proofs::Steps::spots))]
@@ -41,7 +33,7 @@ pub(crate) fn spot_of<'a>(env: &Env, ctx: Ctx<'a>, left: u32, arg: &'a Arg) -> O
                 ctx: ctx.with(params.as_slice()),
                 left: left - 1,
                 wanted: *wanted,
-                binders: binders_weight(env, params.as_slice().len()),
+                binders: env.binders_weight(params.as_slice().len()),
             })
         }
     }

@@ -7,15 +7,12 @@ ghost use Rattle.edges.specs.Edges.{source_costs};
 
 use terms::{Arg, Env};
 
-/// More than each limit.
-const CAP: u64 = 4_294_967_296;
-
 /// A weight with what so many binders weigh, none where that is above the limit.
 fn with_count(env: &Env, limit: u32, weight: u32, count: usize) -> Option<u32>
     requires within { weight ≤ limit }
     ensures value { MatchOption result (limit < weight + binders_weight env.now count) (λ w. (w ≡ weight + binders_weight env.now count) × (w ≤ limit)) }
 {
-    let more = (count as u64).min(CAP) * env.binder_weight() as u64;
+    let more = env.binders_weight(count);
     if more > (limit - weight) as u64 {
         return None;
     }

@@ -13,6 +13,7 @@ use Rattle.terms.specs.declared.parts.Arg.TheVariants.{Plain, Fun}
 use Rattle.terms.specs.declared.parts.Decl.{Decl}
 use Rattle.terms.specs.declared.parts.Parts.{Parts}
 use Rattle.terms.proofs.Valid.{valid-pair, below-itself}
+use Rattle.terms.proofs.Weighing.{binders_weight-none, binders_weight-more}
 use Rattle.succinct.specs.Compression.{Compression, IsCompression}
 use Rattle.succinct.specs.Sets.{has, types_bound}
 use Rattle.patterns.specs.Derivable.{IsDerivable, AreDerivable}
@@ -109,7 +110,7 @@ head-exact g ctx xs (Some decl) b h = go (fits g ctx xs decl.args) refl h
 -- the binders are weighed with the arguments
 args-least : (g : Parts) (ctx : List (List ℕ)) (xs : Args) (args : List Arg) → fits g ctx xs args ≡ true → binders_weight g (binders args) ≤ args_weight g ctx xs args
 unfolding fits args_weight binders
-args-least g ctx no_args [] h = omega arith
+args-least g ctx no_args [] h = omega (arith, binders_weight-none g)
 args-least g ctx no_args (Plain b ∷ args) h = absurd (false≢true h)
 args-least g ctx no_args (Fun ps r ∷ args) h = absurd (false≢true h)
 args-least g ctx (plain e xs) [] h = absurd (false≢true h)
@@ -121,7 +122,7 @@ args-least g ctx (lam e xs) [] h = absurd (false≢true h)
 args-least g ctx (lam e xs) (Plain b ∷ args) h = absurd (false≢true h)
 args-least g ctx (lam e xs) (Fun ps r ∷ args) h =
     let rest = args-least g ctx xs args (and_parts (nat_lt (length ctx) 3 && some_below g (type_in g (ctx ++ ps ∷ []) e) r) (fits g ctx xs args) h).1 in
-    omega (arith, rest)
+    omega (arith, rest, binders_weight-more g (length ps) (binders args))
 
 suc_eq : (m n : ℕ) → suc m ≡ suc n → m ≡ n
 suc_eq m n h = omega (arith, h)
@@ -197,7 +198,7 @@ module _ (g : Parts) (c : Compression) (d : Patterned) (edges : List Edge) (vali
     args-low : (i : ℕ) (ctx : List (List ℕ)) (left b : ℕ) → IsAt d g.depth i ctx left b → (xs : Args) (args : List Arg) (tails : List ℕ) → AreTails c d i args tails → fits g ctx xs args ≡ true → args_shallow left xs ≡ true → args_weight g ctx xs args ≤ g.limit → binders_weight g (binders args) + total (number_at g.limit numbers) tails ≤ args_weight g ctx xs args
     args-low i ctx left b at no_args [] tails are fit flat within =
         let none : total (number_at g.limit numbers) tails ≡ 0 = ap (total (number_at g.limit numbers)) (no-tails c d i tails are) in
-        omega (arith, none)
+        omega (arith, none, binders_weight-none g)
     args-low i ctx left b at no_args (Plain w ∷ args) tails are fit flat within = absurd (false≢true fit)
     args-low i ctx left b at no_args (Fun ps r ∷ args) tails are fit flat within = absurd (false≢true fit)
     args-low i ctx left b at (plain e xs) [] tails are fit flat within = absurd (false≢true fit)
@@ -227,7 +228,7 @@ module _ (g : Parts) (c : Compression) (d : Patterned) (edges : List Edge) (vali
         let first = low-from e (low-exact e) s.first under l r inner f (omega (arith, within)) in
         let rest = args-low i ctx (suc l) b at xs args s.rest s.others fs.1 ss.1 (omega (arith, within)) in
         let sum : total (number_at g.limit numbers) tails ≡ number_at g.limit numbers s.first + total (number_at g.limit numbers) s.rest = ap (total (number_at g.limit numbers)) s.is in
-        omega (arith, first, rest, sum)
+        omega (arith, first, rest, sum, binders_weight-more g (length ps) (binders args))
 
   -- no term that fits a place weighs less than the number of its state
   pub low : (i : ℕ) (ctx : List (List ℕ)) (left b : ℕ) → IsAt d g.depth i ctx left b → (e : Expr) → fits_place g (record { ctx = ctx; left = left; wanted = b }) e ≡ true → weigh g (record { ctx = ctx; left = left; wanted = b }) e ≤ g.limit → number_at g.limit numbers i ≤ weigh g (record { ctx = ctx; left = left; wanted = b }) e

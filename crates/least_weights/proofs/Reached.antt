@@ -1,5 +1,5 @@
 -- Each number within the limit is reached by a term, where the numbers are supported by the edges.
-use Rattle.std.proofs.Common.{◌≡◌, inl, inr, ℕ, zero, suc, ◌+◌, ◌<◌, ◌≤◌, Bool, true, false, ◌&&◌, ◌==◌, if◌then◌else◌, nat_lt, List, [], ◌∷◌, ◌++◌, length, slice_get, Some, refl, sym, ap, subst, ◌∙◌, arith}
+use Rattle.std.proofs.Common.{◌≡◌, inl, inr, ℕ, zero, suc, ◌+◌, ◌<◌, ◌≤◌, true, ◌&&◌, ◌==◌, nat_lt, List, [], ◌∷◌, ◌++◌, length, slice_get, Some, refl, sym, ap, subst, ◌∙◌, arith}
 use Rattle.std.proofs.lemmas.Bool.{and_from, lt-ltb, or_right}
 use Rattle.terms.specs.Count.{total}
 use Rattle.terms.specs.Expr.{Expr, var, head, Args, no_args, plain, lam}
@@ -13,6 +13,7 @@ use Rattle.terms.specs.declared.parts.Arg.TheVariants.{Plain, Fun}
 use Rattle.terms.specs.declared.parts.Decl.{Decl}
 use Rattle.terms.specs.declared.parts.Parts.{Parts}
 use Rattle.terms.proofs.Valid.{valid-heavy, below-itself, below-transitive}
+use Rattle.terms.proofs.Weighing.{coercion-weighs, step-most, binders_weight-more}
 use Rattle.succinct.specs.Compression.{Compression, IsCompression, Source, of_decl, of_pair}
 use Rattle.succinct.specs.Sets.{has, types_bound}
 use Rattle.patterns.specs.Patterned.{Patterned, ArePatterns}
@@ -39,13 +40,6 @@ record ReachedArgs (g : Parts) (ctx : List (List ℕ)) (left : ℕ) (wanted : Li
   fit : fits g ctx args wanted ≡ true
   flat : args_shallow left args ≡ true
   light : args_weight g ctx args wanted ≤ binders_weight g (binders wanted) + w
-
-step-most : (g : Parts) (a b : ℕ) → step_in g (Some a) b ≤ coercion_weight g
-step-most g a b = go (a == b)
-  where
-    go : (t : Bool) → (if t then 0 else coercion_weight g) ≤ coercion_weight g
-    go true = omega arith
-    go false = omega arith
 
 pair-below : (g : Parts) (a b : ℕ) → is_pair g.pairs a b ≡ true → is_below g a b ≡ true
 unfolding is_below
@@ -113,7 +107,7 @@ module _ (g : Parts) (c : Compression) (d : Patterned) (edges : List Edge) (vali
         args = lam r.term rs.args;
         fit = and_from (nat_lt (length ctx) 3 && some_below g (type_in g under r.term) t) (fits g ctx rs.args wanted) (and_from (nat_lt (length ctx) 3) (some_below g (type_in g under r.term) t) (lt-ltb (length ctx) 3 (omega (arith, rows, inner_left, few_rows))) (ap (λ o. some_below g o t) r.fit.typed ∙ r.fit.below)) rs.fit;
         flat = subst (λ x. args_shallow x (lam r.term rs.args) ≡ true) (sym inner_left) deep;
-        light = omega (arith, l0, l1, sum);
+        light = omega (arith, l0, l1, sum, binders_weight-more g (length ps) (binders wanted));
       }
 
   more : (ctx : List (List ℕ)) (left b v w : ℕ) → v ≤ w → Reached g ctx left b v → Reached g ctx left b w
@@ -147,7 +141,7 @@ module _ (g : Parts) (c : Compression) (d : Patterned) (edges : List Edge) (vali
             let one : e.tails ≡ t.first ∷ [] = t.is ∙ ap (λ l. t.first ∷ l) (no-tails c d i t.rest t.others) in
             let sum : total (number_at g.limit numbers) e.tails ≡ number_at g.limit numbers t.first + 0 = ap (total (number_at g.limit numbers)) one in
             let inner = plain-at c d g.depth made.wanted made.steps i t.first ctx left b r.item.0 at t.tail in
-            let from : Reached g ctx left r.item.0 (number_at g.limit numbers t.first) = again t.first ctx left r.item.0 inner (omega (arith, sum, within)) (omega (arith, sum, few, w)) in
+            let from : Reached g ctx left r.item.0 (number_at g.limit numbers t.first) = again t.first ctx left r.item.0 inner (omega (arith, sum, within)) (omega (arith, sum, few, w, coercion-weighs g)) in
             let upper : is_below g r.item.0 b ≡ true = ap (λ x. is_below g r.item.0 x) (sym result) ∙ pair-below g r.item.0 r.item.1 (pair-get g.pairs r.place r.item r.is) in
             let light = from.light in
             let most : step_in g (type_in g ctx from.term) b ≤ coercion_weight g = subst (λ o. step_in g o b ≤ coercion_weight g) (sym from.fit.typed) (step-most g from.fit.type b) in

@@ -6,7 +6,7 @@ use Rattle.terms.specs.Expr.{Expr, var, head}
 use Rattle.terms.specs.Place.{Place, goal_place, fits_place, shallow, args_shallow}
 use Rattle.terms.specs.Reading.{Reading, Symbol, variable, declared, symbol, has_room, places, binders, some_when, variable_at, declared_at, turn_by, turn, and_then, read, fit_all}
 use Rattle.terms.specs.Typing.{type_in, fits, some_below, is_below, joined, args_wanted}
-use Rattle.terms.specs.Weights.{step}
+use Rattle.terms.specs.Weights.{variable_weight, binders_weight, step_in}
 use Rattle.terms.specs.declared.parts.Arg.{Arg}
 use Rattle.terms.specs.declared.parts.Arg.TheVariants.{Plain, Fun}
 use Rattle.terms.specs.declared.parts.Decl.{Decl}
@@ -68,10 +68,10 @@ unfolding fits_place type_in shallow
 variable_taken g p n m None t rest es found is h all = cc
 variable_taken g p n m (Some a) t rest es found is h all = go (is_below g a p.wanted) refl h
   where
-    go : (b : Bool) → is_below g a p.wanted ≡ b → some_when b (record { weight = 1 + step (Some a) p.wanted; open_places = [] }) ≡ Some t → HeadTaken g p n (variable m) rest es
+    go : (b : Bool) → is_below g a p.wanted ≡ b → some_when b (record { weight = variable_weight g + step_in g (Some a) p.wanted; open_places = [] }) ≡ Some t → HeadTaken g p n (variable m) rest es
     go false below h' = cc
     go true below h' =
-        let made : Reading = record { weight = 1 + step (Some a) p.wanted; open_places = [] } in
+        let made : Reading = record { weight = variable_weight g + step_in g (Some a) p.wanted; open_places = [] } in
         let same : t ≡ made = cc in
         let others : fit_all g rest es ≡ true = sym (ap (λ (q : Reading). fit_all g (q.open_places ++ rest) es) same) ∙ all in
         let here : fits_place g p (var m) ≡ true = ap (λ x. some_below g x p.wanted && true) found ∙ ap (λ b. b && true) below in
@@ -86,11 +86,11 @@ unfolding fits_place type_in shallow
 declared_taken g p n m None t rest es short found is h all = cc
 declared_taken g p n m (Some d) t rest es short found is h all = go (is_below g d.result p.wanted) (has_room p.left d.args) refl refl h
   where
-    go : (b c : Bool) → is_below g d.result p.wanted ≡ b → has_room p.left d.args ≡ c → some_when (b && c) (record { weight = d.weight + binders d.args + step (Some d.result) p.wanted; open_places = places p.ctx p.left d.args }) ≡ Some t → HeadTaken g p n (declared m) rest es
+    go : (b c : Bool) → is_below g d.result p.wanted ≡ b → has_room p.left d.args ≡ c → some_when (b && c) (record { weight = d.weight + binders_weight g (binders d.args) + step_in g (Some d.result) p.wanted; open_places = places p.ctx p.left d.args }) ≡ Some t → HeadTaken g p n (declared m) rest es
     go false c below room h' = cc
     go true false below room h' = cc
     go true true below room h' =
-        let made : Reading = record { weight = d.weight + binders d.args + step (Some d.result) p.wanted; open_places = places p.ctx p.left d.args } in
+        let made : Reading = record { weight = d.weight + binders_weight g (binders d.args) + step_in g (Some d.result) p.wanted; open_places = places p.ctx p.left d.args } in
         let same : t ≡ made = cc in
         let places_fit : fit_all g (places p.ctx p.left d.args ++ rest) es ≡ true = sym (ap (λ (q : Reading). fit_all g (q.open_places ++ rest) es) same) ∙ all in
         let a : ArgsTaken g p.ctx p.left d.args rest es = args_taken g p.ctx p.left d.args rest es short room places_fit in

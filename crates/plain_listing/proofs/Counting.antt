@@ -6,7 +6,7 @@ use Rattle.std.proofs.lemmas.Option.{slice_get_past}
 use Rattle.std.specs.List.{range_with_len}
 use Rattle.terms.specs.Expr.{Expr, var, head, Args, no_args, plain, lam}
 use Rattle.terms.specs.Typing.{type_in, fits, some_below, is_below, result_if, args_wanted, joined, placed}
-use Rattle.terms.specs.Weights.{step, weight_in, args_weight, decl_weight}
+use Rattle.terms.specs.Weights.{variable_weight, binders_weight, step_in, weight_in, args_weight, decl_weight}
 use Rattle.terms.specs.Count.{expr_eq, args_eq, once_if, count, total}
 use Rattle.terms.specs.Place.{shallow, args_shallow, fits_place, weigh}
 use Rattle.terms.specs.declared.parts.Parts.{Parts}
@@ -20,7 +20,7 @@ use Rattle.plain_listing.specs.Tables.{stands}
 
 -- the definition of `stands`, by typing and weights
 abbrev pub suits : Parts → List (List ℕ) → ℕ → ℕ → ℕ → Expr → Bool
-suits g ctx left k b e = (some_below g (type_in g ctx e) b && shallow left e) && (weight_in g ctx e + step (type_in g ctx e) b == k)
+suits g ctx left k b e = (some_below g (type_in g ctx e) b && shallow left e) && (weight_in g ctx e + step_in g (type_in g ctx e) b == k)
 
 pub stands-suits : (g : Parts) (ctx : List (List ℕ)) (left k b : ℕ) (e : Expr) → stands g (record { ctx = ctx; left = left; wanted = b }) k e ≡ suits g ctx left k b e
 unfolding fits_place weigh
@@ -29,7 +29,7 @@ stands-suits g ctx left k b e = refl
 -- a lambda's body may stand under its binders, and the lambda weighs k
 abbrev pub suits_under : Parts → List (List ℕ) → ℕ → List ℕ → ℕ → ℕ → Expr → Bool
 suits_under g ctx zero ps r k e = false
-suits_under g ctx (suc left) ps r k e = (some_below g (type_in g (ctx ++ ps ∷ []) e) r && shallow left e) && (weight_in g (ctx ++ ps ∷ []) e + length ps + step (type_in g (ctx ++ ps ∷ []) e) r == k)
+suits_under g ctx (suc left) ps r k e = (some_below g (type_in g (ctx ++ ps ∷ []) e) r && shallow left e) && (weight_in g (ctx ++ ps ∷ []) e + binders_weight g (length ps) + step_in g (type_in g (ctx ++ ps ∷ []) e) r == k)
 
 -- a term may stand as this argument, and weighs k there
 abbrev pub suits_at : Parts → List (List ℕ) → ℕ → Arg → ℕ → Expr → Bool
@@ -39,7 +39,7 @@ suits_at g ctx left (Fun ps r) k e = suits_under g ctx left ps r k e
 -- below the limit the candidates of each argument are right
 abbrev pub AreServed : Parts → List (List ℕ) → ℕ → Table → Inner → ℕ → List Arg → Type 0
 AreServed g ctx left here under limit [] = Unit {0}
-AreServed g ctx left here under limit (a ∷ more) = ((k : ℕ) → k < limit → (e : Expr) → count (expr_eq e) (candidates here under a k) ≡ once_if (suits_at g ctx left a k e)) × AreServed g ctx left here under limit more
+AreServed g ctx left here under limit (a ∷ more) = ((k : ℕ) → k < limit → (e : Expr) → count (expr_eq e) (candidates g here under a k) ≡ once_if (suits_at g ctx left a k e)) × AreServed g ctx left here under limit more
 
 count_placed_plain : (e : Expr) (rest : Args) (d : Expr) (more : List Args) → count (args_eq (plain e rest)) (map (plain d) more) ≡ once_if (expr_eq e d) * count (args_eq rest) more
 count_placed_plain e rest d more = count-map (args_eq (plain e rest)) (plain d) more ∙ count-and (expr_eq e d) (args_eq rest) more
@@ -106,43 +106,43 @@ shuffle false b c d = refl
 
 -- a lambda weighs its binders more
 pub count-bound : (g : Parts) (ctx : List (List ℕ)) (left n r k : ℕ) (f : ℕ → List Expr) (e : Expr) → ((j : ℕ) → j ≤ k → count (expr_eq e) (f j) ≡ once_if (suits g ctx left j r e))
-    → count (expr_eq e) (bound f n k) ≡ once_if ((some_below g (type_in g ctx e) r && shallow left e) && (weight_in g ctx e + n + step (type_in g ctx e) r == k))
+    → count (expr_eq e) (bound f n k) ≡ once_if ((some_below g (type_in g ctx e) r && shallow left e) && (weight_in g ctx e + n + step_in g (type_in g ctx e) r == k))
 count-bound g ctx left n r k f e h = count-cond (expr_eq e) (nat_le n k) (f (k - n)) ∙ (elim (cases_lt k n) [
-  | inl short ↦ rw (lt-leb n k short, ne_eqb (weight_in g ctx e + n + step (type_in g ctx e) r) k (λ q. omega arith)) (sym (ap once_if (and_no (some_below g (type_in g ctx e) r && shallow left e))))
-  | inr long ↦ rw (le-leb n k long, h (k - n) (omega arith), same_eqb (weight_in g ctx e + step (type_in g ctx e) r) (k - n) (weight_in g ctx e + n + step (type_in g ctx e) r) k (λ q. omega arith) (λ q. omega arith)) refl
+  | inl short ↦ rw (lt-leb n k short, ne_eqb (weight_in g ctx e + n + step_in g (type_in g ctx e) r) k (λ q. omega arith)) (sym (ap once_if (and_no (some_below g (type_in g ctx e) r && shallow left e))))
+  | inr long ↦ rw (le-leb n k long, h (k - n) (omega arith), same_eqb (weight_in g ctx e + step_in g (type_in g ctx e) r) (k - n) (weight_in g ctx e + n + step_in g (type_in g ctx e) r) k (λ q. omega arith) (λ q. omega arith)) refl
 ])
 
 -- each list of arguments that fits the places and weighs exactly w is made once
 pub count-fills : (g : Parts) (ctx : List (List ℕ)) (left : ℕ) (here : Table) (under : Inner) (limit : ℕ) → length ctx + left ≤ 3 → (wanted : List Arg) → AreServed g ctx left here under limit wanted → (w : ℕ) → w < limit → (xs : Args)
-    → count (args_eq xs) (fills here under wanted w) ≡ once_if ((fits g ctx xs wanted && args_shallow left xs) && (args_weight g ctx xs wanted == w))
+    → count (args_eq xs) (fills g here under wanted w) ≡ once_if ((fits g ctx xs wanted && args_shallow left xs) && (args_weight g ctx xs wanted == w))
 unfolding fills fits args_weight args_shallow
 count-fills g ctx left here under limit room [] s w l no_args = none_left w
 count-fills g ctx left here under limit room [] s w l (plain e rest) = other_left (w == 0) (plain e rest) refl
 count-fills g ctx left here under limit room [] s w l (lam e rest) = other_left (w == 0) (lam e rest) refl
 count-fills g ctx left here under limit room (Plain b ∷ more) s w l no_args =
-    count-flat_map (args_eq no_args) _ (range_with_len 0 (w + 1)) ∙ total-none _ 0 (w + 1) (λ k low high. no_firsts (Plain b) no_args _ (fills here under more (w - k)) (λ d r. refl))
+    count-flat_map (args_eq no_args) _ (range_with_len 0 (w + 1)) ∙ total-none _ 0 (w + 1) (λ k low high. no_firsts (Plain b) no_args _ (fills g here under more (w - k)) (λ d r. refl))
 count-fills g ctx left here under limit room (Plain b ∷ more) s w l (plain e rest) =
     count-flat_map (args_eq (plain e rest)) _ (range_with_len 0 (w + 1))
     ∙ total-same_within _ (λ k. once_if (suits g ctx left k b e) * once_if ((fits g ctx rest more && args_shallow left rest) && (args_weight g ctx rest more == w - k))) 0 (w + 1) (λ k low high.
-    count-firsts (Plain b) e rest (here k b) (fills here under more (w - k)) ∙ rw (s.0 k (omega arith) e, count-fills g ctx left here under limit room more s.1 (w - k) (omega arith) rest) refl)
-    ∙ pick_pair (some_below g (type_in g ctx e) b && shallow left e) (fits g ctx rest more && args_shallow left rest) (weight_in g ctx e + step (type_in g ctx e) b) (args_weight g ctx rest more) w
-    ∙ ap (λ t. once_if (t && (weight_in g ctx e + step (type_in g ctx e) b + args_weight g ctx rest more == w))) (shuffle (some_below g (type_in g ctx e) b) (shallow left e) (fits g ctx rest more) (args_shallow left rest))
+    count-firsts (Plain b) e rest (here k b) (fills g here under more (w - k)) ∙ rw (s.0 k (omega arith) e, count-fills g ctx left here under limit room more s.1 (w - k) (omega arith) rest) refl)
+    ∙ pick_pair (some_below g (type_in g ctx e) b && shallow left e) (fits g ctx rest more && args_shallow left rest) (weight_in g ctx e + step_in g (type_in g ctx e) b) (args_weight g ctx rest more) w
+    ∙ ap (λ t. once_if (t && (weight_in g ctx e + step_in g (type_in g ctx e) b + args_weight g ctx rest more == w))) (shuffle (some_below g (type_in g ctx e) b) (shallow left e) (fits g ctx rest more) (args_shallow left rest))
 count-fills g ctx left here under limit room (Plain b ∷ more) s w l (lam e rest) =
-    count-flat_map (args_eq (lam e rest)) _ (range_with_len 0 (w + 1)) ∙ total-none _ 0 (w + 1) (λ k low high. no_firsts (Plain b) (lam e rest) _ (fills here under more (w - k)) (λ d r. refl))
+    count-flat_map (args_eq (lam e rest)) _ (range_with_len 0 (w + 1)) ∙ total-none _ 0 (w + 1) (λ k low high. no_firsts (Plain b) (lam e rest) _ (fills g here under more (w - k)) (λ d r. refl))
 count-fills g ctx left here under limit room (Fun ps r ∷ more) s w l no_args =
-    count-flat_map (args_eq no_args) _ (range_with_len 0 (w + 1)) ∙ total-none _ 0 (w + 1) (λ k low high. no_firsts (Fun ps r) no_args _ (fills here under more (w - k)) (λ d q. refl))
+    count-flat_map (args_eq no_args) _ (range_with_len 0 (w + 1)) ∙ total-none _ 0 (w + 1) (λ k low high. no_firsts (Fun ps r) no_args _ (fills g here under more (w - k)) (λ d q. refl))
 count-fills g ctx left here under limit room (Fun ps r ∷ more) s w l (plain e rest) =
-    count-flat_map (args_eq (plain e rest)) _ (range_with_len 0 (w + 1)) ∙ total-none _ 0 (w + 1) (λ k low high. no_firsts (Fun ps r) (plain e rest) _ (fills here under more (w - k)) (λ d q. refl))
+    count-flat_map (args_eq (plain e rest)) _ (range_with_len 0 (w + 1)) ∙ total-none _ 0 (w + 1) (λ k low high. no_firsts (Fun ps r) (plain e rest) _ (fills g here under more (w - k)) (λ d q. refl))
 count-fills g ctx zero here under limit room (Fun ps r ∷ more) s w l (lam e rest) =
     count-flat_map (args_eq (lam e rest)) _ (range_with_len 0 (w + 1))
-    ∙ total-none _ 0 (w + 1) (λ k low high. count-firsts (Fun ps r) e rest (candidates here under (Fun ps r) k) (fills here under more (w - k)) ∙ rw (s.0 k (omega arith) e) (zero-mul _))
+    ∙ total-none _ 0 (w + 1) (λ k low high. count-firsts (Fun ps r) e rest (candidates g here under (Fun ps r) k) (fills g here under more (w - k)) ∙ rw (s.0 k (omega arith) e) (zero-mul _))
     ∙ sym (ap (λ t. once_if (t && (args_weight g ctx (lam e rest) (Fun ps r ∷ more) == w))) (and_no (fits g ctx (lam e rest) (Fun ps r ∷ more))))
 count-fills g ctx (suc left) here under limit room (Fun ps r ∷ more) s w l (lam e rest) =
     let inner = ctx ++ ps ∷ [] in
-    let weighs = weight_in g inner e + length ps + step (type_in g inner e) r in
+    let weighs = weight_in g inner e + binders_weight g (length ps) + step_in g (type_in g inner e) r in
     count-flat_map (args_eq (lam e rest)) _ (range_with_len 0 (w + 1))
     ∙ total-same_within _ (λ k. once_if ((some_below g (type_in g inner e) r && shallow left e) && (weighs == k)) * once_if ((fits g ctx rest more && args_shallow (suc left) rest) && (args_weight g ctx rest more == w - k))) 0 (w + 1) (λ k low high.
-    count-firsts (Fun ps r) e rest (candidates here under (Fun ps r) k) (fills here under more (w - k))
+    count-firsts (Fun ps r) e rest (candidates g here under (Fun ps r) k) (fills g here under more (w - k))
     ∙ rw (s.0 k (omega arith) e, count-fills g ctx (suc left) here under limit room more s.1 (w - k) (omega arith) rest) refl)
     ∙ pick_pair (some_below g (type_in g inner e) r && shallow left e) (fits g ctx rest more && args_shallow (suc left) rest) weighs (args_weight g ctx rest more) w
     ∙ ap (λ t. once_if (t && (weighs + args_weight g ctx rest more == w))) (shuffle (some_below g (type_in g inner e) r) (shallow left e) (fits g ctx rest more) (args_shallow (suc left) rest))
@@ -162,9 +162,9 @@ when_below true h = h refl
 when_below false h = refl
 
 -- the same weight, by the type of the whole
-by_type : (g : Parts) (d : Decl) (b : ℕ) (fit flat : Bool) (args w : ℕ) → once_if ((is_below g d.result b && (fit && flat)) && (cost g d b + args == w)) ≡ once_if ((some_below g (result_if (Some d) fit) b && flat) && (d.weight + args + step (result_if (Some d) fit) b == w))
+by_type : (g : Parts) (d : Decl) (b : ℕ) (fit flat : Bool) (args w : ℕ) → once_if ((is_below g d.result b && (fit && flat)) && (cost g d b + args == w)) ≡ once_if ((some_below g (result_if (Some d) fit) b && flat) && (d.weight + args + step_in g (result_if (Some d) fit) b == w))
 by_type g d b true flat args w =
-    let e : cost g d b + args ≡ d.weight + args + step (Some d.result) b = omega arith in
+    let e : cost g d b + args ≡ d.weight + args + step_in g (Some d.result) b = omega arith in
     rw e refl
 by_type g d b false flat args w = ap (λ t. once_if (t && (cost g d b + args == w))) (and_no (is_below g d.result b))
 
@@ -175,12 +175,12 @@ pub record IsServed (g : Parts) (ctx : List (List ℕ)) (left : ℕ) (here : Tab
 
 -- a declaration heads each term that it begins and that may stand at the place
 count-headed : (g : Parts) (ctx : List (List ℕ)) (left : ℕ) (here : Table) (under : Inner) (w b n : ℕ) → length ctx + left ≤ 3 → (o : Option Decl) → ((d : Decl) → o ≡ Some d → IsServed g ctx left here under w d) → (xs : Args)
-    → count (expr_eq (head n xs)) (headed g here under w b n o) ≡ once_if ((some_below g (result_if o (fits g ctx xs (args_wanted o))) b && args_shallow left xs) && (decl_weight o + args_weight g ctx xs (args_wanted o) + step (result_if o (fits g ctx xs (args_wanted o))) b == w))
+    → count (expr_eq (head n xs)) (headed g here under w b n o) ≡ once_if ((some_below g (result_if o (fits g ctx xs (args_wanted o))) b && args_shallow left xs) && (decl_weight o + args_weight g ctx xs (args_wanted o) + step_in g (result_if o (fits g ctx xs (args_wanted o))) b == w))
 count-headed g ctx left here under w b n room None served xs = refl
 count-headed g ctx left here under w b n room (Some d) served xs =
     let decl = served d refl in
     let below = is_below g d.result b && nat_le (cost g d b) w in
-    let list = fills here under d.args (w - cost g d b) in
+    let list = fills g here under d.args (w - cost g d b) in
     let inner : count (expr_eq (head n xs)) (map (head n) list) ≡ count (args_eq xs) list =
     count-map (expr_eq (head n xs)) (head n) list ∙ count-and (n == n) (args_eq xs) list ∙ rw (eq-eqb n n refl) (one-mul (count (args_eq xs) list)) in
     count-cond (expr_eq (head n xs)) below (map (head n) list)
@@ -201,12 +201,12 @@ one_variable true e n true h = rw h refl
 one_variable true e n false h = rw h refl
 one_variable false e n m h = refl
 
-variable_is : (g : Parts) (w b n : ℕ) (t : Option ℕ) → variable g w b n t ≡ cond (some_below g t b && (1 + step t b == w)) (var n ∷ []) []
+variable_is : (g : Parts) (w b n : ℕ) (t : Option ℕ) → variable g w b n t ≡ cond (some_below g t b && (variable_weight g + step_in g t b == w)) (var n ∷ []) []
 variable_is g w b n None = refl
 variable_is g w b n (Some a) = refl
 
-count-variable : (g : Parts) (w b n : ℕ) (t : Option ℕ) (e : Expr) (m : Bool) → expr_eq e (var n) ≡ m → count (expr_eq e) (variable g w b n t) ≡ once_if ((some_below g t b && (1 + step t b == w)) && m)
-count-variable g w b n t e m h = ap (λ es. count (expr_eq e) es) (variable_is g w b n t) ∙ one_variable (some_below g t b && (1 + step t b == w)) e n m h
+count-variable : (g : Parts) (w b n : ℕ) (t : Option ℕ) (e : Expr) (m : Bool) → expr_eq e (var n) ≡ m → count (expr_eq e) (variable g w b n t) ≡ once_if ((some_below g t b && (variable_weight g + step_in g t b == w)) && m)
+count-variable g w b n t e m h = ap (λ es. count (expr_eq e) es) (variable_is g w b n t) ∙ one_variable (some_below g t b && (variable_weight g + step_in g t b == w)) e n m h
 
 -- each term that may stand at the place at this weight is made once, and no other
 pub count-made : (g : Parts) (ctx : List (List ℕ)) (left : ℕ) (here : Table) (under : Inner) (w b : ℕ) → length ctx + left ≤ 3 → ((n : ℕ) (d : Decl) → slice_get g.decls n ≡ Some d → IsServed g ctx left here under w d) → (e : Expr)
@@ -214,13 +214,13 @@ pub count-made : (g : Parts) (ctx : List (List ℕ)) (left : ℕ) (here : Table)
 unfolding type_in weight_in shallow
 count-made g ctx left here under w b room served (var m) =
     let vs = joined ctx in
-    let v : ℕ → Bool = λ n. some_below g (slice_get vs n) b && (1 + step (slice_get vs n) b == w) in
+    let v : ℕ → Bool = λ n. some_below g (slice_get vs n) b && (variable_weight g + step_in g (slice_get vs n) b == w) in
     count-append (expr_eq (var m)) (variables g vs w b) (heads g here under w b)
     ∙ rw (count-flat_map (expr_eq (var m)) (λ n. headed g here under w b n (slice_get g.decls n)) (range_with_len 0 (length g.decls)) ∙ total-none _ 0 (length g.decls) (λ n low high. no_var g here under w b n m (slice_get g.decls n)))
     (add-zero _ ∙ count-flat_map (expr_eq (var m)) _ (range_with_len 0 (length vs))
     ∙ total-same _ (λ n. once_if (v n && (m == n))) (range_with_len 0 (length vs)) (λ n. count-variable g w b n (slice_get vs n) (var m) (m == n) refl)
     ∙ (elim (cases_lt m (length vs)) [
-      | inl inside ↦ total-hit _ 0 m (length vs) inside (λ n low high other. rw (ne_eqb m n (λ e. other (omega arith))) (ap once_if (and_no (v n)))) ∙ rw (zero-add m, eq-eqb m m refl) (ap once_if (and_yes (v m) ∙ ap (λ t. t && (1 + step (slice_get vs m) b == w)) (sym (and_yes (some_below g (slice_get vs m) b)))))
+      | inl inside ↦ total-hit _ 0 m (length vs) inside (λ n low high other. rw (ne_eqb m n (λ e. other (omega arith))) (ap once_if (and_no (v n)))) ∙ rw (zero-add m, eq-eqb m m refl) (ap once_if (and_yes (v m) ∙ ap (λ t. t && (variable_weight g + step_in g (slice_get vs m) b == w)) (sym (and_yes (some_below g (slice_get vs m) b)))))
       | inr past ↦ total-none _ 0 (length vs) (λ n low high. rw (ne_eqb m n (λ e. omega arith)) (ap once_if (and_no (v n)))) ∙ rw (slice_get_past vs m past) refl
     ]))
 count-made g ctx left here under w b room served (head m xs) =

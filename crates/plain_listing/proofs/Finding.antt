@@ -94,40 +94,40 @@ shallow-push old new c outer ps depth is more low before n ctx at = elim (slice_
 ]
 
 -- what was met stays so
-met-kept : (limit : ℕ) (old new : List (List (List ℕ))) (ctx : List (List ℕ)) (a : Arg) → Keeps old new → IsMet limit old ctx a → IsMet limit new ctx a
-met-kept limit old new ctx (Plain b) keeps h = tt
-met-kept limit old new ctx (Fun ps r) keeps (inl at) = inl (at.0, keeps at.0 (ctx ++ ps ∷ []) at.1)
-met-kept limit old new ctx (Fun ps r) keeps (inr long) = inr long
+met-kept : (g : Parts) (old new : List (List (List ℕ))) (ctx : List (List ℕ)) (a : Arg) → Keeps old new → IsMet g old ctx a → IsMet g new ctx a
+met-kept g old new ctx (Plain b) keeps h = tt
+met-kept g old new ctx (Fun ps r) keeps (inl at) = inl (at.0, keeps at.0 (ctx ++ ps ∷ []) at.1)
+met-kept g old new ctx (Fun ps r) keeps (inr long) = inr long
 
-all_met-kept : (limit : ℕ) (old new : List (List (List ℕ))) (ctx : List (List ℕ)) (decls : List Decl) (count : ℕ) → Keeps old new → AreAllMet limit old ctx decls count → AreAllMet limit new ctx decls count
-all_met-kept limit old new ctx decls count keeps h n d low at i a within is = met-kept limit old new ctx a keeps (h n d low at i a within is)
+all_met-kept : (g : Parts) (old new : List (List (List ℕ))) (ctx : List (List ℕ)) (decls : List Decl) (count : ℕ) → Keeps old new → AreAllMet g old ctx decls count → AreAllMet g new ctx decls count
+all_met-kept g old new ctx decls count keeps h n d low at i a within is = met-kept g old new ctx a keeps (h n d low at i a within is)
 
 -- one argument more
-pub met-next : (limit : ℕ) (old new : List (List (List ℕ))) (ctx : List (List ℕ)) (args : List Arg) (i : ℕ) (a : Arg) → slice_get args i ≡ Some a → Keeps old new → AreMet limit old ctx args i → IsMet limit new ctx a → AreMet limit new ctx args (i + 1)
-met-next limit old new ctx args i a at keeps before here j b low is = elim (cases_lt j i) [
-  | inl earlier ↦ met-kept limit old new ctx b keeps (before j b earlier is)
-  | inr last ↦ (let same : j ≡ i = omega (arith, low, last) in subst (λ x. IsMet limit new ctx x) (some_same a b (sym at ∙ ap (slice_get args) (sym same) ∙ is)) here)
+pub met-next : (g : Parts) (old new : List (List (List ℕ))) (ctx : List (List ℕ)) (args : List Arg) (i : ℕ) (a : Arg) → slice_get args i ≡ Some a → Keeps old new → AreMet g old ctx args i → IsMet g new ctx a → AreMet g new ctx args (i + 1)
+met-next g old new ctx args i a at keeps before here j b low is = elim (cases_lt j i) [
+  | inl earlier ↦ met-kept g old new ctx b keeps (before j b earlier is)
+  | inr last ↦ (let same : j ≡ i = omega (arith, low, last) in subst (λ x. IsMet g new ctx x) (some_same a b (sym at ∙ ap (slice_get args) (sym same) ∙ is)) here)
 ]
 
 -- one declaration more
-pub all_met-next : (limit : ℕ) (old new : List (List (List ℕ))) (ctx : List (List ℕ)) (decls : List Decl) (n : ℕ) (d : Decl) → slice_get decls n ≡ Some d → Keeps old new → AreAllMet limit old ctx decls n → AreMet limit new ctx d.args (length d.args) → AreAllMet limit new ctx decls (n + 1)
-all_met-next limit old new ctx decls n d at keeps before here m e low is = elim (cases_lt m n) [
-  | inl earlier ↦ (λ i a within there. met-kept limit old new ctx a keeps (before m e earlier is i a within there))
-  | inr last ↦ (let same : m ≡ n = omega (arith, low, last) in subst (λ (x : Decl). AreMet limit new ctx x.args (length x.args)) (some_same d e (sym at ∙ ap (slice_get decls) (sym same) ∙ is)) here)
+pub all_met-next : (g : Parts) (old new : List (List (List ℕ))) (ctx : List (List ℕ)) (decls : List Decl) (n : ℕ) (d : Decl) → slice_get decls n ≡ Some d → Keeps old new → AreAllMet g old ctx decls n → AreMet g new ctx d.args (length d.args) → AreAllMet g new ctx decls (n + 1)
+all_met-next g old new ctx decls n d at keeps before here m e low is = elim (cases_lt m n) [
+  | inl earlier ↦ (λ i a within there. met-kept g old new ctx a keeps (before m e earlier is i a within there))
+  | inr last ↦ (let same : m ≡ n = omega (arith, low, last) in subst (λ (x : Decl). AreMet g new ctx x.args (length x.args)) (some_same d e (sym at ∙ ap (slice_get decls) (sym same) ∙ is)) here)
 ]
 
 -- one context more is closed
-pub closed-next : (g : Parts) (depth : ℕ) (old new : List (List (List ℕ))) (n : ℕ) (outer : List (List ℕ)) → slice_get old n ≡ Some outer → Keeps old new → AreClosed g depth old n → (length outer < depth → AreAllMet g.limit new outer g.decls (length g.decls)) → AreClosed g depth new (n + 1)
+pub closed-next : (g : Parts) (depth : ℕ) (old new : List (List (List ℕ))) (n : ℕ) (outer : List (List ℕ)) → slice_get old n ≡ Some outer → Keeps old new → AreClosed g depth old n → (length outer < depth → AreAllMet g new outer g.decls (length g.decls)) → AreClosed g depth new (n + 1)
 closed-next g depth old new n outer at keeps before here m ctx low is room = elim (cases_lt m n) [
   | inl earlier ↦ (
       let within : m < length old = (let w = slice_get_within old n outer at in omega (arith, w, earlier)) in
       let there : slice_get old m ≡ Some (get_or old m []) = slice_get-get_or old m [] within in
       let same : get_or old m [] ≡ ctx = some_same (get_or old m []) ctx (sym (keeps m (get_or old m []) there) ∙ is) in
-      all_met-kept g.limit old new ctx g.decls (length g.decls) keeps (before m ctx earlier (there ∙ ap (λ x. Some x) same) room))
+      all_met-kept g old new ctx g.decls (length g.decls) keeps (before m ctx earlier (there ∙ ap (λ x. Some x) same) room))
   | inr last ↦ (
       let last_is : m ≡ n = omega (arith, low, last) in
       let same : outer ≡ ctx = some_same outer ctx (sym (keeps n outer at) ∙ ap (slice_get new) (sym last_is) ∙ is) in
-      subst (λ x. AreAllMet g.limit new x g.decls (length g.decls)) same (here (subst (λ x. length x < depth) (sym same) room)))
+      subst (λ x. AreAllMet g new x g.decls (length g.decls)) same (here (subst (λ x. length x < depth) (sym same) room)))
 ]
 
 -- the empty context alone

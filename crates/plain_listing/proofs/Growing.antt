@@ -6,7 +6,7 @@ use Rattle.std.proofs.lemmas.List.{length_push}
 use Rattle.std.proofs.lemmas.Option.{slice_get_within}
 use Rattle.terms.specs.Expr.{Expr}
 use Rattle.terms.specs.Typing.{most_rows, type_in, some_below, joined}
-use Rattle.terms.specs.Weights.{step, weight_in}
+use Rattle.terms.specs.Weights.{binders_weight, step_in, weight_in}
 use Rattle.terms.specs.Count.{expr_eq, once_if, count}
 use Rattle.terms.specs.Place.{shallow, goal_place, fits_place, weigh}
 use Rattle.terms.specs.Listing.{level_of}
@@ -32,10 +32,10 @@ no_bodies k n e = go (nat_le n k)
     go false = refl
 
 -- where no lambda may stand there are no bodies
-none_under : (cs : List (List (List ℕ))) (rows : List (List (List (List Term)))) (depth : ℕ) (ctx : List (List ℕ)) (here : Table) (ps : List ℕ) (r k : ℕ) (e : Expr) → depth ≤ length ctx → count (expr_eq e) (candidates here (under cs rows depth ctx) (Fun ps r) k) ≡ 0
-none_under cs rows depth ctx here ps r k e full =
-    let P : Option ℕ → Type 0 = λ o. count (expr_eq e) (bound (λ j. by_number o rows j r) (length ps) k) ≡ 0 in
-    subst P (sym (if_no (nat_lt (length ctx) depth) (number_of cs (ctx ++ ps ∷ [])) None (le-ltb (length ctx) depth full))) (no_bodies k (length ps) e)
+none_under : (g : Parts) (cs : List (List (List ℕ))) (rows : List (List (List (List Term)))) (depth : ℕ) (ctx : List (List ℕ)) (here : Table) (ps : List ℕ) (r k : ℕ) (e : Expr) → depth ≤ length ctx → count (expr_eq e) (candidates g here (under cs rows depth ctx) (Fun ps r) k) ≡ 0
+none_under g cs rows depth ctx here ps r k e full =
+    let P : Option ℕ → Type 0 = λ o. count (expr_eq e) (bound (λ j. by_number o rows j r) (binders_weight g (length ps)) k) ≡ 0 in
+    subst P (sym (if_no (nat_lt (length ctx) depth) (number_of cs (ctx ++ ps ∷ [])) None (le-ltb (length ctx) depth full))) (no_bodies k (binders_weight g (length ps)) e)
 
 -- the number of a body's context, where a lambda may stand
 number-open : (cs : List (List (List ℕ))) (depth : ℕ) (ctx : List (List ℕ)) (ps : List ℕ) → length ctx < depth → number_under cs depth ctx ps ≡ number_of cs (ctx ++ ps ∷ [])
@@ -43,23 +43,23 @@ number-open cs depth ctx ps low = if_yes (nat_lt (length ctx) depth) (number_of 
 
 -- a lambda that may stand, by its context's number
 numbered_under : (g : Parts) (depth : ℕ) (cs : List (List (List ℕ))) (rows : List (List (List (List Term)))) (here : Table) (limit left : ℕ) (ctx : List (List ℕ)) → AreRight g depth cs rows limit → length ctx + suc left ≡ depth → (ps : List ℕ) (r k : ℕ) (e : Expr) → r < length g.types → k < limit → HasNumber 0 cs (ctx ++ ps ∷ [])
-    → count (expr_eq e) (candidates here (under cs rows depth ctx) (Fun ps r) k) ≡ once_if (suits_under g ctx (suc left) ps r k e)
+    → count (expr_eq e) (candidates g here (under cs rows depth ctx) (Fun ps r) k) ≡ once_if (suits_under g ctx (suc left) ps r k e)
 numbered_under g depth cs rows here limit left ctx right room ps r k e known l has =
     let inner = ctx ++ ps ∷ [] in
     let s = number-there 0 cs inner has.number has.is in
     let at_place : slice_get cs has.number ≡ Some inner = ap (slice_get cs) (omega (arith, s.counted)) ∙ s.there in
     let deep : length inner + left ≡ depth = (let long = length-extended ctx ps in omega (arith, long, room)) in
     let number : number_under cs depth ctx ps ≡ Some has.number = number-open cs depth ctx ps (omega (arith, room)) ∙ has.is in
-    let P : Option ℕ → Type 0 = λ o. count (expr_eq e) (bound (λ j. by_number o rows j r) (length ps) k) ≡ once_if (suits_under g ctx (suc left) ps r k e) in
-    subst P (sym number) (count-bound g inner left (length ps) r k (λ j. at rows has.number j r) e (λ j m. right has.number left inner at_place deep j r (omega arith) known e ∙ ap once_if (stands-suits g inner left j r e)))
+    let P : Option ℕ → Type 0 = λ o. count (expr_eq e) (bound (λ j. by_number o rows j r) (binders_weight g (length ps)) k) ≡ once_if (suits_under g ctx (suc left) ps r k e) in
+    subst P (sym number) (count-bound g inner left (binders_weight g (length ps)) r k (λ j. at rows has.number j r) e (λ j m. right has.number left inner at_place deep j r (omega arith) known e ∙ ap once_if (stands-suits g inner left j r e)))
 
 -- a lambda whose binders alone pass the limit
-long_under : (g : Parts) (here : Table) (u : Inner) (ctx : List (List ℕ)) (left : ℕ) (ps : List ℕ) (r k : ℕ) (e : Expr) → k < length ps → count (expr_eq e) (candidates here u (Fun ps r) k) ≡ once_if (suits_under g ctx (suc left) ps r k e)
+long_under : (g : Parts) (here : Table) (u : Inner) (ctx : List (List ℕ)) (left : ℕ) (ps : List ℕ) (r k : ℕ) (e : Expr) → k < binders_weight g (length ps) → count (expr_eq e) (candidates g here u (Fun ps r) k) ≡ once_if (suits_under g ctx (suc left) ps r k e)
 long_under g here u ctx left ps r k e l =
     let inner = ctx ++ ps ∷ [] in
     let fits = some_below g (type_in g inner e) r && shallow left e in
-    let weighs = weight_in g inner e + length ps + step (type_in g inner e) r in
-    rw (lt-leb (length ps) k l, ne_eqb weighs k (λ q. omega arith)) (go fits)
+    let weighs = weight_in g inner e + binders_weight g (length ps) + step_in g (type_in g inner e) r in
+    rw (lt-leb (binders_weight g (length ps)) k l, ne_eqb weighs k (λ q. omega arith)) (go fits)
   where
     go : (b : Bool) → 0 ≡ once_if (b && false)
     go true = refl
@@ -67,18 +67,18 @@ long_under g here u ctx left ps r k e l =
 
 -- the arguments in a context
 serve : (g : Parts) (depth : ℕ) (cs : List (List (List ℕ))) (rows : List (List (List (List Term)))) (limit n left : ℕ) (ctx : List (List ℕ)) → slice_get cs n ≡ Some ctx → length ctx + left ≡ depth → limit ≤ g.limit → AreRight g depth cs rows limit → (wanted : List Arg) → list_all (is_arg_known (length g.types)) wanted ≡ true
-    → ((i : ℕ) (a : Arg) → slice_get wanted i ≡ Some a → 0 < left → IsMet g.limit cs ctx a) → AreServed g ctx left (at rows n) (under cs rows depth ctx) limit wanted
+    → ((i : ℕ) (a : Arg) → slice_get wanted i ≡ Some a → 0 < left → IsMet g cs ctx a) → AreServed g ctx left (at rows n) (under cs rows depth ctx) limit wanted
 serve g depth cs rows limit n left ctx is room within right [] known met = tt
 serve g depth cs rows limit n left ctx is room within right (Plain b ∷ more) known met =
     let both = and_parts (is_arg_known (length g.types) (Plain b)) (list_all (is_arg_known (length g.types)) more) known in
     ((λ k l e. right n left ctx is room k b l (ltb-true b (length g.types) both.0) e ∙ ap once_if (stands-suits g ctx left k b e)), serve g depth cs rows limit n left ctx is room within right more both.1 (λ i a at. met (suc i) a at))
 serve g depth cs rows limit n zero ctx is room within right (Fun ps r ∷ more) known met =
     let both = and_parts (is_arg_known (length g.types) (Fun ps r)) (list_all (is_arg_known (length g.types)) more) known in
-    ((λ k l e. none_under cs rows depth ctx (at rows n) ps r k e (omega (arith, room))), serve g depth cs rows limit n zero ctx is room within right more both.1 (λ i a at. met (suc i) a at))
+    ((λ k l e. none_under g cs rows depth ctx (at rows n) ps r k e (omega (arith, room))), serve g depth cs rows limit n zero ctx is room within right more both.1 (λ i a at. met (suc i) a at))
 serve g depth cs rows limit n (suc left) ctx is room within right (Fun ps r ∷ more) known met =
     let both = and_parts (is_arg_known (length g.types) (Fun ps r)) (list_all (is_arg_known (length g.types)) more) known in
     let body = and_parts (list_all (λ p. nat_lt p (length g.types)) ps) (nat_lt r (length g.types)) both.0 in
-    let here : IsAmong cs (ctx ++ ps ∷ []) ⊎ (g.limit < length ps) = met 0 (Fun ps r) refl (omega arith) in (
+    let here : IsAmong cs (ctx ++ ps ∷ []) ⊎ (g.limit < binders_weight g (length ps)) = met 0 (Fun ps r) refl (omega arith) in (
       (λ k l e. elim here [
         | inl among ↦ numbered_under g depth cs rows (at rows n) limit left ctx right room ps r k e (ltb-true r (length g.types) body.1) l (among-number cs (ctx ++ ps ∷ []) among)
         | inr long ↦ long_under g (at rows n) (under cs rows depth ctx) ctx left ps r k e (omega (arith, long, l, within))

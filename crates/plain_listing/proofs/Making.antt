@@ -4,6 +4,7 @@ use Rattle.std.specs.List.{range_with_len}
 use Rattle.std.proofs.lemmas.Bool.{ne_eqb}
 use Rattle.terms.specs.Expr.{Expr, Args, no_args}
 use Rattle.terms.specs.declared.parts.Arg.{Arg}
+use Rattle.terms.specs.declared.parts.Parts.{Parts}
 use Rattle.plain_listing.specs.Generate.{Table, Inner, candidates, firsts, fills}
 
 flat_map-range_more : {X : Type 0} (h : ℕ → List X) (a n : ℕ) → flat_map h (range_with_len a (n + 1)) ≡ flat_map h (range_with_len a n) ++ h (a + n)
@@ -20,17 +21,17 @@ flat_map-range_next h n = flat_map-range_more h 0 n ∙ ap (λ m. flat_map h (ra
 pub made_next : {X : Type 0} (h : ℕ → List X) (n : ℕ) (old now new : List X) → now ≡ old ++ flat_map h (range_with_len 0 n) → new ≡ now ++ h n → new ≡ old ++ flat_map h (range_with_len 0 (n + 1))
 made_next h n old now new before next = next ∙ ap (λ ys. ys ++ h n) before ∙ append_assoc old (flat_map h (range_with_len 0 n)) (h n) ∙ ap (λ ys. old ++ ys) (sym (flat_map-range_next h n))
 
-pub fills-none : (here : Table) (under : Inner) (w : ℕ) → 0 < w → fills here under [] w ≡ []
+pub fills-none : (g : Parts) (here : Table) (under : Inner) (w : ℕ) → 0 < w → fills g here under [] w ≡ []
 unfolding fills
-fills-none here under w l = rw (ne_eqb w 0 (λ e. omega arith)) refl
+fills-none g here under w l = rw (ne_eqb w 0 (λ e. omega arith)) refl
 
-pub fills-one : (here : Table) (under : Inner) → fills here under [] 0 ≡ no_args ∷ []
+pub fills-one : (g : Parts) (here : Table) (under : Inner) → fills g here under [] 0 ≡ no_args ∷ []
 unfolding fills
-fills-one here under = refl
+fills-one g here under = refl
 
-pub fills-cons : (here : Table) (under : Inner) (a : Arg) (more : List Arg) (w : ℕ) → fills here under (a ∷ more) w ≡ flat_map (λ k. firsts a (candidates here under a k) (fills here under more (w - k))) (range_with_len 0 (w + 1))
+pub fills-cons : (g : Parts) (here : Table) (under : Inner) (a : Arg) (more : List Arg) (w : ℕ) → fills g here under (a ∷ more) w ≡ flat_map (λ k. firsts a (candidates g here under a k) (fills g here under more (w - k))) (range_with_len 0 (w + 1))
 unfolding fills
-fills-cons here under a more w = refl
+fills-cons g here under a more w = refl
 
 -- without a candidate nothing is added
 pub firsts_none : (a : Arg) (es : List Expr) (more : List Args) → es ≡ [] → firsts a es more ≡ []

@@ -3,7 +3,7 @@ use Rattle.std.specs.Prelude.{ℕ, ◌+◌, ◌-◌, ◌==◌, ◌&&◌, nat_le,
 use Rattle.std.specs.List.{range_with_len, flat_map}
 use Rattle.terms.specs.Expr.{Expr, var, head, Args, no_args}
 use Rattle.terms.specs.Typing.{is_below, placed}
-use Rattle.terms.specs.Weights.{variable_weight, step_in}
+use Rattle.terms.specs.Weights.{variable_weight, binders_weight, step_in}
 use Rattle.terms.specs.declared.parts.Arg.{Arg}
 use Rattle.terms.specs.declared.parts.Arg.TheVariants.{Plain, Fun}
 use Rattle.terms.specs.declared.parts.Decl.{Decl}
@@ -17,23 +17,23 @@ Table = ℕ → ℕ → List Expr
 abbrev pub Inner : Type 0
 Inner = List ℕ → Table
 
--- a lambda's body with n binders above it weighs n more
+-- a lambda's body under binders that weigh n weighs n more
 abbrev pub bound : (ℕ → List Expr) → ℕ → ℕ → List Expr
 bound bodies n k = cond (nat_le n k) (bodies (k - n)) []
 
 -- the terms that may stand at an argument and weigh k there
-abbrev pub candidates : Table → Inner → Arg → ℕ → List Expr
-candidates here under (Plain b) k = here k b
-candidates here under (Fun ps r) k = bound (λ j. under ps j r) (length ps) k
+abbrev pub candidates : Parts → Table → Inner → Arg → ℕ → List Expr
+candidates g here under (Plain b) k = here k b
+candidates g here under (Fun ps r) k = bound (λ j. under ps j r) (binders_weight g (length ps)) k
 
 -- each of the terms before each of the lists
 abbrev pub firsts : Arg → List Expr → List Args → List Args
 firsts a es more = flat_map (λ e. map (placed a e) more) es
 
 -- all arguments for these places that weigh exactly w together
-unfoldable pub fills : Table → Inner → List Arg → ℕ → List Args
-fills here under [] w = cond (w == 0) (no_args ∷ []) []
-fills here under (a ∷ more) w = flat_map (λ k. firsts a (candidates here under a k) (fills here under more (w - k))) (range_with_len 0 (w + 1))
+unfoldable pub fills : Parts → Table → Inner → List Arg → ℕ → List Args
+fills g here under [] w = cond (w == 0) (no_args ∷ []) []
+fills g here under (a ∷ more) w = flat_map (λ k. firsts a (candidates g here under a k) (fills g here under more (w - k))) (range_with_len 0 (w + 1))
 
 -- what a declaration costs at a place for b, its arguments left out
 abbrev pub cost : Parts → Decl → ℕ → ℕ
@@ -42,7 +42,7 @@ cost g d b = d.weight + step_in g (Some d.result) b
 -- the terms with this declaration at the head
 abbrev pub headed : Parts → Table → Inner → ℕ → ℕ → ℕ → Option Decl → List Expr
 headed g here under w b n None = []
-headed g here under w b n (Some d) = cond (is_below g d.result b && nat_le (cost g d b) w) (map (head n) (fills here under d.args (w - cost g d b))) []
+headed g here under w b n (Some d) = cond (is_below g d.result b && nat_le (cost g d b) w) (map (head n) (fills g here under d.args (w - cost g d b))) []
 
 -- variable n, where its type stands for b and it weighs just w there
 abbrev pub variable : Parts → ℕ → ℕ → ℕ → Option ℕ → List Expr

@@ -5,7 +5,7 @@ ghost use Rattle.plain_listing.specs.Contexts.{Keeps, IsMet, AreMet, AreAllMet, 
 use crate::plain_place::number_of;
 use lists::Items;
 use std::alloc::{AllocError, Global};
-use terms::{Arg, Decl, Parts};
+use terms::{Arg, Decl, Env};
 
 /// Copies of the rows.
 fn copy_rows(alloc: Global, rows: &[Items<u32>]) -> Result<Items<Items<u32>>, AllocError>
@@ -37,13 +37,13 @@ fn add_params(
     contexts: &mut Items<Items<Items<u32>>>,
     outer: &[Items<u32>],
     params: &[u32],
-    limit: u32,
+    env: &Env,
 ) -> Result<(), AllocError>
     ensures keeps { OnOk result (Keeps contexts.old contexts.new) }
     ensures shallow { OnOk result ((depth : ℕ) → length outer.now < depth → AreShallow depth contexts.old → AreShallow depth contexts.new) }
-    ensures met { OnOk result ((of : ℕ) → IsMet limit contexts.new outer.now (Fun params.now of)) }
+    ensures met { OnOk result ((of : ℕ) → IsMet env.now contexts.new outer.now (Fun params.now of)) }
 {
-    if params.len() > limit as usize {
+    if env.binders_weight(params.len()) > env.parts().limit as u64 {
         return Ok(());
     }
     match number_of(contexts.as_slice(), outer, params) {
@@ -61,16 +61,16 @@ fn add_arg(
     contexts: &mut Items<Items<Items<u32>>>,
     outer: &[Items<u32>],
     wanted: &Arg,
-    limit: u32,
+    env: &Env,
 ) -> Result<(), AllocError>
     ensures keeps { OnOk result (Keeps contexts.old contexts.new) }
     ensures shallow { OnOk result ((depth : ℕ) → length outer.now < depth → AreShallow depth contexts.old → AreShallow depth contexts.new) }
-    ensures met { OnOk result (IsMet limit contexts.new outer.now wanted.now) }
+    ensures met { OnOk result (IsMet env.now contexts.new outer.now wanted.now) }
 {
     match wanted {
         Arg::Plain(_) => Ok(()),
         Arg::Fun(params, _) => {
-            add_params(alloc, contexts, outer, params.as_slice(), limit)?;
+            add_params(alloc, contexts, outer, params.as_slice(), env)?;
             Ok(())
         }
     }
@@ -82,14 +82,14 @@ fn add_args(
     contexts: &mut Items<Items<Items<u32>>>,
     outer: &[Items<u32>],
     wanted: &[Arg],
-    limit: u32,
+    env: &Env,
 ) -> Result<(), AllocError>
     ensures keeps { OnOk result (Keeps contexts.old contexts.new) }
     ensures shallow { OnOk result ((depth : ℕ) → length outer.now < depth → AreShallow depth contexts.old → AreShallow depth contexts.new) }
-    ensures met { OnOk result (AreMet limit contexts.new outer.now wanted.now (length wanted.now)) }
+    ensures met { OnOk result (AreMet env.now contexts.new outer.now wanted.now (length wanted.now)) }
 {
     for i in 0..wanted.len() {
-        add_arg(alloc, contexts, outer, &wanted[i], limit)?;
+        add_arg(alloc, contexts, outer, &wanted[i], env)?;
     }
     Ok(())
 }
@@ -100,15 +100,15 @@ fn add_decls(
     contexts: &mut Items<Items<Items<u32>>>,
     outer: &[Items<u32>],
     decls: &[Decl],
-    limit: u32,
+    env: &Env,
 ) -> Result<(), AllocError>
     ensures keeps { OnOk result (Keeps contexts.old contexts.new) }
     ensures shallow { OnOk result ((depth : ℕ) → length outer.now < depth → AreShallow depth contexts.old → AreShallow depth contexts.new) }
-    ensures met { OnOk result (AreAllMet limit contexts.new outer.now decls.now (length decls.now)) }
+    ensures met { OnOk result (AreAllMet env.now contexts.new outer.now decls.now (length decls.now)) }
 {
     for n in 0..decls.len() {
         let decl = &decls[n];
-        add_args(alloc, contexts, outer, decl.args.as_slice(), limit)?;
+        add_args(alloc, contexts, outer, decl.args.as_slice(), env)?;
     }
     Ok(())
 }
@@ -118,17 +118,17 @@ fn add_inner(
     alloc: Global,
     contexts: &mut Items<Items<Items<u32>>>,
     outer: &[Items<u32>],
-    parts: &Parts,
+    env: &Env,
     depth: u32,
 ) -> Result<(), AllocError>
     ensures keeps { OnOk result (Keeps contexts.old contexts.new) }
     ensures shallow { OnOk result (AreShallow depth contexts.old → AreShallow depth contexts.new) }
-    ensures met { OnOk result (length outer.now < depth → AreAllMet parts.now.limit contexts.new outer.now parts.now.decls (length parts.now.decls)) }
+    ensures met { OnOk result (length outer.now < depth → AreAllMet env.now contexts.new outer.now env.now.decls (length env.now.decls)) }
 {
     if outer.len() >= depth as usize {
         return Ok(());
     }
-    add_decls(alloc, contexts, outer, parts.decls.as_slice(), parts.limit)?;
+    add_decls(alloc, contexts, outer, env.parts().decls.as_slice(), env)?;
     Ok(())
 }
 
@@ -136,10 +136,10 @@ fn add_inner(
 /// answered where they would be 2^32 or more.
 pub fn contexts_of(
     alloc: Global,
-    parts: &Parts,
+    env: &Env,
     depth: u32,
 ) -> Result<Items<Items<Items<u32>>>, AllocError>
-    ensures { IfOk result (λ contexts. AreContexts parts.now depth contexts) }
+    ensures { IfOk result (λ contexts. AreContexts env.now depth contexts) }
 {
     let mut contexts = Items::new(alloc);
     contexts.push(Items::new(alloc))?;
@@ -148,7 +148,7 @@ pub fn contexts_of(
             return Ok(contexts);
         }
         let outer = copy_rows(alloc, contexts.as_slice()[n].as_slice())?;
-        add_inner(alloc, &mut contexts, outer.as_slice(), parts, depth)?;
+        add_inner(alloc, &mut contexts, outer.as_slice(), env, depth)?;
     }
     Err(AllocError)
 }

@@ -2,6 +2,7 @@ ghost use Rattle.std.specs.Prelude.{◌≡◌, ◌++◌, ◌∷◌, [], ◌<◌,
 ghost use Rattle.terms.specs.Expr.{Args};
 ghost use Rattle.terms.specs.View.{expr, arg, args_view};
 ghost use Rattle.terms.specs.Typing.{placed};
+ghost use Rattle.terms.specs.declared.parts.Parts.{Parts};
 ghost use Rattle.plain_listing.specs.Generate.{Table, Inner, candidates, firsts, fills};
 ghost use Rattle.plain_listing.specs.Reads.{here, deeper};
 
@@ -81,7 +82,7 @@ fn push_firsts(
 /// No arguments, where nothing is left of the weight.
 #[tactic(auto, using(crate::proofs::Making::making))]
 fn none_left(alloc: Global, weight: usize) -> Result<Vec<Items<TermArg>>, AllocError>
-    ensures { IfOk result (λ all. (f : Table) (u : Inner) → map args_view all.items ≡ fills f u [] weight) }
+    ensures { IfOk result (λ all. (g : Parts) (f : Table) (u : Inner) → map args_view all.items ≡ fills g f u [] weight) }
 {
     let mut all = Vec::new(alloc);
     if weight == 0 {
@@ -101,7 +102,7 @@ pub fn fills(
     weight: usize,
 ) -> Result<Vec<Items<TermArg>>, AllocError>
     requires { weight < 2 ^ 32 }
-    ensures { IfOk result (λ all. map args_view all.items ≡ fills (here place.now) (deeper place.now) wanted.now weight) }
+    ensures { IfOk result (λ all. map args_view all.items ≡ fills place.now.env.now (here place.now) (deeper place.now) wanted.now weight) }
 {
     match wanted.split_first() {
         None => none_left(alloc, weight),
@@ -120,7 +121,7 @@ fn fills_from(
     weight: usize,
 ) -> Result<Vec<Items<TermArg>>, AllocError>
     requires { weight < 2 ^ 32 }
-    ensures { IfOk result (λ all. map args_view all.items ≡ fills (here place.now) (deeper place.now) (first.now ∷ more.now) weight) }
+    ensures { IfOk result (λ all. map args_view all.items ≡ fills place.now.env.now (here place.now) (deeper place.now) (first.now ∷ more.now) weight) }
 {
     let mut all = Vec::new(alloc);
     for k in 0..weight + 1 {
@@ -141,7 +142,7 @@ fn push_split(
     left: usize,
 ) -> Result<(), AllocError>
     requires { left < 2 ^ 32 }
-    ensures { OnOk result (map args_view all.new.items ≡ map args_view all.old.items ++ firsts first.now (candidates (here place.now) (deeper place.now) first.now k) (fills (here place.now) (deeper place.now) more.now left)) }
+    ensures { OnOk result (map args_view all.new.items ≡ map args_view all.old.items ++ firsts first.now (candidates place.now.env.now (here place.now) (deeper place.now) first.now k) (fills place.now.env.now (here place.now) (deeper place.now) more.now left)) }
 {
     let terms = place.candidates(first, k);
     if terms.is_empty() {

@@ -1,5 +1,6 @@
 ghost use Rattle.std.specs.Prelude.{◌≡◌, ◌<◌, ◌++◌, ◌∷◌, [], bytes_eq, length, map, slice_get, IfSome};
 ghost use Rattle.terms.specs.View.{expr};
+ghost use Rattle.terms.specs.Weights.{binders_weight};
 ghost use Rattle.plain_listing.specs.Generate.{bound, candidates};
 ghost use Rattle.plain_listing.specs.Tables.{listed, for_type, at, same_rows, number_of};
 ghost use Rattle.plain_listing.specs.Reads.{here, deeper};
@@ -104,23 +105,24 @@ pub fn number_of(
 impl PlainPlace<'_> {
     /// The bodies of a lambda with these parameters that weighs `weight` with its binders.
     fn bodies(&self, params: &[u32], body: u32, weight: usize) -> &[Term]
-        ensures { map expr result.now ≡ bound (λ j. deeper self.now params.now j body) (length params.now) weight }
+        ensures { map expr result.now ≡ bound (λ j. deeper self.now params.now j body) (binders_weight self.now.env.now (length params.now)) weight }
     {
-        if weight < params.len() {
+        let binders = self.env.binders_weight(params.len());
+        if (weight as u64) < binders {
             return &[];
         }
         if self.context.len() >= self.depth as usize {
             return &[];
         }
         match number_of(self.contexts, self.context, params) {
-            Some(n) => terms_at(self.rows, n, weight - params.len(), body),
+            Some(n) => terms_at(self.rows, n, weight - binders as usize, body),
             None => &[],
         }
     }
 
     /// The terms that may stand as this argument and weigh `weight` there.
     pub fn candidates(&self, arg: &Arg, weight: usize) -> &[Term]
-        ensures { map expr result.now ≡ candidates (here self.now) (deeper self.now) arg.now weight }
+        ensures { map expr result.now ≡ candidates self.now.env.now (here self.now) (deeper self.now) arg.now weight }
     {
         match arg {
             Arg::Plain(wanted) => terms_at(self.rows, self.number, weight, *wanted),

@@ -52,8 +52,7 @@ impl Tables {
     pub fn new(alloc: Global, env: Env) -> Result<Tables, AllocError>
         ensures { IfOk result (λ tables. tables ≡ record { parts = env; from = 0 }) }
     {
-        let parts = env.parts();
-        let contexts = contexts_of(alloc, parts, parts.depth)?;
+        let contexts = contexts_of(alloc, &env, env.parts().depth)?;
         Ok(Tables {
             env,
             contexts,

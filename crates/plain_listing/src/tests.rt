@@ -302,7 +302,7 @@ fn has_deep(
     requires { weight < 100 }
 {
     let env = env(alloc, case)?;
-    let contexts = contexts_of(alloc, env.parts(), depth)?;
+    let contexts = contexts_of(alloc, &env, depth)?;
     let mut rows = Vec::new(alloc);
     for _ in 0..weight + 1 {
         add_row(alloc, &env, depth, contexts.as_slice(), &mut rows)?;

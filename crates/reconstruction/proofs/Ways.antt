@@ -3,6 +3,7 @@ use Rattle.std.proofs.Common.{◌≡◌, inl, inr, ℕ, zero, suc, ◌+◌, ◌*
 use Rattle.std.proofs.lemmas.Bool.{eq-eqb, ne_eqb, cases_eq}
 use Rattle.std.proofs.lemmas.Option.{slice_get-get_or}
 use Rattle.terms.specs.Count.{once_if, count}
+use Rattle.terms.specs.Weights.{coercion_weight}
 use Rattle.terms.proofs.Standing.{count-append}
 use Rattle.edges.specs.Edges.{Edge}
 use Rattle.reconstruction.specs.Tabled.{front_of, may, picked, IsParent, Grew}
@@ -137,5 +138,5 @@ way-idle t a p m e parent way floor heavy = go (lower_in t.env e.source e.tails)
     go : (o : Option ℕ) → lower_in t.env e.source e.tails ≡ o → IsWayBy t p.place m e o → picked (may t (front_of a p.front)) (way_numbers_by t.env t.edges e o) ≡ []
     go None is turn = head-idle t a p 0 (get_or t.totals m 0) (declared_in t.env e.source) e.tails parent turn (λ k declared. (let low = floor.head k declared in omega (arith, heavy, low)))
     go (Some lower) is turns = where-idle (may t (front_of a p.front)) (head_numbers t.env) lower t.edges (λ n f at here. (
-        head-idle t a p 10 (get_or t.totals n 0) (declared_in t.env f.source) f.tails parent (turns n f at here)
+        head-idle t a p (coercion_weight t.env) (get_or t.totals n 0) (declared_in t.env f.source) f.tails parent (turns n f at here)
         (λ k declared. (let low = floor.under lower n k f is at here declared in omega (arith, heavy, low)))))

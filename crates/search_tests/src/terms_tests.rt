@@ -214,6 +214,7 @@ fn valid_parts_are_an_environment(rt: HostRuntime) {
 fn has_its_weights(env: &Env) -> bool {
     env.variable_weight() == 1
         && env.binder_weight() == 1
+        && env.binders_weight(3) == 3
         && env.coercion_weight() == 10
         && env.step(0, 1) == 10
         && env.step(1, 1) == 0

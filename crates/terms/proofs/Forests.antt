@@ -3,7 +3,7 @@ use Rattle.std.proofs.Common.{◌≡◌, ℕ, zero, suc, ◌+◌, ◌*◌, ◌<�
 use Rattle.std.proofs.lemmas.Bool.{and_parts, and_from, false≢true, lt-ltb}
 use Rattle.terms.specs.Expr.{Expr, var, head, Args, no_args, plain, lam}
 use Rattle.terms.specs.Typing.{type_in, fits, some_below, is_below, joined}
-use Rattle.terms.specs.Weights.{weight_in, args_weight, step}
+use Rattle.terms.specs.Weights.{variable_weight, sum_of_equal, binders_weight, weight_in, args_weight, step_in}
 use Rattle.terms.specs.declared.parts.Parts.{Parts}
 use Rattle.terms.specs.declared.parts.Decl.{Decl}
 use Rattle.terms.specs.declared.parts.Arg.{Arg}
@@ -12,6 +12,7 @@ use Rattle.terms.specs.Code.{prefix_code, args_code}
 use Rattle.terms.specs.Place.{Place, fits_place, weigh, shallow, args_shallow}
 use Rattle.terms.specs.Reading.{Reading, Symbol, variable, declared, symbol, has_room, places, binders, some_when, variable_at, declared_at, turn_by, turn, and_then, read, fit_all, weigh_all}
 use Rattle.terms.proofs.Halves.{number, number-symbol}
+use Rattle.terms.proofs.Weighing.{variable-weighs, binders_weight-more}
 
 abbrev pub codes : List Expr → List ℕ
 codes [] = []
@@ -36,10 +37,10 @@ pub record ArgsFit (g : Parts) (ctx : List (List ℕ)) (left : ℕ) (wanted : Li
   pub coded : args_code (args_from wanted es) ≡ codes es
   pub fit : fits g ctx (args_from wanted es) wanted ≡ true
   pub flat : args_shallow left (args_from wanted es) ≡ true
-  pub weight : args_weight g ctx (args_from wanted es) wanted ≡ binders wanted + weigh_all g (places ctx left wanted) es
+  pub weight : args_weight g ctx (args_from wanted es) wanted ≡ binders_weight g (binders wanted) + weigh_all g (places ctx left wanted) es
 
 args_fit : (g : Parts) (ctx : List (List ℕ)) (left : ℕ) (wanted : List Arg) (es : List Expr) → length ctx + left ≤ 3 → has_room left wanted ≡ true → fit_all g (places ctx left wanted) es ≡ true → ArgsFit g ctx left wanted es
-unfolding fits args_weight args_shallow binders places has_room fits_place weigh
+unfolding fits args_weight args_shallow binders places has_room fits_place weigh sum_of_equal
 args_fit g ctx left [] [] short room h = record { coded = refl; fit = refl; flat = refl; weight = refl }
 args_fit g ctx left [] (e ∷ es) short room h = absurd (false≢true h)
 args_fit g ctx left (Plain b ∷ ws) [] short room h = absurd (false≢true h)
@@ -65,7 +66,7 @@ args_fit g ctx (suc l) (Fun ps r ∷ ws) (e ∷ es) short room h =
       coded = ap (λ c. prefix_code e ++ c) a.coded;
       fit = and_from (nat_lt (length ctx) 3 && some_below g (type_in g inner e) r) (fits g ctx (args_from ws es) ws) (and_from (nat_lt (length ctx) 3) (some_below g (type_in g inner e) r) (lt-ltb (length ctx) 3 (omega arith)) h0.0) a.fit;
       flat = and_from (shallow l e) (args_shallow (suc l) (args_from ws es)) h0.1 a.flat;
-      weight = omega (arith, a.weight);
+      weight = omega (arith, a.weight, binders_weight-more g (length ps) (binders ws));
     }
 
 places-room : (ctx : List (List ℕ)) (left : ℕ) (wanted : List Arg) → length ctx + left ≤ 3 → has_room left wanted ≡ true → HaveRoom (places ctx left wanted)
@@ -96,10 +97,10 @@ unfolding fits_place weigh type_in weight_in shallow
 turned_variable g p n m None t found is h = cc
 turned_variable g p n m (Some a) t found is h = go (is_below g a p.wanted) refl h
   where
-    go : (b : Bool) → is_below g a p.wanted ≡ b → some_when b (record { weight = 1 + step (Some a) p.wanted; open_places = [] }) ≡ Some t → Turned g p n t
+    go : (b : Bool) → is_below g a p.wanted ≡ b → some_when b (record { weight = variable_weight g + step_in g (Some a) p.wanted; open_places = [] }) ≡ Some t → Turned g p n t
     go false below h' = cc
     go true below h' =
-        let made : Reading = record { weight = 1 + step (Some a) p.wanted; open_places = [] } in
+        let made : Reading = record { weight = variable_weight g + step_in g (Some a) p.wanted; open_places = [] } in
         let same : made ≡ t = cc in
         let P : Reading → Type 0 = λ r. Turned g p n r in
         subst P same (record {
@@ -110,7 +111,7 @@ turned_variable g p n m (Some a) t found is h = go (is_below g a p.wanted) refl 
             fit = rw (found, below) refl;
             weight = rw found (omega arith);
           };
-          heavy = λ w. omega arith;
+          heavy = λ w. omega (arith, variable-weighs g);
         })
 
 turned_declared : (g : Parts) (p : Place) (n m : ℕ) (o : Option Decl) (t : Reading) → length p.ctx + p.left ≤ 3 → slice_get g.decls m ≡ o → n ≡ 2 * m + 1 → declared_at g p o ≡ Some t → Turned g p n t
@@ -118,11 +119,11 @@ unfolding fits_place weigh type_in weight_in shallow
 turned_declared g p n m None t short found is h = cc
 turned_declared g p n m (Some d) t short found is h = go (is_below g d.result p.wanted) (has_room p.left d.args) refl refl h
   where
-    go : (b c : Bool) → is_below g d.result p.wanted ≡ b → has_room p.left d.args ≡ c → some_when (b && c) (record { weight = d.weight + binders d.args + step (Some d.result) p.wanted; open_places = places p.ctx p.left d.args }) ≡ Some t → Turned g p n t
+    go : (b c : Bool) → is_below g d.result p.wanted ≡ b → has_room p.left d.args ≡ c → some_when (b && c) (record { weight = d.weight + binders_weight g (binders d.args) + step_in g (Some d.result) p.wanted; open_places = places p.ctx p.left d.args }) ≡ Some t → Turned g p n t
     go false c below room h' = cc
     go true false below room h' = cc
     go true true below room h' =
-        let made : Reading = record { weight = d.weight + binders d.args + step (Some d.result) p.wanted; open_places = places p.ctx p.left d.args } in
+        let made : Reading = record { weight = d.weight + binders_weight g (binders d.args) + step_in g (Some d.result) p.wanted; open_places = places p.ctx p.left d.args } in
         let same : made ≡ t = cc in
         let P : Reading → Type 0 = λ r. Turned g p n r in
         subst P same (record {

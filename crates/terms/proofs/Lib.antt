@@ -1,6 +1,7 @@
 -- Lemmas of the calculus.
 pub mod Views
 pub mod Typings
+pub mod Weighing
 pub mod Ratings
 pub mod Depths
 pub mod Pairs

@@ -9,8 +9,9 @@ use Rattle.terms.specs.declared.parts.Decl.{Decl}
 use Rattle.terms.specs.declared.parts.Arg.{Arg}
 use Rattle.terms.specs.declared.parts.Arg.TheVariants.{Plain, Fun}
 use Rattle.terms.specs.Typing.{joined, some_below, result_if, args_wanted, type_in, fits}
-use Rattle.terms.specs.Weights.{step, decl_weight, weight_in, args_weight}
+use Rattle.terms.specs.Weights.{binders_weight, step_in, decl_weight, weight_in, args_weight}
 use Rattle.terms.specs.Place.{shallow, fits_place, weigh, goal_place, total_of, is_inhabitant, IsInhabitant}
+use Rattle.terms.proofs.Weighing.{variable-weighs}
 
 abbrev pub In : {X : Type 0} → X → List X → Type 0
 In x [] = ⊥
@@ -141,7 +142,7 @@ mutual
   unfolding type_in fits weight_in args_weight
 
   light : (g : Parts) → AllWeigh g → (e : Expr) (ctx : List (List ℕ)) (t : ℕ) → type_in g ctx e ≡ Some t → size e ≤ weight_in g ctx e
-  light g all (var k) ctx t typed = omega arith
+  light g all (var k) ctx t typed = variable-weighs g
   light g all (head i xs) ctx t typed =
       let d = has_decl (slice_get g.decls i) (fits g ctx xs (args_wanted (slice_get g.decls i))) t typed in
       head_size (slice_get g.decls i) d.0 (args_size xs) (args_weight g ctx xs (args_wanted (slice_get g.decls i))) d.1 (all i d.0 d.1) (args_light g all xs ctx (args_wanted (slice_get g.decls i)) d.2)
@@ -157,12 +158,12 @@ mutual
   args_light g all (plain e rest) ctx (Plain b ∷ more) fit =
       let f = and_parts (some_below g (type_in g ctx e) b) (fits g ctx rest more) fit in
       let t = some_type g (type_in g ctx e) b f.0 in
-      plain_size (size e) (args_size rest) (weight_in g ctx e) (step (type_in g ctx e) b) (args_weight g ctx rest more) (light g all e ctx t.0 t.1) (args_light g all rest ctx more f.1)
+      plain_size (size e) (args_size rest) (weight_in g ctx e) (step_in g (type_in g ctx e) b) (args_weight g ctx rest more) (light g all e ctx t.0 t.1) (args_light g all rest ctx more f.1)
   args_light g all (lam e rest) ctx (Fun ps r ∷ more) fit =
       let h = and_parts (nat_lt (length ctx) 3 && some_below g (type_in g (ctx ++ ps ∷ []) e) r) (fits g ctx rest more) fit in
       let f = and_parts (nat_lt (length ctx) 3) (some_below g (type_in g (ctx ++ ps ∷ []) e) r) h.0 in
       let t = some_type g (type_in g (ctx ++ ps ∷ []) e) r f.1 in
-      lam_size (size e) (args_size rest) (weight_in g (ctx ++ ps ∷ []) e) (length ps) (step (type_in g (ctx ++ ps ∷ []) e) r) (args_weight g ctx rest more) (light g all e (ctx ++ ps ∷ []) t.0 t.1) (args_light g all rest ctx more h.1)
+      lam_size (size e) (args_size rest) (weight_in g (ctx ++ ps ∷ []) e) (binders_weight g (length ps)) (step_in g (type_in g (ctx ++ ps ∷ []) e) r) (args_weight g ctx rest more) (light g all e (ctx ++ ps ∷ []) t.0 t.1) (args_light g all rest ctx more h.1)
 
 pub inhabitants : (g : Parts) → AllWeigh g → (e : Expr) → IsInhabitant g e → In e (exprs g g.limit [])
 unfolding fits_place weigh
@@ -171,5 +172,5 @@ inhabitants g all e is =
     let fit = and_parts (some_below g (type_in g [] e) g.goal) (shallow g.depth e) in_limit.0 in
     let t = some_type g (type_in g [] e) g.goal fit.0 in
     let small : size e ≤ weight_in g [] e = light g all e [] t.0 t.1 in
-    let low : weight_in g [] e + step (type_in g [] e) g.goal ≤ g.limit = leb-true (total_of g e) g.limit in_limit.1 in
+    let low : weight_in g [] e + step_in g (type_in g [] e) g.goal ≤ g.limit = leb-true (total_of g e) g.limit in_limit.1 in
     found g e g.limit [] t.0 t.1 (omega (arith, small, low))

@@ -5,7 +5,7 @@ use Rattle.std.proofs.lemmas.List.{drop_more, drop_all}
 use Rattle.terms.specs.Expr.{Expr, Args, no_args}
 use Rattle.terms.specs.View.{expr, arg, args_view}
 use Rattle.terms.specs.Typing.{type_in, fits, joined, result_if, args_wanted, some_below, is_below}
-use Rattle.terms.specs.Weights.{weight_in, args_weight, decl_weight, step, told}
+use Rattle.terms.specs.Weights.{variable_weight, binders_weight, weight_in, args_weight, decl_weight, step_in, told}
 use Rattle.terms.specs.declared.parts.Parts.{Parts}
 use Rattle.terms.specs.declared.parts.Decl.{Decl}
 use Rattle.terms.specs.declared.parts.Arg.{Arg}
@@ -24,9 +24,9 @@ over_is None fit more = refl
 over_is (Some d) false more = refl
 over_is (Some d) true more = let e : capped (d.weight + more) ≡ capped (d.weight + capped more) = omega arith in ap (λ w. Some (record { result = d.result; weight = w })) e
 
-place_is : (g : Parts) (t : Option ℕ) (w b n : ℕ) → capped_if (some_below g t b && true) (w + n + step t b + 0) ≡ at_place g (with_weight t w) b n
+place_is : (g : Parts) (t : Option ℕ) (w b n : ℕ) → capped_if (some_below g t b && true) (w + n + step_in g t b + 0) ≡ at_place g (with_weight t w) b n
 place_is g None w b n = refl
-place_is g (Some a) w b n = go (is_below g a b) (if a == b then 0 else 10)
+place_is g (Some a) w b n = go (is_below g a b) (step_in g (Some a) b)
   where
     go : (below : Bool) (s : ℕ) → capped_if (below && true) (w + n + s + 0) ≡ (if below then Some (capped (capped w + n + s)) else None)
     go true s = let e : capped (w + n + s + 0) ≡ capped (capped w + n + s) = omega arith in ap (λ x. Some x) e
@@ -41,7 +41,7 @@ alone : (b : Bool) (w : ℕ) → capped_if b w ≡ capped_if (b && true) (w + 0)
 alone true w = ap (λ n. Some (capped n)) (sym (add-zero w))
 alone false w = refl
 
-pub rated-Var : (g : Parts) (ctx : List (List ℕ)) (n : ℕ) → rated g ctx (expr (code_term.Var n)) ≡ with_weight (slice_get (joined ctx) n) 1
+pub rated-Var : (g : Parts) (ctx : List (List ℕ)) (n : ℕ) → rated g ctx (expr (code_term.Var n)) ≡ with_weight (slice_get (joined ctx) n) (variable_weight g)
 unfolding rated type_in weight_in
 rated-Var g ctx n = rw (expr-Var n) refl
 
@@ -53,11 +53,11 @@ rated-Head g ctx d xs = rw (expr-Head d xs) (over_is (slice_get g.decls d) (fits
 pub rated_arg-Plain : (g : Parts) (ctx : List (List ℕ)) (t : Term) (b : ℕ) → rated_arg g ctx (code.Plain t) (Plain b) ≡ at_place g (rated g ctx (expr t)) b 0
 unfolding rated_arg rated_args rated fits args_weight
 rated_arg-Plain g ctx t b = rw (arg-Plain t no_args)
-    (ap (λ n. capped_if (some_below g (type_in g ctx (expr t)) b && true) (n + step (type_in g ctx (expr t)) b + 0)) (sym (add-zero (weight_in g ctx (expr t)))) ∙ place_is g (type_in g ctx (expr t)) (weight_in g ctx (expr t)) b 0)
+    (ap (λ n. capped_if (some_below g (type_in g ctx (expr t)) b && true) (n + step_in g (type_in g ctx (expr t)) b + 0)) (sym (add-zero (weight_in g ctx (expr t)))) ∙ place_is g (type_in g ctx (expr t)) (weight_in g ctx (expr t)) b 0)
 
-pub rated_arg-Lam : (g : Parts) (ctx : List (List ℕ)) (t : Term) (ps : List ℕ) (r : ℕ) → length ctx < 3 → rated_arg g ctx (code.Lam t) (Fun ps r) ≡ at_place g (rated g (ctx ++ ps ∷ []) (expr t)) r (length ps)
+pub rated_arg-Lam : (g : Parts) (ctx : List (List ℕ)) (t : Term) (ps : List ℕ) (r : ℕ) → length ctx < 3 → rated_arg g ctx (code.Lam t) (Fun ps r) ≡ at_place g (rated g (ctx ++ ps ∷ []) (expr t)) r (binders_weight g (length ps))
 unfolding rated_arg rated_args rated fits args_weight
-rated_arg-Lam g ctx t ps r short = rw (arg-Lam t no_args, lt-ltb (length ctx) 3 short) (place_is g (type_in g (ctx ++ ps ∷ []) (expr t)) (weight_in g (ctx ++ ps ∷ []) (expr t)) r (length ps))
+rated_arg-Lam g ctx t ps r short = rw (arg-Lam t no_args, lt-ltb (length ctx) 3 short) (place_is g (type_in g (ctx ++ ps ∷ []) (expr t)) (weight_in g (ctx ++ ps ∷ []) (expr t)) r (binders_weight g (length ps)))
 
 pub rated_arg-deep : (g : Parts) (ctx : List (List ℕ)) (t : Term) (ps : List ℕ) (r : ℕ) → 3 ≤ length ctx → rated_arg g ctx (code.Lam t) (Fun ps r) ≡ None
 unfolding rated_arg rated_args fits args_weight
@@ -78,14 +78,14 @@ rated_args-apart g ctx xs ws h = rw (fits-apart g ctx xs ws h) refl
 pub rated_args-first : (g : Parts) (ctx : List (List ℕ)) (a : TermArg) (rest : Args) (w : Arg) (more : List Arg) → rated_args g ctx (arg a rest) (w ∷ more) ≡ plus (rated_arg g ctx a w) (rated_args g ctx rest more)
 unfolding rated_arg rated_args fits args_weight
 rated_args-first g ctx (code.Plain t) rest (Plain b) more = rw (arg-Plain t rest, arg-Plain t no_args)
-    (plus_is (some_below g (type_in g ctx (expr t)) b) (fits g ctx rest more) (weight_in g ctx (expr t) + step (type_in g ctx (expr t)) b) (args_weight g ctx rest more)
-    ∙ ap (λ r. plus r (capped_if (fits g ctx rest more) (args_weight g ctx rest more))) (alone (some_below g (type_in g ctx (expr t)) b) (weight_in g ctx (expr t) + step (type_in g ctx (expr t)) b)))
+    (plus_is (some_below g (type_in g ctx (expr t)) b) (fits g ctx rest more) (weight_in g ctx (expr t) + step_in g (type_in g ctx (expr t)) b) (args_weight g ctx rest more)
+    ∙ ap (λ r. plus r (capped_if (fits g ctx rest more) (args_weight g ctx rest more))) (alone (some_below g (type_in g ctx (expr t)) b) (weight_in g ctx (expr t) + step_in g (type_in g ctx (expr t)) b)))
 rated_args-first g ctx (code.Plain t) rest (Fun ps r) more = rw (arg-Plain t rest, arg-Plain t no_args) refl
 rated_args-first g ctx (code.Lam t) rest (Plain b) more = rw (arg-Lam t rest, arg-Lam t no_args) refl
 rated_args-first g ctx (code.Lam t) rest (Fun ps r) more =
     let inner = ctx ++ ps ∷ [] in
     let good = nat_lt (length ctx) 3 && some_below g (type_in g inner (expr t)) r in
-    let weighs = weight_in g inner (expr t) + length ps + step (type_in g inner (expr t)) r in
+    let weighs = weight_in g inner (expr t) + binders_weight g (length ps) + step_in g (type_in g inner (expr t)) r in
     rw (arg-Lam t rest, arg-Lam t no_args)
     (plus_is good (fits g ctx rest more) weighs (args_weight g ctx rest more) ∙ ap (λ q. plus q (capped_if (fits g ctx rest more) (args_weight g ctx rest more))) (alone good weighs))
 

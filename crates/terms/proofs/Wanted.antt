@@ -3,7 +3,7 @@ use Rattle.std.proofs.Common.{◌≡◌, inl, inr, ℕ, ◌+◌, ◌≤◌, Bool
 use Rattle.std.proofs.lemmas.Bool.{cases_lt, le-leb, lt-leb}
 use Rattle.terms.specs.Expr.{Expr}
 use Rattle.terms.specs.Typing.{type_in, is_below, some_below}
-use Rattle.terms.specs.Weights.{weight_in, step}
+use Rattle.terms.specs.Weights.{weight_in, step_in}
 use Rattle.terms.specs.Place.{shallow, fits_place, weigh, is_inhabitant}
 use Rattle.terms.specs.Faults.{IsValid}
 use Rattle.terms.specs.Rating.{capped, with_weight, rated, is_wanted}
@@ -27,12 +27,12 @@ weight_of_some None = 0
 weight_of_some (Some r) = r.weight
 
 wanted-some : (g : Parts) (t : Option ℕ) (w : ℕ) (sh : Bool) (r : Rating) → g.limit ≤ 10000 → Some r ≡ with_weight t w
-    → (is_below g r.result g.goal && sh) && nat_le (r.weight + (if r.result == g.goal then 0 else 10)) g.limit ≡ (some_below g t g.goal && sh) && nat_le (w + step t g.goal) g.limit
+    → (is_below g r.result g.goal && sh) && nat_le (r.weight + step_in g (Some r.result) g.goal) g.limit ≡ (some_below g t g.goal && sh) && nat_le (w + step_in g t g.goal) g.limit
 wanted-some g None w sh r small is = cc
 wanted-some g (Some a) w sh r small is =
     let e : r.result ≡ a = ap result_in is in
     let f : r.weight ≡ capped w = ap weight_of_some is in
-    rw (e, f, le-capped w (if a == g.goal then 0 else 10) g.limit small) refl
+    rw (e, f, le-capped w (step_in g (Some a) g.goal) g.limit small) refl
 
 pub wanted-is : (g : Parts) (ctx : List (List ℕ)) (e : Expr) (r : Rating) → ctx ≡ [] → IsValid g → Some r ≡ rated g ctx e → is_wanted g r e ≡ is_inhabitant g e
 unfolding rated is_wanted fits_place weigh
@@ -46,4 +46,4 @@ none-is g (Some a) w sh within is = cc
 pub wanted-none : (g : Parts) (ctx : List (List ℕ)) (e : Expr) → ctx ≡ [] → None ≡ rated g ctx e → false ≡ is_inhabitant g e
 unfolding rated fits_place weigh
 wanted-none g ctx e closed is =
-    none-is g (type_in g [] e) (weight_in g [] e) (shallow g.depth e) (nat_le (weight_in g [] e + step (type_in g [] e) g.goal) g.limit) (is ∙ ap (λ c. with_weight (type_in g c e) (weight_in g c e)) closed)
+    none-is g (type_in g [] e) (weight_in g [] e) (shallow g.depth e) (nat_le (weight_in g [] e + step_in g (type_in g [] e) g.goal) g.limit) (is ∙ ap (λ c. with_weight (type_in g c e) (weight_in g c e)) closed)

@@ -10,26 +10,21 @@ use Rattle.terms.specs.declared.parts.Parts.{Parts}
 use Rattle.terms.specs.declared.context.Ctx.{Ctx}
 
 -- what a use of a variable weighs in an environment
-abbrev pub variable_weight : Parts → ℕ
+unfoldable pub variable_weight : Parts → ℕ
 variable_weight g = 1
 
 -- what a binder of a lambda weighs
-abbrev pub binder_weight : Parts → ℕ
+unfoldable pub binder_weight : Parts → ℕ
 binder_weight g = 1
 
--- a coercion weighs the same in each environment
-abbrev pub coercion : ℕ
-coercion = 10
-
 -- what a coercion weighs
-abbrev pub coercion_weight : Parts → ℕ
-coercion_weight g = coercion
+unfoldable pub coercion_weight : Parts → ℕ
+coercion_weight g = 10
 
 -- the sum of n weights, each w
-abbrev pub sum_of_equal : ℕ → ℕ → ℕ
-sum_of_equal zero n = 0
-sum_of_equal (suc zero) n = n
-sum_of_equal (suc (suc w)) n = n + sum_of_equal (suc w) n
+unfoldable pub sum_of_equal : ℕ → ℕ → ℕ
+sum_of_equal w zero = 0
+sum_of_equal w (suc n) = w + sum_of_equal w n
 
 -- what n binders weigh together
 abbrev pub binders_weight : Parts → ℕ → ℕ
@@ -44,10 +39,6 @@ step_by w (Some a) b = if a == b then 0 else w
 -- what it weighs in an environment
 abbrev pub step_in : Parts → Option ℕ → ℕ → ℕ
 step_in g t b = step_by (coercion_weight g) t b
-
--- what it weighs in each environment
-abbrev pub step : Option ℕ → ℕ → ℕ
-step t b = step_by coercion t b
 
 -- what a head weighs
 abbrev pub decl_weight : Option Decl → ℕ

@@ -41,6 +41,7 @@ pub(crate) fn told(weight: u64) -> Option<u32>
 
 impl Env {
     /// What a use of a variable weighs.
+    #[tactic(auto, unfolding(crate::specs::Weights::variable_weight))]
     pub fn variable_weight(&self) -> u32
         ensures value { result ≡ variable_weight self.now }
     {
@@ -48,6 +49,7 @@ impl Env {
     }
 
     /// What a binder of a lambda weighs.
+    #[tactic(auto, unfolding(crate::specs::Weights::binder_weight))]
     pub fn binder_weight(&self) -> u32
         ensures value { result ≡ binder_weight self.now }
     {
@@ -55,6 +57,7 @@ impl Env {
     }
 
     /// What a coercion weighs.
+    #[tactic(auto, unfolding(crate::specs::Weights::coercion_weight))]
     pub fn coercion_weight(&self) -> u32
         ensures value { result ≡ coercion_weight self.now }
     {
@@ -72,11 +75,11 @@ impl Env {
         }
     }
 
-    /// What so many binders weigh together, up to the cap.
-    fn binders_weight(&self, count: usize) -> u64
-        ensures { result ≡ capped (binders_weight self.now count) }
+    /// What so many binders weigh together.
+    pub fn binders_weight(&self, count: usize) -> u64
+        ensures value { result ≡ binders_weight self.now count }
     {
-        ((count as u64).min(CAP) * self.binder_weight() as u64).min(CAP)
+        count as u64 * self.binder_weight() as u64
     }
 
     /// The type and the weight of a term, in one walk.
@@ -144,7 +147,7 @@ impl Env {
                     return None;
                 }
                 let found = self.rate(&ctx.with(params.as_slice()), body);
-                self.at_place(found, *to, self.binders_weight(params.len()))
+                self.at_place(found, *to, self.binders_weight(params.len()).min(CAP))
             }
             _ => None,
         }

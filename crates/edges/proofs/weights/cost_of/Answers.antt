@@ -3,6 +3,7 @@ use Rattle.terms.specs.Reading.{binders}
 use Rattle.terms.specs.Weights.{binders_weight, coercion_weight}
 use Rattle.terms.specs.declared.parts.Parts.{Parts}
 use Rattle.edges.specs.Edges.{source_costs}
+use Rattle.terms.proofs.Weighing.{binders_weight-none}
 use Rattle.edges.proofs.Binders.{binders-none}
 use Rattle.edges.proofs.Costs.{cost-pair, cost-none, match-weaker}
 use Rattle.edges.proofs.Options.{some_eq, none_some}
@@ -20,7 +21,7 @@ returns-then-place-decls-2 c =
     let low = c.if-place-decls-2.true in
     let ten : c.coercion_weight.result ≡ coercion_weight g = c.coercion_weight.ensures.value in
     let at : slice_get (source_costs g) c.args.number ≡ Some c.coercion_weight.result = cost-pair g c.args.number (omega (arith, past, decls, d)) (omega (arith, low, decls, d, pairs, p)) ∙ ap (λ n. Some n) (sym ten) in
-    let none = binders-none in
+    let none = ap (binders_weight g) binders-none ∙ binders_weight-none g in
     record {
       value = match-weaker c.with_binders-then-place-decls-2.result (c.parts-parts.result.now.limit < c.coercion_weight.result + binders_weight g (binders [])) ((w : ℕ) → slice_get (source_costs g) c.args.number ≡ Some w → g.limit < w) (λ w. (w ≡ c.coercion_weight.result + binders_weight g (binders [])) × (w ≤ c.parts-parts.result.now.limit)) (λ w. (slice_get (source_costs g) c.args.number ≡ Some w) × (w ≤ g.limit))
           (λ h w h'. (let e : c.coercion_weight.result ≡ w = some_eq c.coercion_weight.result w (sym at ∙ h') in omega (arith, h, e, none, limit)))

@@ -1,6 +1,7 @@
 use Rattle.std.proofs.Common.{◌≡◌, ◌+◌, ◌<◌, ◌≤◌, [], ◌∷◌, length, MatchOption, sym, ap, subst, ◌∙◌, arith}
 use Rattle.terms.specs.Reading.{binders}
 use Rattle.terms.specs.Weights.{binders_weight}
+use Rattle.terms.proofs.Weighing.{binders_weight-none}
 use Rattle.edges.proofs.Binders.{binders-fun, binders-plain}
 use Rattle.edges.proofs.weights.with_arg.Goals as goal
 
@@ -11,5 +12,5 @@ returns-in-Fun c =
 
 pub returns-in-Plain : goal.returns-in-Plain
 returns-in-Plain c =
-    let none = ap (λ a. binders (a ∷ [])) c.in-Plain.is ∙ binders-plain c.in-Plain.field-0 in
+    let none = ap (binders_weight c.args.env.now) (ap (λ a. binders (a ∷ [])) c.in-Plain.is ∙ binders-plain c.in-Plain.field-0) ∙ binders_weight-none c.args.env.now in
     record { value = (omega (arith, none), c.requires.within) }

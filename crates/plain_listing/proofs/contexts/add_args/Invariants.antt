@@ -6,5 +6,5 @@ abbrev pub invariant-loop-i : goal.invariant-loop-i
 invariant-loop-i l = record {
   keeps : Keeps l.initial.contexts l.contexts;
   shallow : (depth : ℕ) → length l.outer < depth → AreShallow depth l.initial.contexts → AreShallow depth l.contexts;
-  met : AreMet l.limit l.contexts l.outer l.wanted l.i;
+  met : AreMet l.env l.contexts l.outer l.wanted l.i;
 }

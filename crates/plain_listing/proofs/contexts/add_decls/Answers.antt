@@ -7,7 +7,7 @@ use Rattle.plain_listing.proofs.contexts.add_decls.Goals as goal
 
 pub loop-n-preserved : goal.loop-n-preserved
 loop-n-preserved c =
-    let M : List Arg → Type 0 = λ args. AreMet c.args.limit c.add_args.new.contexts c.args.outer.now args (length args) in
+    let M : List Arg → Type 0 = λ args. AreMet c.args.env.now c.add_args.new.contexts c.args.outer.now args (length args) in
     record {
       keeps = keeps-both _ _ _ c.loop-n.invariant.keeps c.in_ok-add_args.ensures.keeps;
       shallow = λ depth low before. c.in_ok-add_args.ensures.shallow depth low (c.loop-n.invariant.shallow depth low before);

@@ -6,5 +6,5 @@ abbrev pub invariant-loop-n : goal.invariant-loop-n
 invariant-loop-n l = record {
   keeps : Keeps l.initial.contexts l.contexts;
   shallow : (depth : ℕ) → length l.outer < depth → AreShallow depth l.initial.contexts → AreShallow depth l.contexts;
-  met : AreAllMet l.limit l.contexts l.outer l.decls l.n;
+  met : AreAllMet l.env l.contexts l.outer l.decls l.n;
 }

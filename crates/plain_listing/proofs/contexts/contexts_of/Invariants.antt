@@ -6,5 +6,5 @@ abbrev pub invariant-loop-n : goal.invariant-loop-n
 invariant-loop-n l = record {
   first : slice_get l.contexts 0 ≡ Some [];
   shallow : AreShallow l.depth l.contexts;
-  closed : AreClosed l.parts l.depth l.contexts l.n;
+  closed : AreClosed l.env l.depth l.contexts l.n;
 }

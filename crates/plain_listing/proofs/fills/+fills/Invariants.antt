@@ -15,4 +15,4 @@ abbrev pub decreases-push_split : goal.decreases-push_split
 decreases-push_split l = 3 * length l.more.now + 1
 
 abbrev pub invariant-fills_from-loop-k : goal.invariant-fills_from-loop-k
-invariant-fills_from-loop-k l = map args_view l.all.items ≡ flat_map (λ k. firsts l.first (candidates (here l.place) (deeper l.place) l.first k) (fills (here l.place) (deeper l.place) l.more (l.weight - k))) (range_with_len 0 l.k)
+invariant-fills_from-loop-k l = map args_view l.all.items ≡ flat_map (λ k. firsts l.first (candidates l.place.env.now (here l.place) (deeper l.place) l.first k) (fills l.place.env.now (here l.place) (deeper l.place) l.more (l.weight - k))) (range_with_len 0 l.k)
