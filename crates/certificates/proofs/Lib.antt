@@ -1,6 +1,5 @@
 -- The rows of parts, and floors.
 pub mod Parting
-pub mod Sizes
 pub mod Places
 pub mod Numbers
 pub mod Lookups

@@ -17,8 +17,9 @@ use Rattle.terms.specs.declared.parts.Decl.{Decl}
 use Rattle.terms.specs.declared.parts.Parts.{Parts}
 use Rattle.terms.specs.declared.term.Term.{Term}
 use Rattle.terms.specs.declared.term.TermArg.{TermArg}
+use Rattle.terms.specs.declared.term.Term as code_term
 use Rattle.terms.specs.declared.term.TermArg as code
-use Rattle.terms.proofs.Views.{arg-Plain, arg-Lam}
+use Rattle.terms.proofs.Views.{expr-Head, arg-Plain, arg-Lam}
 use Rattle.terms.proofs.Weighing.{binders_weight-most}
 use Rattle.checker.specs.declared.row.Row.{Row}
 use Rattle.checker.specs.Rows.{IsItem, rows_of, args_rows}
@@ -214,6 +215,12 @@ small g ctx xs wanted w r e = let light = r.light in omega (arith, light, e)
 pub plain-apart : (g : Parts) (ctx : List (List ℕ)) (e : Expr) (a : Arg) (ps : List ℕ) (b : ℕ) → a ≡ Fun ps b → AreReadable g ctx (plain e no_args) (a ∷ []) → ⊥
 unfolding fits
 plain-apart g ctx e a ps b is r = false≢true (subst (λ z. fits g ctx (plain e no_args) (z ∷ []) ≡ true) is r.fit)
+
+-- a term of the code over its arguments
+pub head-part : (g : Parts) (ctx : List (List ℕ)) (t : Term) (d : ℕ) (xs ws : List TermArg) → t ≡ code_term.Head d xs → ws ≡ xs → IsReadable g ctx (expr t) → IsReadable g ctx (head d (args_view ws))
+head-part g ctx t d xs ws is same r =
+    let r' : IsReadable g ctx (head d (args_view xs)) = subst (λ e. IsReadable g ctx e) (ap expr is ∙ expr-Head d xs) r in
+    subst (λ l. IsReadable g ctx (head d (args_view l))) (sym same) r'
 
 -- a lambda
 pub lam-part : (g : Parts) (ctx : List (List ℕ)) (e : Expr) (a : Arg) (ps : List ℕ) (b : ℕ) → a ≡ Fun ps b → AreReadable g ctx (lam e no_args) (a ∷ []) → IsReadable g (ctx ++ ps ∷ []) e

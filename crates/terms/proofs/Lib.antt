@@ -2,6 +2,7 @@
 pub mod Views
 pub mod Typings
 pub mod Weighing
+pub mod Sizes
 pub mod Ratings
 pub mod Depths
 pub mod Pairs

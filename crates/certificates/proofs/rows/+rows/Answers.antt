@@ -4,11 +4,11 @@ use Rattle.terms.specs.View.{expr, args_view}
 use Rattle.terms.specs.Typing.{rows}
 use Rattle.terms.specs.Weights.{binders_weight, args_weight, step_in}
 use Rattle.terms.proofs.Typings.{length-rows}
+use Rattle.terms.proofs.Sizes.{size-Head, size-Plain, size-Lam, sizes-of}
 use Rattle.checker.specs.declared.row.Row.{Row}
 use Rattle.checker.specs.Rows.{rows_of, args_rows}
 use Rattle.certificates.specs.Readable.{IsReadable, AreReadable, IsRated}
-use Rattle.certificates.proofs.Parting.{head-there, head-args, head-small, head-rated, wanted-there, split-at, weight-at, rows-at, weight-end, rows-end, head-final, plain-part, plain-weight, plain-rows, small, plain-apart, lam-part, lam-room, lam-weight, lam-rows, lam-binders, lam-apart, arg-plain, arg-lam}
-use Rattle.certificates.proofs.Sizes.{size-Head, size-Plain, size-Lam, sizes-of, head-part}
+use Rattle.certificates.proofs.Parting.{head-there, head-args, head-small, head-rated, wanted-there, split-at, weight-at, rows-at, weight-end, rows-end, head-final, plain-part, plain-weight, plain-rows, small, plain-apart, lam-part, lam-room, lam-weight, lam-rows, lam-binders, lam-apart, head-part, arg-plain, arg-lam}
 use Rattle.certificates.proofs.rows.+rows.Goals as goal
 
 pub push_plain-push_rows-requires : goal.push_plain-push_rows-requires
@@ -48,7 +48,7 @@ push_lambda-push_rows-requires t c =
 pub push_lambda-overflow_cast-binders : goal.push_lambda-overflow_cast-binders
 push_lambda-overflow_cast-binders t c =
     let few = lam-binders c.args.env.now (rows c.args.ctx.now) (expr c.args.body.now) c.args.wanted.now c.in-Fun.params c.in-Fun.to c.in-Fun.is c.requires.parts in
-    let many = c.binders_weight.ensures.value ∙ ap (binders_weight c.args.env.now) c.len.ensures in
+    let many = c.binders_weight-binders.ensures.value ∙ ap (binders_weight c.args.env.now) c.len.ensures in
     omega (arith, few, many)
 
 pub push_lambda-overflow_add-result : goal.push_lambda-overflow_add-result
@@ -57,8 +57,8 @@ push_lambda-overflow_add-result t c =
     let ctx = rows c.args.ctx.now in
     let inner : rows c.with.result ≡ ctx ++ c.in-Fun.params ∷ [] = c.with.ensures.rows ∙ ap (λ p. ctx ++ p ∷ []) c.as_slice.ensures in
     let rated : IsRated g (ctx ++ c.in-Fun.params ∷ []) (expr c.args.body.now) c.in_ok-row-in-Fun.row = subst (λ r. IsRated g r (expr c.args.body.now) c.in_ok-row-in-Fun.row) inner c.in_ok-row-in-Fun.ensures.rated in
-    let many = c.binders_weight.ensures.value ∙ ap (binders_weight g) c.len.ensures in
-    let e = lam-weight g ctx (expr c.args.body.now) c.args.wanted.now c.in-Fun.params c.in-Fun.to c.in_ok-row-in-Fun.row c.binders_weight.result (step_in g (Some c.in_ok-row-in-Fun.row.result) c.in-Fun.to) c.in-Fun.is rated many refl in
+    let many = c.binders_weight-binders.ensures.value ∙ ap (binders_weight g) c.len.ensures in
+    let e = lam-weight g ctx (expr c.args.body.now) c.args.wanted.now c.in-Fun.params c.in-Fun.to c.in_ok-row-in-Fun.row c.binders_weight-binders.result (step_in g (Some c.in_ok-row-in-Fun.row.result) c.in-Fun.to) c.in-Fun.is rated many refl in
     let low = small g ctx (lam (expr c.args.body.now) no_args) (c.args.wanted.now ∷ []) _ c.requires.parts e in
     omega (arith, low)
 
@@ -68,8 +68,8 @@ push_lambda-overflow_add-result-in-Fun t c =
     let ctx = rows c.args.ctx.now in
     let inner : rows c.with.result ≡ ctx ++ c.in-Fun.params ∷ [] = c.with.ensures.rows ∙ ap (λ p. ctx ++ p ∷ []) c.as_slice.ensures in
     let rated : IsRated g (ctx ++ c.in-Fun.params ∷ []) (expr c.args.body.now) c.in_ok-row-in-Fun.row = subst (λ r. IsRated g r (expr c.args.body.now) c.in_ok-row-in-Fun.row) inner c.in_ok-row-in-Fun.ensures.rated in
-    let many = c.binders_weight.ensures.value ∙ ap (binders_weight g) c.len.ensures in
-    let e = lam-weight g ctx (expr c.args.body.now) c.args.wanted.now c.in-Fun.params c.in-Fun.to c.in_ok-row-in-Fun.row c.binders_weight.result c.step.result c.in-Fun.is rated many c.step.ensures.value in
+    let many = c.binders_weight-binders.ensures.value ∙ ap (binders_weight g) c.len.ensures in
+    let e = lam-weight g ctx (expr c.args.body.now) c.args.wanted.now c.in-Fun.params c.in-Fun.to c.in_ok-row-in-Fun.row c.binders_weight-binders.result c.step.result c.in-Fun.is rated many c.step.ensures.value in
     let low = small g ctx (lam (expr c.args.body.now) no_args) (c.args.wanted.now ∷ []) _ c.requires.parts e in
     omega (arith, low)
 
@@ -82,8 +82,8 @@ push_lambda-returns-clause-weight t c =
     let ctx = rows c.args.ctx.now in
     let inner : rows c.with.result ≡ ctx ++ c.in-Fun.params ∷ [] = c.with.ensures.rows ∙ ap (λ p. ctx ++ p ∷ []) c.as_slice.ensures in
     let rated : IsRated g (ctx ++ c.in-Fun.params ∷ []) (expr c.args.body.now) c.in_ok-row-in-Fun.row = subst (λ r. IsRated g r (expr c.args.body.now) c.in_ok-row-in-Fun.row) inner c.in_ok-row-in-Fun.ensures.rated in
-    let many = c.binders_weight.ensures.value ∙ ap (binders_weight g) c.len.ensures in
-    lam-weight g ctx (expr c.args.body.now) c.args.wanted.now c.in-Fun.params c.in-Fun.to c.in_ok-row-in-Fun.row c.binders_weight.result c.step.result c.in-Fun.is rated many c.step.ensures.value
+    let many = c.binders_weight-binders.ensures.value ∙ ap (binders_weight g) c.len.ensures in
+    lam-weight g ctx (expr c.args.body.now) c.args.wanted.now c.in-Fun.params c.in-Fun.to c.in_ok-row-in-Fun.row c.binders_weight-binders.result c.step.result c.in-Fun.is rated many c.step.ensures.value
 
 pub push_lambda-returns-clause-rows : goal.push_lambda-returns-clause-rows
 push_lambda-returns-clause-rows t c =

@@ -3,9 +3,9 @@ use Rattle.terms.specs.Expr.{no_args}
 use Rattle.terms.specs.View.{expr, arg, args_view}
 use Rattle.terms.specs.Typing.{rows}
 use Rattle.terms.specs.Weights.{args_weight}
+use Rattle.terms.proofs.Sizes.{size, sizes}
 use Rattle.checker.specs.Rows.{args_rows}
 use Rattle.certificates.specs.Readable.{AreReadable}
-use Rattle.certificates.proofs.Sizes.{size, sizes}
 use Rattle.certificates.proofs.rows.+rows.Given as goal
 
 abbrev pub invariant-push_args-loop-i : goal.invariant-push_args-loop-i

@@ -1,14 +1,12 @@
--- How large terms are: the walk's calls go down by it.
+-- How large terms are: calls of a walk over a term go down by it.
 use Rattle.std.proofs.Common.{◌≡◌, ℕ, zero, suc, ◌+◌, ◌<◌, ◌≤◌, List, [], ◌∷◌, length, get_or, refl, sym, ap, subst, ◌∙◌, arith}
 use Rattle.terms.specs.Expr.{Expr, var, head, Args, no_args, plain, lam}
 use Rattle.terms.specs.View.{expr, arg, args_view}
-use Rattle.terms.specs.declared.parts.Parts.{Parts}
 use Rattle.terms.proofs.Views.{expr-Head, arg-Plain, arg-Lam}
 use Rattle.terms.specs.declared.term.Term.{Term}
 use Rattle.terms.specs.declared.term.Term as code_term
 use Rattle.terms.specs.declared.term.TermArg.{TermArg}
 use Rattle.terms.specs.declared.term.TermArg as code
-use Rattle.certificates.specs.Readable.{IsReadable}
 
 abbrev mutual
   -- the heads and arguments of a term
@@ -37,16 +35,10 @@ sizes-first (code.Plain t) rest = ap sizes (arg-Plain t rest) ∙ ap (λ n. n + 
 sizes-first (code.Lam t) rest = ap sizes (arg-Lam t rest) ∙ ap (λ n. n + sizes rest) (sym (size-Lam t (code.Lam t) refl))
 
 -- one of the arguments
-sizes-at : (xs : List TermArg) (i : ℕ) (d : TermArg) → i < length xs → sizes (arg (get_or xs i d) no_args) ≤ sizes (args_view xs)
+pub sizes-at : (xs : List TermArg) (i : ℕ) (d : TermArg) → i < length xs → sizes (arg (get_or xs i d) no_args) ≤ sizes (args_view xs)
 sizes-at [] i d l = absurd (omega arith)
 sizes-at (x ∷ xs) zero d l = omega (arith, sizes-first x (args_view xs))
 sizes-at (x ∷ xs) (suc i) d l = omega (arith, sizes-first x (args_view xs), sizes-at xs i d (omega arith))
 
 pub sizes-of : (xs : List TermArg) (i : ℕ) (x : TermArg) → i < length xs → x ≡ get_or xs i x → sizes (arg x no_args) ≤ sizes (args_view xs)
 sizes-of xs i x l e = subst (λ y. sizes (arg y no_args) ≤ sizes (args_view xs)) (sym e) (sizes-at xs i x l)
-
--- a term of the code over its arguments
-pub head-part : (g : Parts) (ctx : List (List ℕ)) (t : Term) (d : ℕ) (xs ws : List TermArg) → t ≡ code_term.Head d xs → ws ≡ xs → IsReadable g ctx (expr t) → IsReadable g ctx (head d (args_view ws))
-head-part g ctx t d xs ws is same r =
-    let r' : IsReadable g ctx (head d (args_view xs)) = subst (λ e. IsReadable g ctx e) (ap expr is ∙ expr-Head d xs) r in
-    subst (λ l. IsReadable g ctx (head d (args_view l))) (sym same) r'
