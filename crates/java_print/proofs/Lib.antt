@@ -1,4 +1,3 @@
 -- Lemmas of the printer.
 pub mod Equations
 pub mod Lists
-pub mod Sizes

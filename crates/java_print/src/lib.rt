@@ -3,6 +3,7 @@
 #![tactic(auto)]
 
 mod arguments;
+mod printer;
 mod printing;
 mod receivers;
 mod scope;

@@ -1,9 +1,10 @@
-ghost use Rattle.std.specs.Prelude.{◌≡◌, ◌≢◌, ◌≤◌, ◌++◌, true, None, OnOk, IfOk, length, []};
+ghost use Rattle.std.specs.Prelude.{◌≡◌, ◌≢◌, ◌++◌, true, None, OnOk, IfOk, length, []};
 ghost use Rattle.terms.specs.Typing.{type_in, fits, rows, joined};
 ghost use Rattle.terms.specs.Text.{text_in, text_of, printed, form_text, method_text, field_text, lambda_text, binders_text, parameters};
 ghost use Rattle.terms.specs.View.{expr, args_view};
 
 use crate::arguments::{print_argument, print_arguments};
+use crate::printer::Printer;
 use crate::receivers::print_receiver;
 use crate::scope::bound;
 use crate::words::{parameters, print_binders, print_variable};
@@ -21,7 +22,11 @@ pub fn text(alloc: Global, env: &Env, term: &Term) -> Result<Text, AllocError>
     ensures text { IfOk result (λ text. text ≡ text_of env.now (expr term.now)) }
 {
     let mut out = Text::from_string(String::with_capacity(alloc, ROOM)?);
-    print_term(alloc, env.parts(), &Ctx::empty(), term, &mut out)?;
+    let printer = Printer {
+        alloc,
+        ctx: Ctx::empty(),
+    };
+    print_term(&printer, env.parts(), term, &mut out)?;
     Ok(out)
 }
 
@@ -29,20 +34,18 @@ pub fn text(alloc: Global, env: &Env, term: &Term) -> Result<Text, AllocError>
 #[cycle(printing)]
 #[tactic(auto, using(crate::proofs::Equations::printing))]
 pub fn print_term(
-    alloc: Global,
+    printer: &Printer<'_>,
     parts: &Parts,
-    ctx: &Ctx<'_>,
     term: &Term,
     out: &mut Text,
 ) -> Result<(), AllocError>
-    requires room { ctx.now.used ≤ 3 }
-    requires typed { type_in parts.now (rows ctx.now) (expr term.now) ≢ None }
-    ensures { OnOk result (out.new ≡ out.old ++ text_in parts.now (rows ctx.now) (expr term.now)) }
+    requires typed { type_in parts.now (rows printer.now.ctx) (expr term.now) ≢ None }
+    ensures { OnOk result (out.new ≡ out.old ++ text_in parts.now (rows printer.now.ctx) (expr term.now)) }
 {
     match term {
-        Term::Var(n) => print_variable(alloc, parts, *n as u64, out),
+        Term::Var(n) => print_variable(printer.alloc, parts, *n as u64, out),
         Term::Head(d, args) => match parts.decls.get(*d as usize) {
-            Some(decl) => print_declared(alloc, parts, ctx, decl, args.as_slice(), out),
+            Some(decl) => print_declared(printer, parts, decl, args.as_slice(), out),
             None => Ok(()),
         },
     }
@@ -52,34 +55,32 @@ pub fn print_term(
 #[cycle(printing)]
 #[tactic(auto, using(crate::proofs::Equations::printing))]
 fn print_declared(
-    alloc: Global,
+    printer: &Printer<'_>,
     parts: &Parts,
-    ctx: &Ctx<'_>,
     decl: &Decl,
     args: &[TermArg],
     out: &mut Text,
 ) -> Result<(), AllocError>
-    requires room { ctx.now.used ≤ 3 }
-    requires typed { fits parts.now (rows ctx.now) (args_view args.now) decl.now.args ≡ true }
+    requires typed { fits parts.now (rows printer.now.ctx) (args_view args.now) decl.now.args ≡ true }
     ensures { OnOk result (out.new ≡ out.old ++ form_text decl.now.form
-        (binders_text parts.now (length (joined (rows ctx.now))) (parameters decl.now.args))
-        (printed parts.now (rows ctx.now) decl.now.crowded (args_view args.now) decl.now.args)) }
+        (binders_text parts.now (length (joined (rows printer.now.ctx))) (parameters decl.now.args))
+        (printed parts.now (rows printer.now.ctx) decl.now.crowded (args_view args.now) decl.now.args)) }
 {
     match &decl.form {
         Form::Name(name) => out.push_str(name.as_str()),
         Form::This => out.push_str("this"),
         Form::Call(name) => {
             out.push_str(name.as_str())?;
-            print_arguments(alloc, parts, ctx, decl, args, 0, out)
+            print_arguments(printer, parts, decl, args, 0, out)
         }
         Form::New(name) => {
             out.push_str("new ")?;
             out.push_str(name.as_str())?;
-            print_arguments(alloc, parts, ctx, decl, args, 0, out)
+            print_arguments(printer, parts, decl, args, 0, out)
         }
-        Form::Method(name) => print_method(alloc, parts, ctx, decl, args, name, out),
-        Form::Field(name, hidden) => print_field(alloc, parts, ctx, decl, args, name, *hidden, out),
-        Form::Lambda(name) => print_lambda(alloc, parts, ctx, decl, args, name, out),
+        Form::Method(name) => print_method(printer, parts, decl, args, name, out),
+        Form::Field(name, hidden) => print_field(printer, parts, decl, args, name, *hidden, out),
+        Form::Lambda(name) => print_lambda(printer, parts, decl, args, name, out),
     }
 }
 
@@ -87,24 +88,22 @@ fn print_declared(
 #[cycle(printing)]
 #[tactic(auto, using(crate::proofs::Equations::printing))]
 fn print_method(
-    alloc: Global,
+    printer: &Printer<'_>,
     parts: &Parts,
-    ctx: &Ctx<'_>,
     decl: &Decl,
     args: &[TermArg],
     name: &Text,
     out: &mut Text,
 ) -> Result<(), AllocError>
-    requires room { ctx.now.used ≤ 3 }
-    requires typed { fits parts.now (rows ctx.now) (args_view args.now) decl.now.args ≡ true }
-    ensures { OnOk result (out.new ≡ out.old ++ method_text name.now (printed parts.now (rows ctx.now) decl.now.crowded (args_view args.now) decl.now.args)) }
+    requires typed { fits parts.now (rows printer.now.ctx) (args_view args.now) decl.now.args ≡ true }
+    ensures { OnOk result (out.new ≡ out.old ++ method_text name.now (printed parts.now (rows printer.now.ctx) decl.now.crowded (args_view args.now) decl.now.args)) }
 {
     if args.is_empty() {
         return Ok(());
     }
-    print_receiver(alloc, parts, ctx, decl, args, false, out)?;
+    print_receiver(printer, parts, decl, args, false, out)?;
     out.push_str(name.as_str())?;
-    print_arguments(alloc, parts, ctx, decl, args, 1, out)?;
+    print_arguments(printer, parts, decl, args, 1, out)?;
     Ok(())
 }
 
@@ -112,23 +111,21 @@ fn print_method(
 #[cycle(printing)]
 #[tactic(auto, using(crate::proofs::Equations::printing))]
 fn print_field(
-    alloc: Global,
+    printer: &Printer<'_>,
     parts: &Parts,
-    ctx: &Ctx<'_>,
     decl: &Decl,
     args: &[TermArg],
     name: &Text,
     hidden: bool,
     out: &mut Text,
 ) -> Result<(), AllocError>
-    requires room { ctx.now.used ≤ 3 }
-    requires typed { fits parts.now (rows ctx.now) (args_view args.now) decl.now.args ≡ true }
-    ensures { OnOk result (out.new ≡ out.old ++ field_text name.now hidden (printed parts.now (rows ctx.now) decl.now.crowded (args_view args.now) decl.now.args)) }
+    requires typed { fits parts.now (rows printer.now.ctx) (args_view args.now) decl.now.args ≡ true }
+    ensures { OnOk result (out.new ≡ out.old ++ field_text name.now hidden (printed parts.now (rows printer.now.ctx) decl.now.crowded (args_view args.now) decl.now.args)) }
 {
     if args.is_empty() {
         return Ok(());
     }
-    print_receiver(alloc, parts, ctx, decl, args, hidden, out)?;
+    print_receiver(printer, parts, decl, args, hidden, out)?;
     out.push_str(name.as_str())?;
     Ok(())
 }
@@ -137,19 +134,17 @@ fn print_field(
 #[cycle(printing)]
 #[tactic(auto, using(crate::proofs::Equations::printing))]
 fn print_lambda(
-    alloc: Global,
+    printer: &Printer<'_>,
     parts: &Parts,
-    ctx: &Ctx<'_>,
     decl: &Decl,
     args: &[TermArg],
     name: &Text,
     out: &mut Text,
 ) -> Result<(), AllocError>
-    requires room { ctx.now.used ≤ 3 }
-    requires typed { fits parts.now (rows ctx.now) (args_view args.now) decl.now.args ≡ true }
+    requires typed { fits parts.now (rows printer.now.ctx) (args_view args.now) decl.now.args ≡ true }
     ensures { OnOk result (out.new ≡ out.old ++ lambda_text name.now
-        (binders_text parts.now (length (joined (rows ctx.now))) (parameters decl.now.args))
-        (printed parts.now (rows ctx.now) decl.now.crowded (args_view args.now) decl.now.args)) }
+        (binders_text parts.now (length (joined (rows printer.now.ctx))) (parameters decl.now.args))
+        (printed parts.now (rows printer.now.ctx) decl.now.crowded (args_view args.now) decl.now.args)) }
 {
     if args.is_empty() {
         return Ok(());
@@ -159,13 +154,13 @@ fn print_lambda(
     out.push_str(name.as_str())?;
     out.push_str(") (")?;
     print_binders(
-        alloc,
+        printer.alloc,
         parts,
-        bound(ctx) as u64,
+        bound(&printer.ctx) as u64,
         parameters(wanted) as u64,
         out,
     )?;
     out.push_str(") -> ")?;
-    print_argument(alloc, parts, ctx, decl.crowded, &args[0], &wanted[0], out)?;
+    print_argument(printer, parts, decl.crowded, &args[0], &wanted[0], out)?;
     Ok(())
 }

@@ -2,6 +2,7 @@ ghost use Rattle.std.specs.Prelude.{◌≡◌, ◌≢◌, ◌≤◌, ◌<◌, �
 ghost use Rattle.terms.specs.Typing.{rows, joined, type_in};
 ghost use Rattle.terms.specs.View.{expr};
 
+use crate::printer::Printer;
 use terms::{Ctx, Parts, Term};
 
 /// How many variables are bound.
@@ -25,13 +26,12 @@ pub fn bound(ctx: &Ctx<'_>) -> usize
 
 /// The type of a term that has one: what its head gives.
 #[tactic(auto, using(crate::proofs::Equations::printing))]
-pub fn type_of(parts: &Parts, ctx: &Ctx<'_>, term: &Term) -> Option<u32>
-    requires room { ctx.now.used ≤ 3 }
-    requires typed { type_in parts.now (rows ctx.now) (expr term.now) ≢ None }
-    ensures { result ≡ type_in parts.now (rows ctx.now) (expr term.now) }
+pub fn type_of(printer: &Printer<'_>, parts: &Parts, term: &Term) -> Option<u32>
+    requires typed { type_in parts.now (rows printer.now.ctx) (expr term.now) ≢ None }
+    ensures { result ≡ type_in parts.now (rows printer.now.ctx) (expr term.now) }
 {
     match term {
-        Term::Var(n) => ctx.variable(*n),
+        Term::Var(n) => printer.ctx.variable(*n),
         Term::Head(d, _) => match parts.decls.get(*d as usize) {
             Some(decl) => Some(decl.result),
             None => None,

@@ -8,7 +8,7 @@ use Rattle.terms.specs.declared.term.TermArg as code
 use Rattle.java_print.specs.Pieces.{at_place, suits_place, first_text, separator, rest_text, argument_texts, cast_text, owner_text}
 use Rattle.java_print.proofs.Equations.{printing, at_place-Plain, at_place-Lam, cast_then}
 use Rattle.java_print.proofs.Lists.{before, written, fits-at, texts-at, texts-end, fits-long, rest-more, rest-first, rest-none, split_first, some_split, some_length, printed-none, one_printed, method_pieces, field_pieces, lambda_pieces, owner_left_out_at, owner_bracketed_at, owner_open_at, empty_list}
-use Rattle.java_print.proofs.Sizes.{size, sizes, size-Head, size-Plain, size-Lam, sizes-of}
+use Rattle.terms.proofs.Sizes.{size-Head, size-Plain, size-Lam, sizes-of}
 use Rattle.java_print.proofs.+printing.Goals as goal
 
 pub arguments::print_argument-print_term-requires : goal.arguments::print_argument-print_term-requires
@@ -20,7 +20,7 @@ arguments::print_argument-print_term-requires-in-Fun-wanted t c = (omega (arith,
 pub arguments::print_argument-returns-in_ok-print_term-in-Plain-wanted : goal.arguments::print_argument-returns-in_ok-print_term-in-Plain-wanted
 arguments::print_argument-returns-in_ok-print_term-in-Plain-wanted t c =
     let g = c.args.parts.now in
-    let ctx = rows c.args.ctx.now in
+    let ctx = rows c.args.printer.now.ctx in
     let term = c.in-Plain.term in
     let b = c.in-Plain-wanted.wanted in
     let cast = cast_of g c.args.crowded (type_in g ctx (expr term)) b in
@@ -32,12 +32,12 @@ arguments::print_argument-returns-in_ok-print_term-in-Plain-wanted t c =
 pub arguments::print_argument-returns-in_ok-print_term-in-Fun-wanted : goal.arguments::print_argument-returns-in_ok-print_term-in-Fun-wanted
 arguments::print_argument-returns-in_ok-print_term-in-Fun-wanted t c =
     let g = c.args.parts.now in
-    let inner = rows c.args.ctx.now ++ c.in-Fun-wanted.params ∷ [] in
+    let inner = rows c.args.printer.now.ctx ++ c.in-Fun-wanted.params ∷ [] in
     let term = c.in-Lam.body in
     let b = c.in-Fun-wanted.wanted in
     let cast = cast_of g c.args.crowded (type_in g inner (expr term)) b in
-    let place : first_text (at_place g (rows c.args.ctx.now) c.args.crowded c.args.arg.now c.args.wanted.now) ≡ cast_text cast ++ text_in g inner (expr term)
-    = rw (c.in-Lam.is, c.in-Fun-wanted.is) (ap first_text (at_place-Lam g (rows c.args.ctx.now) c.args.crowded term c.in-Fun-wanted.params b) ∙ cast_then cast (text_in g inner (expr term))) in
+    let place : first_text (at_place g (rows c.args.printer.now.ctx) c.args.crowded c.args.arg.now c.args.wanted.now) ≡ cast_text cast ++ text_in g inner (expr term)
+    = rw (c.in-Lam.is, c.in-Fun-wanted.is) (ap first_text (at_place-Lam g (rows c.args.printer.now.ctx) c.args.crowded term c.in-Fun-wanted.params b) ∙ cast_then cast (text_in g inner (expr term))) in
     let after : c.print_cast-in-Fun-wanted.new.out ≡ c.args.out.now ++ cast_text cast = search rules in
     before c.args.out.now c.print_cast-in-Fun-wanted.new.out c.print_term-in-Fun-wanted.new.out (cast_text cast) (text_in g inner (expr term)) (search rules) after ∙ ap (λ u. c.args.out.now ++ u) (sym place)
 
@@ -45,7 +45,7 @@ pub arguments::print_arguments-loop-i-init : goal.arguments::print_arguments-loo
 arguments::print_arguments-loop-i-init t c =
     let from = c.args.from in
     let old = c.args.out.now in
-    let texts = argument_texts c.args.parts.now (rows c.args.ctx.now) c.args.decl.now.crowded (drop from c.args.args.now) (drop from c.args.decl.now.args) in
+    let texts = argument_texts c.args.parts.now (rows c.args.printer.now.ctx) c.args.decl.now.crowded (drop from c.args.args.now) (drop from c.args.decl.now.args) in
     let opened : c.push_str.new.self ≡ old ++ 40 ∷ [] = search rules in
     let first : rest_text (from == from) texts ≡ listed texts = ap (λ b. rest_text b texts) (eq-eqb from from refl) ∙ rest-first texts in
     record {
@@ -56,20 +56,20 @@ arguments::print_arguments-loop-i-init t c =
 
 pub arguments::print_arguments-bounds-wanted-i : goal.arguments::print_arguments-bounds-wanted-i
 arguments::print_arguments-bounds-wanted-i t c =
-    let long = fits-long c.args.parts.now (rows c.args.ctx.now) c.args.args.now c.args.decl.now.args c.requires.typed in
+    let long = fits-long c.args.parts.now (rows c.args.printer.now.ctx) c.args.args.now c.args.decl.now.args c.requires.typed in
     rw c.as_slice-wanted.ensures (omega (arith, long))
 
 pub arguments::print_arguments-print_argument-requires : goal.arguments::print_arguments-print_argument-requires
 arguments::print_arguments-print_argument-requires t c =
-    let long = fits-long c.args.parts.now (rows c.args.ctx.now) c.args.args.now c.args.decl.now.args c.requires.typed in
+    let long = fits-long c.args.parts.now (rows c.args.printer.now.ctx) c.args.args.now c.args.decl.now.args c.requires.typed in
     let wanted = rw c.as_slice-wanted.ensures at c.index-wanted-i.is in
     let smaller = sizes-of c.args.args.now c.loop-i.i c.index-args-i.result (omega arith) c.index-args-i.is in
-    (omega (arith, c.decreases, smaller), (c.requires.room, (fits-at _ _ c.args.args.now c.args.decl.now.args c.loop-i.i c.index-args-i.result c.index-wanted-i.result (omega arith) (omega (arith, long)) c.index-args-i.is wanted c.loop-i.invariant.fit).0))
+    (omega (arith, c.decreases, smaller), (fits-at _ _ c.args.args.now c.args.decl.now.args c.loop-i.i c.index-args-i.result c.index-wanted-i.result (omega arith) (omega (arith, long)) c.index-args-i.is wanted c.loop-i.invariant.fit).0)
 
 pub arguments::print_arguments-loop-i-preserved : goal.arguments::print_arguments-loop-i-preserved
 arguments::print_arguments-loop-i-preserved t c =
     let g = c.args.parts.now in
-    let ctx = rows c.args.ctx.now in
+    let ctx = rows c.args.printer.now.ctx in
     let crowded = c.args.decl.now.crowded in
     let xs = c.args.args.now in
     let ws = c.args.decl.now.args in
@@ -94,23 +94,23 @@ arguments::print_arguments-loop-i-preserved t c =
 
 pub arguments::print_arguments-returns : goal.arguments::print_arguments-returns
 arguments::print_arguments-returns t c =
-    let long = fits-long c.args.parts.now (rows c.args.ctx.now) c.args.args.now c.args.decl.now.args c.requires.typed in
+    let long = fits-long c.args.parts.now (rows c.args.printer.now.ctx) c.args.args.now c.args.decl.now.args c.requires.typed in
     let b = c.loop-i.i == c.args.from in
     let out = c.loop-i.out in
-    let none : rest_text b (argument_texts c.args.parts.now (rows c.args.ctx.now) c.args.decl.now.crowded (drop c.loop-i.i c.args.args.now) (drop c.loop-i.i c.args.decl.now.args)) ≡ []
-    = ap (rest_text b) (texts-end c.args.parts.now (rows c.args.ctx.now) c.args.decl.now.crowded c.args.args.now c.args.decl.now.args c.loop-i.i (omega arith) (omega (arith, long))) ∙ rest-none b in
+    let none : rest_text b (argument_texts c.args.parts.now (rows c.args.printer.now.ctx) c.args.decl.now.crowded (drop c.loop-i.i c.args.args.now) (drop c.loop-i.i c.args.decl.now.args)) ≡ []
+    = ap (rest_text b) (texts-end c.args.parts.now (rows c.args.printer.now.ctx) c.args.decl.now.crowded c.args.args.now c.args.decl.now.args c.loop-i.i (omega arith) (omega (arith, long))) ∙ rest-none b in
     let shut : c.push_str-2.new.self ≡ out ++ 41 ∷ [] = search rules in
     shut ∙ ap (λ u. u ++ 41 ∷ []) (sym (append-nil out) ∙ ap (λ u. out ++ u) (sym none)) ∙ c.loop-i.invariant.same
 
 pub printing::print_field-returns-then-is_empty : goal.printing::print_field-returns-then-is_empty
 printing::print_field-returns-then-is_empty t c =
     let none : c.args.args.now ≡ [] = empty_list _ (grind arith) in
-    sym (append-nil c.args.out.now) ∙ ap (λ u. c.args.out.now ++ u) (sym (ap (field_text c.args.name.now c.args.hidden) (printed-none c.args.parts.now (rows c.args.ctx.now) c.args.decl.now.crowded c.args.args.now c.args.decl.now.args none)))
+    sym (append-nil c.args.out.now) ∙ ap (λ u. c.args.out.now ++ u) (sym (ap (field_text c.args.name.now c.args.hidden) (printed-none c.args.parts.now (rows c.args.printer.now.ctx) c.args.decl.now.crowded c.args.args.now c.args.decl.now.args none)))
 
 pub printing::print_field-returns : goal.printing::print_field-returns
 printing::print_field-returns t c =
     let g = c.args.parts.now in
-    let ctx = rows c.args.ctx.now in
+    let ctx = rows c.args.printer.now.ctx in
     let ps = printed g ctx c.args.decl.now.crowded (args_view c.args.args.now) c.args.decl.now.args in
     let some : 0 < length c.args.args.now = grind arith in
     let split = some_split g ctx c.args.decl.now.crowded c.args.args.now c.args.decl.now.args some c.requires.typed in
@@ -120,26 +120,26 @@ printing::print_field-returns t c =
 pub printing::print_lambda-returns-then-is_empty : goal.printing::print_lambda-returns-then-is_empty
 printing::print_lambda-returns-then-is_empty t c =
     let none : c.args.args.now ≡ [] = empty_list _ (grind arith) in
-    sym (append-nil c.args.out.now) ∙ ap (λ u. c.args.out.now ++ u) (sym (ap (lambda_text c.args.name.now (binders_text c.args.parts.now (length (joined (rows c.args.ctx.now))) (parameters c.args.decl.now.args))) (printed-none c.args.parts.now (rows c.args.ctx.now) c.args.decl.now.crowded c.args.args.now c.args.decl.now.args none)))
+    sym (append-nil c.args.out.now) ∙ ap (λ u. c.args.out.now ++ u) (sym (ap (lambda_text c.args.name.now (binders_text c.args.parts.now (length (joined (rows c.args.printer.now.ctx))) (parameters c.args.decl.now.args))) (printed-none c.args.parts.now (rows c.args.printer.now.ctx) c.args.decl.now.crowded c.args.args.now c.args.decl.now.args none)))
 
 pub printing::print_lambda-bounds-wanted-0 : goal.printing::print_lambda-bounds-wanted-0
 printing::print_lambda-bounds-wanted-0 t c =
-    let long = fits-long c.args.parts.now (rows c.args.ctx.now) c.args.args.now c.args.decl.now.args c.requires.typed in
+    let long = fits-long c.args.parts.now (rows c.args.printer.now.ctx) c.args.args.now c.args.decl.now.args c.requires.typed in
     let some : 0 < length c.args.args.now = grind arith in
     rw c.as_slice-wanted.ensures (omega (arith, long, some))
 
 pub printing::print_lambda-print_argument-requires : goal.printing::print_lambda-print_argument-requires
 printing::print_lambda-print_argument-requires t c =
-    let long = fits-long c.args.parts.now (rows c.args.ctx.now) c.args.args.now c.args.decl.now.args c.requires.typed in
+    let long = fits-long c.args.parts.now (rows c.args.printer.now.ctx) c.args.args.now c.args.decl.now.args c.requires.typed in
     let some : 0 < length c.args.args.now = grind arith in
     let wanted = rw c.as_slice-wanted.ensures at c.index-wanted-0.is in
     let smaller = sizes-of c.args.args.now 0 c.index-args-0.result some c.index-args-0.is in
-    (omega (arith, c.decreases, smaller), (c.requires.room, (fits-at _ _ c.args.args.now c.args.decl.now.args 0 c.index-args-0.result c.index-wanted-0.result some (omega (arith, long, some)) c.index-args-0.is wanted c.requires.typed).0))
+    (omega (arith, c.decreases, smaller), (fits-at _ _ c.args.args.now c.args.decl.now.args 0 c.index-args-0.result c.index-wanted-0.result some (omega (arith, long, some)) c.index-args-0.is wanted c.requires.typed).0)
 
 pub printing::print_lambda-returns : goal.printing::print_lambda-returns
 printing::print_lambda-returns t c =
     let g = c.args.parts.now in
-    let ctx = rows c.args.ctx.now in
+    let ctx = rows c.args.printer.now.ctx in
     let crowded = c.args.decl.now.crowded in
     let xs = c.args.args.now in
     let ws = c.args.decl.now.args in
@@ -175,12 +175,12 @@ printing::print_lambda-returns t c =
 pub printing::print_method-returns-then-is_empty : goal.printing::print_method-returns-then-is_empty
 printing::print_method-returns-then-is_empty t c =
     let none : c.args.args.now ≡ [] = empty_list _ (grind arith) in
-    sym (append-nil c.args.out.now) ∙ ap (λ u. c.args.out.now ++ u) (sym (ap (method_text c.args.name.now) (printed-none c.args.parts.now (rows c.args.ctx.now) c.args.decl.now.crowded c.args.args.now c.args.decl.now.args none)))
+    sym (append-nil c.args.out.now) ∙ ap (λ u. c.args.out.now ++ u) (sym (ap (method_text c.args.name.now) (printed-none c.args.parts.now (rows c.args.printer.now.ctx) c.args.decl.now.crowded c.args.args.now c.args.decl.now.args none)))
 
 pub printing::print_method-returns : goal.printing::print_method-returns
 printing::print_method-returns t c =
     let g = c.args.parts.now in
-    let ctx = rows c.args.ctx.now in
+    let ctx = rows c.args.printer.now.ctx in
     let crowded = c.args.decl.now.crowded in
     let old = c.args.out.now in
     let name = c.args.name.now in
@@ -196,8 +196,8 @@ printing::print_method-returns t c =
 pub printing::print_method-print_arguments-requires : goal.printing::print_method-print_arguments-requires
 printing::print_method-print_arguments-requires t c =
     let some : 0 < length c.args.args.now = grind arith in
-    let split = some_split c.args.parts.now (rows c.args.ctx.now) c.args.decl.now.crowded c.args.args.now c.args.decl.now.args some c.requires.typed in
-    (omega (arith, c.decreases), (c.requires.room, (c.requires.typed, split.2)))
+    let split = some_split c.args.parts.now (rows c.args.printer.now.ctx) c.args.decl.now.crowded c.args.args.now c.args.decl.now.args some c.requires.typed in
+    (omega (arith, c.decreases), (c.requires.typed, split.2))
 
 pub printing::print_term-print_declared-requires : goal.printing::print_term-print_declared-requires
 printing::print_term-print_declared-requires t c =
@@ -205,29 +205,29 @@ printing::print_term-print_declared-requires t c =
 
 pub receivers::print_owner-returns : goal.receivers::print_owner-returns
 receivers::print_owner-returns t c =
-    let ps = at_place c.args.parts.now (rows c.args.ctx.now) c.args.crowded c.args.arg.now c.args.wanted.now in
+    let ps = at_place c.args.parts.now (rows c.args.printer.now.ctx) c.args.crowded c.args.arg.now c.args.wanted.now in
     let old = c.args.out.now in
-    let one = one_printed c.args.parts.now (rows c.args.ctx.now) c.args.crowded c.args.arg.now c.args.wanted.now c.requires.typed in
+    let one = one_printed c.args.parts.now (rows c.args.printer.now.ctx) c.args.crowded c.args.arg.now c.args.wanted.now c.requires.typed in
     let pieces = owner_open_at c.args.keeps_this ps one.0 one.1 (sym c.if-is_left_out.ensures) (sym c.if-is_bracketed.ensures) in
     before old c.print_argument-2.new.out c.push_str-2.new.self (first_text ps) (46 ∷ []) (search rules) (search rules) ∙ ap (λ u. old ++ u) (sym pieces)
 
 pub receivers::print_receiver-bounds-wanted-0 : goal.receivers::print_receiver-bounds-wanted-0
 receivers::print_receiver-bounds-wanted-0 t c =
-    let long = fits-long c.args.parts.now (rows c.args.ctx.now) c.args.args.now c.args.decl.now.args c.requires.typed in
+    let long = fits-long c.args.parts.now (rows c.args.printer.now.ctx) c.args.args.now c.args.decl.now.args c.requires.typed in
     rw c.as_slice-wanted.ensures (omega (arith, long, some_length c.args.args.now c.requires.some))
 
 pub receivers::print_receiver-print_owner-requires : goal.receivers::print_receiver-print_owner-requires
 receivers::print_receiver-print_owner-requires t c =
-    let long = fits-long c.args.parts.now (rows c.args.ctx.now) c.args.args.now c.args.decl.now.args c.requires.typed in
+    let long = fits-long c.args.parts.now (rows c.args.printer.now.ctx) c.args.args.now c.args.decl.now.args c.requires.typed in
     let some = some_length c.args.args.now c.requires.some in
     let wanted = rw c.as_slice-wanted.ensures at c.index-wanted-0.is in
     let smaller = sizes-of c.args.args.now 0 c.index-args-0.result some c.index-args-0.is in
-    (omega (arith, c.decreases, smaller), (c.requires.room, (fits-at _ _ c.args.args.now c.args.decl.now.args 0 c.index-args-0.result c.index-wanted-0.result some (omega (arith, long, some)) c.index-args-0.is wanted c.requires.typed).0))
+    (omega (arith, c.decreases, smaller), (fits-at _ _ c.args.args.now c.args.decl.now.args 0 c.index-args-0.result c.index-wanted-0.result some (omega (arith, long, some)) c.index-args-0.is wanted c.requires.typed).0)
 
 pub receivers::print_receiver-returns : goal.receivers::print_receiver-returns
 receivers::print_receiver-returns t c =
     let g = c.args.parts.now in
-    let ctx = rows c.args.ctx.now in
+    let ctx = rows c.args.printer.now.ctx in
     let crowded = c.args.decl.now.crowded in
     let long = fits-long g ctx c.args.args.now c.args.decl.now.args c.requires.typed in
     let some = some_length c.args.args.now c.requires.some in

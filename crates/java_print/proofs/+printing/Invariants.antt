@@ -3,15 +3,15 @@ use Rattle.terms.specs.Typing.{fits, rows}
 use Rattle.terms.specs.Text.{printed, call_text}
 use Rattle.terms.specs.Expr.{no_args}
 use Rattle.terms.specs.View.{expr, arg, args_view}
-use Rattle.java_print.proofs.Sizes.{size, sizes}
+use Rattle.terms.proofs.Sizes.{size, sizes}
 use Rattle.java_print.specs.Pieces.{rest_text, argument_texts}
 use Rattle.java_print.proofs.+printing.Given as goal
 
 abbrev pub invariant-arguments::print_arguments-loop-i : goal.invariant-arguments::print_arguments-loop-i
 invariant-arguments::print_arguments-loop-i l = record {
   later : l.from ≤ l.i;
-  fit : fits l.parts (rows l.ctx) (args_view (drop l.i l.args)) (drop l.i l.decl.args) ≡ true;
-  same : (l.out ++ rest_text (l.i == l.from) (argument_texts l.parts (rows l.ctx) l.decl.crowded (drop l.i l.args) (drop l.i l.decl.args))) ++ 41 ∷ [] ≡ l.fn.out ++ call_text (printed l.parts (rows l.ctx) l.decl.crowded (args_view (drop l.from l.args)) (drop l.from l.decl.args));
+  fit : fits l.parts (rows l.printer.ctx) (args_view (drop l.i l.args)) (drop l.i l.decl.args) ≡ true;
+  same : (l.out ++ rest_text (l.i == l.from) (argument_texts l.parts (rows l.printer.ctx) l.decl.crowded (drop l.i l.args) (drop l.i l.decl.args))) ++ 41 ∷ [] ≡ l.fn.out ++ call_text (printed l.parts (rows l.printer.ctx) l.decl.crowded (args_view (drop l.from l.args)) (drop l.from l.decl.args));
 }
 
 abbrev pub decreases-printing::print_term : goal.decreases-printing::print_term
