@@ -7,6 +7,7 @@ ghost use Rattle.edges.specs.Edges.{AreEdges};
 ghost use Rattle.least_weights.specs.LeastWeight.{AreLeastWeights};
 
 use crate::fixpoint::solve;
+use crate::limit::Limit;
 use edges::Edges;
 use patterns::Patterns;
 use std::alloc::{AllocError, Global};
@@ -51,7 +52,8 @@ impl Least {
         let _ = env.parts();
         let _ = compressed.needs();
         let count = patterns.states().len();
-        let numbers = solve(alloc, limit, count, edges)?;
+        let most = Limit { value: limit };
+        let numbers = solve(alloc, most, count, edges)?;
         Ok(Least { limit, numbers })
     }
 

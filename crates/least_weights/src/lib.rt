@@ -6,6 +6,7 @@
 mod costs;
 mod fixpoint;
 mod least;
+mod limit;
 mod relaxation;
 mod users;
 

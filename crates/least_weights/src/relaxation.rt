@@ -7,6 +7,7 @@ ghost use Rattle.least_weights.specs.declared.users.Link.{Link};
 ghost use Rattle.edges.specs.Edges.{Edge};
 
 use crate::costs::{cost_of, number_at};
+use crate::limit::Limit;
 use crate::users::Link;
 use edges::Edges;
 use std::alloc::AllocError;
@@ -32,17 +33,16 @@ fn lower(
 
 /// Lets the number of an edge's state fall to what the edge gives, where that is less.
 fn relax(
-    limit: u32,
+    limit: Limit,
     edges: &Edges,
     edge: u32,
     numbers: &mut Vec<u32>,
     queue: &mut WeightQueue<u32>,
 ) -> Result<(), AllocError>
-    requires small { limit ≤ 10000 }
     requires in_range { edge < length edges.now }
     requires states { (m : ℕ) (e : Edge) → slice_get edges.now m ≡ Some e → e.state < length numbers.old.items }
-    ensures step { OnOk result (IsStep limit edges.now numbers.old.items queue.old.items numbers.new.items queue.new.items) }
-    ensures settled { OnOk result ((e : Edge) → slice_get edges.now edge ≡ Some e → IsSettled limit numbers.new.items queue.new.items e) }
+    ensures step { OnOk result (IsStep limit.value edges.now numbers.old.items queue.old.items numbers.new.items queue.new.items) }
+    ensures settled { OnOk result ((e : Edge) → slice_get edges.now edge ≡ Some e → IsSettled limit.value numbers.new.items queue.new.items e) }
     ensures as_many { length numbers.new.items ≡ length numbers.old.items }
 {
     let state = edges.state(edge);
@@ -61,16 +61,15 @@ fn relax(
 
 /// The step for the edge of a number, where there is one.
 fn relax_numbered(
-    limit: u32,
+    limit: Limit,
     edges: &Edges,
     number: u32,
     numbers: &mut Vec<u32>,
     queue: &mut WeightQueue<u32>,
 ) -> Result<(), AllocError>
-    requires small { limit ≤ 10000 }
     requires states { (m : ℕ) (e : Edge) → slice_get edges.now m ≡ Some e → e.state < length numbers.old.items }
-    ensures step { OnOk result (IsStep limit edges.now numbers.old.items queue.old.items numbers.new.items queue.new.items) }
-    ensures settled { OnOk result ((e : Edge) → slice_get edges.now number ≡ Some e → IsSettled limit numbers.new.items queue.new.items e) }
+    ensures step { OnOk result (IsStep limit.value edges.now numbers.old.items queue.old.items numbers.new.items queue.new.items) }
+    ensures settled { OnOk result ((e : Edge) → slice_get edges.now number ≡ Some e → IsSettled limit.value numbers.new.items queue.new.items e) }
     ensures as_many { length numbers.new.items ≡ length numbers.old.items }
 {
     if number >= edges.len() {
@@ -81,19 +80,18 @@ fn relax_numbered(
 
 /// The steps for the edges of a chain.
 pub fn relax_chain(
-    limit: u32,
+    limit: Limit,
     edges: &Edges,
     links: &[Link],
     first: u32,
     numbers: &mut Vec<u32>,
     queue: &mut WeightQueue<u32>,
 ) -> Result<(), AllocError>
-    requires small { limit ≤ 10000 }
     requires states { (m : ℕ) (e : Edge) → slice_get edges.now m ≡ Some e → e.state < length numbers.old.items }
     requires falling { (k : ℕ) (l : Link) → slice_get links.now k ≡ Some l → l.next ≤ k }
     requires within { first ≤ length links.now }
-    ensures step { OnOk result (IsStep limit edges.now numbers.old.items queue.old.items numbers.new.items queue.new.items) }
-    ensures settled { OnOk result ((m : ℕ) (e : Edge) → Leads links.now first m → slice_get edges.now m ≡ Some e → IsSettled limit numbers.new.items queue.new.items e) }
+    ensures step { OnOk result (IsStep limit.value edges.now numbers.old.items queue.old.items numbers.new.items queue.new.items) }
+    ensures settled { OnOk result ((m : ℕ) (e : Edge) → Leads links.now first m → slice_get edges.now m ≡ Some e → IsSettled limit.value numbers.new.items queue.new.items e) }
     ensures as_many { length numbers.new.items ≡ length numbers.old.items }
 {
     let mut at = first;
@@ -107,15 +105,14 @@ pub fn relax_chain(
 
 /// The steps for all edges.
 pub fn relax_all(
-    limit: u32,
+    limit: Limit,
     edges: &Edges,
     numbers: &mut Vec<u32>,
     queue: &mut WeightQueue<u32>,
 ) -> Result<(), AllocError>
-    requires small { limit ≤ 10000 }
     requires states { (m : ℕ) (e : Edge) → slice_get edges.now m ≡ Some e → e.state < length numbers.old.items }
-    ensures step { OnOk result (IsStep limit edges.now numbers.old.items queue.old.items numbers.new.items queue.new.items) }
-    ensures settled { OnOk result ((m : ℕ) (e : Edge) → slice_get edges.now m ≡ Some e → IsSettled limit numbers.new.items queue.new.items e) }
+    ensures step { OnOk result (IsStep limit.value edges.now numbers.old.items queue.old.items numbers.new.items queue.new.items) }
+    ensures settled { OnOk result ((m : ℕ) (e : Edge) → slice_get edges.now m ≡ Some e → IsSettled limit.value numbers.new.items queue.new.items e) }
     ensures as_many { length numbers.new.items ≡ length numbers.old.items }
 {
     for edge in 0..edges.len() {

@@ -5,6 +5,6 @@ use Rattle.least_weights.proofs.costs.cost_of.Given as goal
 
 abbrev pub invariant-loop-tail : goal.invariant-loop-tail
 invariant-loop-tail l = record {
-  within : l.sum ≤ l.initial.limit;
-  so_far : l.sum ≡ l.initial.weight + total (number_at l.initial.limit l.initial.numbers) (take l.tail-index l.initial.tails);
+  within : l.sum ≤ l.initial.limit.value;
+  so_far : l.sum ≡ l.initial.weight + total (number_at l.initial.limit.value l.initial.numbers) (take l.tail-index l.initial.tails);
 }

@@ -4,7 +4,7 @@ use Rattle.least_weights.proofs.Steps.{taken}
 use Rattle.least_weights.proofs.fixpoint.go_on.Goals as goal
 
 pub returns-clause-settled : goal.returns-clause-settled
-returns-clause-settled c before popped all m e at = elim (taken c.args.limit c.args.numbers.now.items before c.args.queue.now.items c.args.key c.args.state e popped (all m e at)) [
+returns-clause-settled c before popped all m e at = elim (taken c.args.limit.value c.args.numbers.now.items before c.args.queue.now.items c.args.key c.args.state e popped (all m e at)) [
   | inl still ↦ c.in_ok-relax_chain.ensures.step.settled e still
   | inr t ↦ (
       let within = t.within in

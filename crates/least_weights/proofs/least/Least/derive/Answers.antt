@@ -5,14 +5,16 @@ use Rattle.terms.proofs.Valid.{valid-limit, valid-depth}
 use Rattle.least_weights.proofs.Leasts.{are-least}
 use Rattle.least_weights.proofs.least.Least.derive.Goals as goal
 
-pub solve-requires-clause-small : goal.solve-requires-clause-small
-solve-requires-clause-small c =
+pub invariant_of-most : goal.invariant_of-most
+invariant_of-most c =
     let bound = (valid-limit c.parts.result.now c.parts.ensures.valid).1 in
     let same = ap (λ (g : Parts). g.limit) c.parts.ensures.value in
-    omega (arith, bound, same, c.requires.limit)
+    record { small = omega (arith, bound, same, c.requires.limit) }
 
-pub solve-requires-clause-states : goal.solve-requires-clause-states
-solve-requires-clause-states c m e at = (let low = c.requires.edges.in_range m e at in let count = ap length c.states-count.ensures.value in omega (arith, low, count))
+pub solve-requires : goal.solve-requires
+solve-requires c = record {
+  states = λ m e at. (let low = c.requires.edges.in_range m e at in let count = ap length c.states-count.ensures.value in omega (arith, low, count));
+}
 
 pub returns : goal.returns
 returns c =
