@@ -2,11 +2,11 @@
 
 ghost use Rattle.std.specs.Prelude.{◌≡◌, ◌<◌, ℕ, List, length, map, slice_get, Some, IfOk, OnOk};
 ghost use Rattle.patterns.specs.Patterned.{AreFound, IsListOf};
-ghost use Rattle.patterns.specs.States.{AreEnds, AreInRange, AreSetsInRange, IsListed, IsOpenState, kinds_of};
+ghost use Rattle.patterns.specs.States.{AreInRange, AreSetsInRange, IsListed, IsOpenState, kinds_of};
 ghost use Rattle.patterns.specs.declared.state.State.{State};
 ghost use Rattle.succinct.specs.Compression.{AreDistinct};
 
-use crate::kinds_by_result::Ends;
+use crate::kinds_by_result::KindsByResult;
 use crate::met_kinds::{all_met, no_marks};
 use crate::reachable::explore;
 use crate::saturate::settle;
@@ -14,7 +14,6 @@ use crate::sets::Sets;
 use crate::state::State;
 use crate::states::States;
 use std::alloc::{AllocError, Global};
-use succinct::Succinct;
 
 /// The states, and for each the kinds that are met there.
 #[derive(Drop)]
@@ -27,20 +26,18 @@ pub struct Found {
 fn lists_of(
     alloc: Global,
     sets: &Sets,
-    kinds: &[Succinct],
-    ends: &Ends,
+    kinds: &KindsByResult<'_>,
     states: &States,
 ) -> Result<Vec<Vec<u32>>, AllocError>
-    requires ends { AreEnds kinds.now ends.now }
-    requires closed { (s : State) → IsListed states.now.keys s → IsOpenState sets.now kinds.now states.now.keys s (kinds_of kinds.now s.goal) }
+    requires closed { (s : State) → IsListed states.now.keys s → IsOpenState sets.now kinds.now.all.now states.now.keys s (kinds_of kinds.now.all.now s.goal) }
     requires small { length states.now.keys < 4294967296 }
     ensures distinct { OnOk result (AreDistinct states.now.keys) }
     ensures as_many { IfOk result (λ lists. length lists.items ≡ length states.now.keys) }
-    ensures each { IfOk result (λ lists. (i : ℕ) (s : State) (list : List ℕ) → slice_get states.now.keys i ≡ Some s → slice_get (map (λ l. l.items) lists.items) i ≡ Some list → IsListOf sets.now kinds.now s list) }
+    ensures each { IfOk result (λ lists. (i : ℕ) (s : State) (list : List ℕ) → slice_get states.now.keys i ≡ Some s → slice_get (map (λ l. l.items) lists.items) i ≡ Some list → IsListOf sets.now kinds.now.all.now s list) }
 {
     let mut marks = no_marks(alloc, states.len())?;
-    settle(alloc, sets, kinds, ends, states, &mut marks)?;
-    let lists = all_met(alloc, sets, kinds, ends, states, marks.as_slice())?;
+    settle(alloc, sets, kinds, states, &mut marks)?;
+    let lists = all_met(alloc, sets, kinds, states, marks.as_slice())?;
     Ok(lists)
 }
 
@@ -71,17 +68,15 @@ fn first_state(alloc: Global, sets: &Sets, goal: u32) -> Result<States, AllocErr
 pub fn find(
     alloc: Global,
     sets: &Sets,
-    kinds: &[Succinct],
-    ends: &Ends,
+    kinds: &KindsByResult<'_>,
     goal: u32,
 ) -> Result<Found, AllocError>
-    requires ends { AreEnds kinds.now ends.now }
-    ensures found { IfOk result (λ f. AreFound sets.now kinds.now goal f.states.keys (map (λ l. l.items) f.lists.items)) }
+    ensures found { IfOk result (λ f. AreFound sets.now kinds.now.all.now goal f.states.keys (map (λ l. l.items) f.lists.items)) }
     ensures in_range { IfOk result (λ f. 0 < length sets.now.bound → AreSetsInRange sets.now → AreInRange sets.now f.states.keys) }
     ensures small { IfOk result (λ f. length f.states.keys < 4294967296) }
 {
     let mut states = first_state(alloc, sets, goal)?;
-    explore(sets, kinds, ends, &mut states)?;
-    let lists = lists_of(alloc, sets, kinds, ends, &states)?;
+    explore(sets, kinds, &mut states)?;
+    let lists = lists_of(alloc, sets, kinds, &states)?;
     Ok(Found { states, lists })
 }

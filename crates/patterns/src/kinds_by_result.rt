@@ -77,6 +77,14 @@ impl Ends {
     }
 }
 
+/// Kinds, with a table of the types in which they end.
+#[derive(Drop)]
+pub struct KindsByResult<'a> {
+    pub all: &'a [Succinct],
+    pub ends: Ends,
+    ghost right: { AreEnds all.now ends },
+}
+
 /// At least two notes for each type.
 fn room_for(alloc: Global, goals: &[u32]) -> Result<Notes, AllocError> {
     let mut notes = Notes::new(alloc);

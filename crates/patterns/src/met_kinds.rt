@@ -1,14 +1,13 @@
 // The kinds that are met at each state.
 
 ghost use Rattle.std.specs.Prelude.{◌≡◌, ◌<◌, ℕ, false, length, map, slice_get, slice_index_or, Some, IfOk};
-ghost use Rattle.patterns.specs.States.{AreEnds, AreLists};
+ghost use Rattle.patterns.specs.States.{AreLists};
 
-use crate::kinds_by_result::Ends;
+use crate::kinds_by_result::KindsByResult;
 use crate::marks::kinds_met;
 use crate::sets::Sets;
 use crate::states::States;
 use std::alloc::{AllocError, Global};
-use succinct::Succinct;
 
 /// No mark for any state.
 pub fn no_marks(alloc: Global, count: usize) -> Result<Vec<bool>, AllocError>
@@ -26,18 +25,24 @@ pub fn no_marks(alloc: Global, count: usize) -> Result<Vec<bool>, AllocError>
 pub fn all_met(
     alloc: Global,
     sets: &Sets,
-    kinds: &[Succinct],
-    ends: &Ends,
+    kinds: &KindsByResult<'_>,
     states: &States,
     marks: &[bool],
 ) -> Result<Vec<Vec<u32>>, AllocError>
-    requires ends { AreEnds kinds.now ends.now }
     ensures as_many { IfOk result (λ lists. length lists.items ≡ length states.now.keys) }
-    ensures each { IfOk result (λ lists. AreLists sets.now kinds.now states.now.keys marks.now states.now.keys (map (λ l. l.items) lists.items)) }
+    ensures each { IfOk result (λ lists. AreLists sets.now kinds.now.all.now states.now.keys marks.now states.now.keys (map (λ l. l.items) lists.items)) }
 {
     let mut lists = Vec::new(alloc);
     for from in states.as_slice() {
-        lists.push(kinds_met(alloc, sets, kinds, states, marks, *from, ends.at(from.goal))?)?;
+        lists.push(kinds_met(
+            alloc,
+            sets,
+            kinds.all,
+            states,
+            marks,
+            *from,
+            kinds.ends.at(from.goal),
+        )?)?;
     }
     Ok(lists)
 }

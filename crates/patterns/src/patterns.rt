@@ -9,7 +9,7 @@ ghost use Rattle.terms.specs.Typing.{most_rows};
 ghost use Rattle.terms.specs.declared.parts.Parts.{Parts};
 
 use crate::found_kinds::{Found, find};
-use crate::kinds_by_result::Ends;
+use crate::kinds_by_result::{Ends, KindsByResult};
 use crate::sets::Sets;
 use crate::state::State;
 use crate::states::States;
@@ -64,8 +64,10 @@ impl Patterns {
             rows,
             wanted,
         };
-        let ends = Ends::of(alloc, compressed.kinds())?;
-        let Found { states, lists } = find(alloc, &sets, compressed.kinds(), &ends, goal)?;
+        let all = compressed.kinds();
+        let ends = Ends::of(alloc, all)?;
+        let kinds = KindsByResult { all, ends };
+        let Found { states, lists } = find(alloc, &sets, &kinds, goal)?;
         Ok(Patterns {
             sets,
             states,

@@ -2,13 +2,13 @@
 
 ghost use Rattle.std.specs.Prelude.{◌≡◌, ◌<◌, ◌≤◌, ◌++◌, ◌∷◌, [], ◌+◌, ℕ, List, true, length, map, slice_get, slice_set, slice_index_or, Some, OnOk};
 ghost use Rattle.patterns.specs.Met.{AreSound};
-ghost use Rattle.patterns.specs.States.{AreEnds, is_seen, IsSettled};
+ghost use Rattle.patterns.specs.States.{is_seen, IsSettled};
 ghost use Rattle.patterns.specs.Worklist.{AreTargets, AreUses, IsQuiet};
 ghost use Rattle.patterns.specs.declared.watchers.Use.{Use};
 ghost use Rattle.number_places.specs.Places.{places_of};
 ghost use Rattle.succinct.specs.Sets.{has};
 
-use crate::kinds_by_result::{Ends, list_at};
+use crate::kinds_by_result::{KindsByResult, list_at};
 use crate::marks::{is_marked, kind_ends_met, some_kind_is_met};
 use crate::sets::Sets;
 use crate::state::State;
@@ -33,19 +33,24 @@ fn has(types: &[u32], goal: u32) -> bool
 /// Whether a state is seen to be inhabited.
 fn is_seen(
     sets: &Sets,
-    kinds: &[Succinct],
-    ends: &Ends,
+    kinds: &KindsByResult<'_>,
     states: &States,
     marks: &[bool],
     from: State,
 ) -> bool
-    requires ends { AreEnds kinds.now ends.now }
-    ensures value { result ≡ is_seen sets.now kinds.now states.now.keys marks.now from }
+    ensures value { result ≡ is_seen sets.now kinds.now.all.now states.now.keys marks.now from }
 {
     if has(sets.types(from.set), from.goal) {
         return true;
     }
-    some_kind_is_met(sets, kinds, states, marks, from, ends.at(from.goal))
+    some_kind_is_met(
+        sets,
+        kinds.all,
+        states,
+        marks,
+        from,
+        kinds.ends.at(from.goal),
+    )
 }
 
 /// Marks a state, which then is to be looked at.
@@ -62,22 +67,20 @@ fn mark(marks: &mut Vec<bool>, worklist: &mut Vec<usize>, place: usize) -> Resul
 /// Marks the state at a place where it is seen to be inhabited.
 fn mark_seen(
     sets: &Sets,
-    kinds: &[Succinct],
-    ends: &Ends,
+    kinds: &KindsByResult<'_>,
     states: &States,
     marks: &mut Vec<bool>,
     worklist: &mut Vec<usize>,
     place: usize,
 ) -> Result<(), AllocError>
-    requires ends { AreEnds kinds.now ends.now }
     requires in_range { place < length states.now.keys }
     requires as_many { length marks.old.items ≡ length states.now.keys }
     ensures as_many { OnOk result (length marks.new.items ≡ length states.now.keys) }
-    ensures sound { OnOk result (AreSound sets.now kinds.now states.now.keys marks.old.items → AreSound sets.now kinds.now states.now.keys marks.new.items) }
-    ensures quiet { OnOk result ((uses : List Use) → IsQuiet sets.now kinds.now states.now.keys uses marks.old.items worklist.old.items 0 [] place → IsQuiet sets.now kinds.now states.now.keys uses marks.new.items worklist.new.items 0 [] (place + 1)) }
+    ensures sound { OnOk result (AreSound sets.now kinds.now.all.now states.now.keys marks.old.items → AreSound sets.now kinds.now.all.now states.now.keys marks.new.items) }
+    ensures quiet { OnOk result ((uses : List Use) → IsQuiet sets.now kinds.now.all.now states.now.keys uses marks.old.items worklist.old.items 0 [] place → IsQuiet sets.now kinds.now.all.now states.now.keys uses marks.new.items worklist.new.items 0 [] (place + 1)) }
 {
     let from = states.as_slice()[place];
-    if !is_seen(sets, kinds, ends, states, marks.as_slice(), from) {
+    if !is_seen(sets, kinds, states, marks.as_slice(), from) {
         return Ok(());
     }
     mark(marks, worklist, place)?;
@@ -87,20 +90,18 @@ fn mark_seen(
 /// Goes once through all states, and marks those that are seen to be inhabited.
 fn first_round(
     sets: &Sets,
-    kinds: &[Succinct],
-    ends: &Ends,
+    kinds: &KindsByResult<'_>,
     states: &States,
     marks: &mut Vec<bool>,
     worklist: &mut Vec<usize>,
 ) -> Result<(), AllocError>
-    requires ends { AreEnds kinds.now ends.now }
     requires as_many { length marks.old.items ≡ length states.now.keys }
     ensures as_many { OnOk result (length marks.new.items ≡ length states.now.keys) }
-    ensures sound { OnOk result (AreSound sets.now kinds.now states.now.keys marks.old.items → AreSound sets.now kinds.now states.now.keys marks.new.items) }
-    ensures quiet { OnOk result ((uses : List Use) → IsQuiet sets.now kinds.now states.now.keys uses marks.new.items worklist.new.items 0 [] (length states.now.keys)) }
+    ensures sound { OnOk result (AreSound sets.now kinds.now.all.now states.now.keys marks.old.items → AreSound sets.now kinds.now.all.now states.now.keys marks.new.items) }
+    ensures quiet { OnOk result ((uses : List Use) → IsQuiet sets.now kinds.now.all.now states.now.keys uses marks.new.items worklist.new.items 0 [] (length states.now.keys)) }
 {
     for place in 0..states.len() {
-        mark_seen(sets, kinds, ends, states, marks, worklist, place)?;
+        mark_seen(sets, kinds, states, marks, worklist, place)?;
     }
     Ok(())
 }
@@ -225,25 +226,23 @@ fn look(
 pub fn settle(
     alloc: Global,
     sets: &Sets,
-    kinds: &[Succinct],
-    ends: &Ends,
+    kinds: &KindsByResult<'_>,
     states: &States,
     marks: &mut Vec<bool>,
 ) -> Result<(), AllocError>
-    requires ends { AreEnds kinds.now ends.now }
     requires small { length states.now.keys < 4294967296 }
     requires as_many { length marks.old.items ≡ length states.now.keys }
-    ensures sound { OnOk result (AreSound sets.now kinds.now states.now.keys marks.old.items → AreSound sets.now kinds.now states.now.keys marks.new.items) }
-    ensures settled { OnOk result (IsSettled sets.now kinds.now states.now.keys marks.new.items) }
+    ensures sound { OnOk result (AreSound sets.now kinds.now.all.now states.now.keys marks.old.items → AreSound sets.now kinds.now.all.now states.now.keys marks.new.items) }
+    ensures settled { OnOk result (IsSettled sets.now kinds.now.all.now states.now.keys marks.new.items) }
 {
-    let uses = all_uses(alloc, sets, kinds, ends, states)?;
+    let uses = all_uses(alloc, sets, kinds, states)?;
     let targets = targets_of(alloc, uses.as_slice())?;
     let groups = places_by_number(alloc, states.len(), targets.as_slice())?;
     let mut worklist = Vec::new(alloc);
-    first_round(sets, kinds, ends, states, marks, &mut worklist)?;
+    first_round(sets, kinds, states, marks, &mut worklist)?;
     look(
         sets,
-        kinds,
+        kinds.all,
         states,
         marks,
         &mut worklist,

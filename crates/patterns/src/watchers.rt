@@ -1,13 +1,13 @@
 // Who wants something at each state.
 
 ghost use Rattle.std.specs.Prelude.{◌≡◌, ◌<◌, ℕ, true, length, map, slice_get, Some, IfOk, OnOk};
-ghost use Rattle.patterns.specs.States.{AreEnds, place_sought};
+ghost use Rattle.patterns.specs.States.{place_sought};
 ghost use Rattle.patterns.specs.Worklist.{AreTargets, AreUsedBy, AreUses, IsAmong, needs_of};
 ghost use Rattle.succinct.specs.Numbering.{IsGrown};
 ghost use Rattle.succinct.specs.Sets.{has};
 ghost use Rattle.succinct.specs.declared.kind.Succinct.{Succinct};
 
-use crate::kinds_by_result::Ends;
+use crate::kinds_by_result::KindsByResult;
 use crate::marks::need_place;
 use crate::sets::Sets;
 use crate::state::State;
@@ -109,13 +109,11 @@ fn add_state_uses(
 pub fn all_uses(
     alloc: Global,
     sets: &Sets,
-    kinds: &[Succinct],
-    ends: &Ends,
+    kinds: &KindsByResult<'_>,
     states: &States,
 ) -> Result<Vec<Use>, AllocError>
-    requires ends { AreEnds kinds.now ends.now }
     requires small { length states.now.keys < 4294967296 }
-    ensures used { IfOk result (λ uses. AreUses sets.now kinds.now states.now.keys uses.items) }
+    ensures used { IfOk result (λ uses. AreUses sets.now kinds.now.all.now states.now.keys uses.items) }
     ensures in_range { IfOk result (λ uses. AreTargets (length states.now.keys) uses.items) }
 {
     let mut uses = Vec::new(alloc);
@@ -123,12 +121,12 @@ pub fn all_uses(
         let from = states.as_slice()[place];
         add_state_uses(
             sets,
-            kinds,
+            kinds.all,
             states,
             &mut uses,
             from,
             place,
-            ends.at(from.goal),
+            kinds.ends.at(from.goal),
         )?;
     }
     Ok(uses)

@@ -8,5 +8,5 @@ abbrev pub invariant-loop-i : goal.invariant-loop-i
 invariant-loop-i l = record {
   grown : IsGrown l.initial.states.keys l.states.keys;
   in_range : AreSetsInRange l.initial.sets → AreInRange l.initial.sets l.initial.states.keys → AreInRange l.initial.sets l.states.keys;
-  opened : (j : ℕ) (s : State) → j < l.i → slice_get l.states.keys j ≡ Some s → IsOpenState l.initial.sets l.initial.kinds l.states.keys s (kinds_of l.initial.kinds s.goal);
+  opened : (j : ℕ) (s : State) → j < l.i → slice_get l.states.keys j ≡ Some s → IsOpenState l.initial.sets l.initial.kinds.all.now l.states.keys s (kinds_of l.initial.kinds.all.now s.goal);
 }

@@ -6,7 +6,7 @@ pub loop-place-init : goal.loop-place-init
 loop-place-init c = record {
   as_many = c.requires.as_many;
   sound = λ before. before;
-  quiet = λ uses. quiet-none c.args.sets.now c.args.kinds.now c.args.states.now.keys uses _ _ 0 _;
+  quiet = λ uses. quiet-none c.args.sets.now c.args.kinds.now.all.now c.args.states.now.keys uses _ _ 0 _;
 }
 
 pub loop-place-preserved : goal.loop-place-preserved
@@ -17,4 +17,4 @@ loop-place-preserved c = record {
 }
 
 pub returns-clause-quiet : goal.returns-clause-quiet
-returns-clause-quiet c uses = quiet-all c.args.sets.now c.args.kinds.now c.args.states.now.keys uses _ _ 0 _ c.loop-place.place _ (omega (arith, c.loop-place-test.false, c.len-place-end.ensures.len)) (c.loop-place.invariant.quiet uses)
+returns-clause-quiet c uses = quiet-all c.args.sets.now c.args.kinds.now.all.now c.args.states.now.keys uses _ _ 0 _ c.loop-place.place _ (omega (arith, c.loop-place-test.false, c.len-place-end.ensures.len)) (c.loop-place.invariant.quiet uses)

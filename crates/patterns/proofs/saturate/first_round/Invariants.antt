@@ -7,6 +7,6 @@ use Rattle.patterns.proofs.saturate.first_round.Given as goal
 abbrev pub invariant-loop-place : goal.invariant-loop-place
 invariant-loop-place l = record {
   as_many : length l.marks.items ≡ length l.initial.states.keys;
-  sound : AreSound l.initial.sets l.initial.kinds l.initial.states.keys l.initial.marks.items → AreSound l.initial.sets l.initial.kinds l.initial.states.keys l.marks.items;
-  quiet : (uses : List Use) → IsQuiet l.initial.sets l.initial.kinds l.initial.states.keys uses l.marks.items l.worklist.items 0 [] l.place;
+  sound : AreSound l.initial.sets l.initial.kinds.all.now l.initial.states.keys l.initial.marks.items → AreSound l.initial.sets l.initial.kinds.all.now l.initial.states.keys l.marks.items;
+  quiet : (uses : List Use) → IsQuiet l.initial.sets l.initial.kinds.all.now l.initial.states.keys uses l.marks.items l.worklist.items 0 [] l.place;
 }

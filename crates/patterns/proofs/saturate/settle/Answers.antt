@@ -12,7 +12,7 @@ places_by_number-requires c = record {
 pub look-requires : goal.look-requires
 look-requires c = record {
   as_many = c.in_ok-first_round.ensures.as_many;
-  used = subst (λ u. AreUses c.args.sets.now c.args.kinds.now c.args.states.now.keys u) (sym c.as_slice-3.ensures.value) c.in_ok-uses.ensures.used;
+  used = subst (λ u. AreUses c.args.sets.now c.args.kinds.now.all.now c.args.states.now.keys u) (sym c.as_slice-3.ensures.value) c.in_ok-uses.ensures.used;
   targets = subst (λ u. AreTargets (length c.args.states.now.keys) u) (sym c.as_slice-3.ensures.value) c.in_ok-uses.ensures.in_range;
   grouped = each-same _ _ _ _ _ c.len.ensures.len (c.as_slice-2.ensures.value ∙ c.in_ok-targets.ensures.value ∙ ap (map (λ u. u.target)) (c.as_slice.ensures.value ∙ sym c.as_slice-3.ensures.value)) c.in_ok-groups.ensures.each;
   quiet = c.in_ok-first_round.ensures.quiet _;

@@ -26,7 +26,7 @@ returns-clause-patterns c =
       lengths = lengths;
       wanted = wanted;
       steps = steps;
-      found = found-same _ _ _ _ _ _ c.kinds-2.ensures.value c.in_ok-states.ensures.found;
+      found = found-same _ _ _ _ _ _ c.kinds-all.ensures.value c.in_ok-states.ensures.found;
     }
 
 pub returns-clause-agrees : goal.returns-clause-agrees
