@@ -11,5 +11,6 @@ mod Pieces
 mod Scans
 pub mod Stops
 pub mod Tails
+mod Takes
 pub mod Unfinished
 pub mod Wholes

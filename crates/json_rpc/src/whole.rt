@@ -1,5 +1,7 @@
 ghost use Rattle.std.specs.Prelude.{◌≡◌, ◌≤◌, ◌++◌, ◌∷◌, IsTrue, IsFalse, Some, [], map};
 ghost use Rattle.outside.specs.Causes.{Rose};
+ghost use Rattle.outside.specs.Taken.{Took};
+ghost use Rattle.json_rpc.specs.Streams.{budget};
 ghost use Rattle.json_rpc.specs.Whole.{Reads, bodies_of};
 
 use crate::fault::FrameFault;
@@ -17,8 +19,8 @@ fn keep(bodies: &mut Vec<Vec<u8>>, body: Vec<u8>) -> bool
 
 /// Puts the bodies of a source's frames into an empty list, and answers what ended them, None for an end
 /// of the input between two frames. After a read fault or want of memory the bodies are the first ones of
-/// the input.
-#[tactic(auto, using(crate::proofs::Inputs::inputs))]
+/// the input, and bytes that were taken behind them are gone.
+#[tactic(auto, using(crate::proofs::Inputs::inputs, crate::proofs::Takes::takes))]
 pub fn read_frames<S: Source>(
     alloc: Global,
     source: &mut S,
@@ -26,6 +28,7 @@ pub fn read_frames<S: Source>(
 ) -> Option<FrameFault>
     requires empty { bodies.old.items ≡ [] }
     ensures whole_input { Reads (S.left source.old) (bodies_of bodies.new.items) result }
+    ensures taken { Took budget (S.left source.old) (S.left source.new) }
     ensures later { S.faults source.old ≤ S.faults source.new }
     ensures cause { result ≡ Some FrameFault.ReadFault → Rose (S.faults source.old) (S.faults source.new) }
 {
