@@ -28,11 +28,11 @@ parts-few (x ∷ y ∷ more) = omega (arith, parts-few (y ∷ more))
 pub lines-few : (text : List ℕ) → length (lines text) ≤ length text + 1
 lines-few text = omega (arith, parts-few (slice_split (λ b. b == 10) text), length-slice_split (λ b. b == 10) text, count_by-le-length (λ b. b == 10) text)
 
-head-none : {X : Type 0} (xs ys : List X) → slice_get xs 0 ≡ None → slice_get (xs ++ ys) 0 ≡ slice_get ys 0
+pub head-none : {X : Type 0} (xs ys : List X) → slice_get xs 0 ≡ None → slice_get (xs ++ ys) 0 ≡ slice_get ys 0
 head-none [] ys e = refl
 head-none (x ∷ xs) ys e = cc
 
-head-some : {X : Type 0} (xs ys : List X) (x : X) → slice_get xs 0 ≡ Some x → slice_get (xs ++ ys) 0 ≡ Some x
+pub head-some : {X : Type 0} (xs ys : List X) (x : X) → slice_get xs 0 ≡ Some x → slice_get (xs ++ ys) 0 ≡ Some x
 head-some [] ys x e = cc
 head-some (z ∷ xs) ys x e = e
 
@@ -48,7 +48,7 @@ fault-before files ps qs f e =
     let h = λ (p : ℕ × List ℕ). file_fault p.0 (held_under files p.1) in
     ap (λ fs. slice_get fs 0) (filter_map-append h ps qs) ∙ head-some (filter_map h ps) (filter_map h qs) f e
 
-zip-append : {A B : Type 0} (R : A → B → Type 0) (xs us : List A) (ys vs : List B) → AllZip R xs ys → AllZip R us vs → AllZip R (xs ++ us) (ys ++ vs)
+pub zip-append : {A B : Type 0} (R : A → B → Type 0) (xs us : List A) (ys vs : List B) → AllZip R xs ys → AllZip R us vs → AllZip R (xs ++ us) (ys ++ vs)
 zip-append R [] us [] vs a b = b
 zip-append R [] us (y ∷ ys) vs a b = absurd a
 zip-append R (x ∷ xs) us [] vs a b = absurd a
