@@ -27,8 +27,7 @@ met_with short = record { at = []; loads = classes []; site = None; env = record
 
 -- No file is named.
 give_none : (holds : Option (List HeldFile)) → Give holds [] (classes [])
-give_none None = tt
-give_none (Some files) = (refl, tt)
+give_none holds = record { contents = []; held = tt; gives = (refl, tt) }
 
 pub none_loaded : (holds : Option (List HeldFile)) (n : ℕ) → IsLoaded Enough holds [] (classes []) n n
 none_loaded holds n = record { gives = give_none holds; later = omega arith; cause = λ i e. absurd cc; none = λ e. refl }

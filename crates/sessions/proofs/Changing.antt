@@ -1,5 +1,5 @@
 -- How a change is answered, and a publication.
-use Rattle.std.proofs.Common.{◌≡◌, ◌∙◌, ℕ, sym, ap, subst, refl, inl, inr, ⊎_elim, ◌⊎◌, ◌++◌, List, [], ◌∷◌, false, Some, None, Result, Ok, Err, Vec, Global}
+use Rattle.std.proofs.Common.{◌≡◌, ◌∙◌, ℕ, sym, ap, subst, refl, inl, inr, ⊎_elim, ◌++◌, List, [], ◌∷◌, false, Some, None, Result, Ok, Err, Vec, Global}
 use Rattle.std.specs.Prelude.{IfOk, OnErr, codes, decimal}
 use Rattle.std.specs.declared.alloc.AllocError.{AllocError}
 use Rattle.decl_index.specs.declared.change.Change.{Change}

@@ -1,5 +1,5 @@
 -- A world in memory whose one client makes all changes.
-use Rattle.std.proofs.Common.{◌≡◌, ◌∙◌, ◌⊎◌, ◌≤◌, ◌+◌, ℕ, List, [], ◌∷◌, ◌++◌, length, length-append, refl, sym, ap, subst, inl, inr, Some}
+use Rattle.std.proofs.Common.{◌≡◌, ◌∙◌, ◌⊎◌, ◌≤◌, ℕ, List, [], ◌∷◌, ◌++◌, length, length-append, refl, sym, ap, subst, inl, inr, Some}
 use Rattle.decl_index.specs.declared.change.Change.{Change}
 use Rattle.decl_index.specs.declared.change.ChangeFault.{ChangeFault}
 use Rattle.decl_index.specs.declared.change.ChangeFault.TheVariants.{OutOfMemory}

@@ -1,5 +1,5 @@
 -- The reply that tells a version, up to the version.
-use Rattle.std.proofs.Common.{◌≡◌, ◌∙◌, ◌≤◌, ◌+◌, ◌-◌, arith, ap, sym, ℕ, List, [], ◌∷◌, ◌++◌, length, length-append, take, append_assoc, Some}
+use Rattle.std.proofs.Common.{◌≡◌, ◌∙◌, ◌≤◌, ◌-◌, arith, ap, sym, ℕ, List, [], ◌∷◌, ◌++◌, length, length-append, take, append_assoc, Some}
 use Rattle.std.specs.Prelude.{codes, decimal}
 use Rattle.std.proofs.Math.Seq.{take-append_seam}
 use Rattle.std.proofs.lemmas.Fmt.{decimal_digit}

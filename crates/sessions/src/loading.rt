@@ -1,10 +1,9 @@
-ghost use Rattle.std.specs.Prelude.{◌≡◌, ◌≤◌, ◌⊎◌, [], List, length, Some, IfOk, IfErr, OnOk, IsErrOf, MatchResult};
-ghost use Rattle.outside.specs.Held.{held_under, longest_load};
-ghost use Rattle.outside.specs.declared.shelf.HeldFile.{HeldFile};
+ghost use Rattle.std.specs.Prelude.{◌≡◌, ◌≤◌, ◌⊎◌, ℕ, [], List, length, Option, Some, IfOk, IfErr, OnOk, IsErrOf, MatchResult};
+ghost use Rattle.outside.specs.Held.{longest_load};
 ghost use Rattle.start_text.specs.Faults.{IsOutside, Meets};
 ghost use Rattle.start_text.specs.Starts.{file_fault, IsClassOf};
 ghost use Rattle.start_text.specs.declared.fault.StartFault.TheVariants as fault;
-ghost use Rattle.sessions.specs.Loads.{Give, loads_of};
+ghost use Rattle.sessions.specs.Loads.{MayHold, Give, loads_of};
 ghost use Rattle.sessions.specs.Loading.{IsOfFile, Tells, IsUnreadable};
 ghost use Rattle.sessions.specs.Publications.{LeavesFiles};
 
@@ -33,9 +32,9 @@ fn load_file<W: World>(
     index: u32,
     buffer: &mut Vec<u8>,
 ) -> Result<(), StartFault>
-    ensures found { (files : List HeldFile) → (W.state world.old).holds ≡ Some files → MatchResult result
-        (λ _. held_under files name.now ≡ Some buffer.new.items)
-        (λ wrong. IsOutside wrong ⊎ (file_fault index (held_under files name.now) ≡ Some wrong)) }
+    ensures found { (content : Option (List ℕ)) × MayHold (W.state world.old).holds name.now content × MatchResult result
+        (λ _. content ≡ Some buffer.new.items)
+        (λ wrong. IsOutside wrong ⊎ (file_fault index content ≡ Some wrong)) }
     ensures short { OnOk result (length buffer.new.items ≤ longest_load) }
     ensures kind { IfErr result (IsOfFile index) }
     ensures files { LeavesFiles (IsErrOf result fault.Failed) (W.state world.old) (W.state world.new) }
@@ -55,8 +54,8 @@ fn load_class<W: World>(
     index: u32,
     buffer: &mut Vec<u8>,
 ) -> Result<ClassSummary, StartFault>
-    ensures fault { (files : List HeldFile) → (W.state world.old).holds ≡ Some files → Meets (file_fault index (held_under files name.now)) result }
-    ensures class { (files : List HeldFile) → (W.state world.old).holds ≡ Some files → IfOk result (λ class. IsClassOf (held_under files name.now) class) }
+    ensures found { (content : Option (List ℕ)) × MayHold (W.state world.old).holds name.now content
+        × Meets (file_fault index content) result × IfOk result (λ class. IsClassOf content class) }
     ensures kind { IfErr result (IsOfFile index) }
     ensures files { LeavesFiles (IsErrOf result fault.Failed) (W.state world.old) (W.state world.new) }
 {

@@ -1,5 +1,4 @@
-use Rattle.std.proofs.Common.{◌≡◌, List, [], length, Some}
-use Rattle.outside.specs.declared.shelf.HeldFile.{HeldFile}
+use Rattle.std.proofs.Common.{◌≡◌, [], length}
 use Rattle.sessions.specs.Publications.{LeavesFiles}
 use Rattle.sessions.proofs.Filing.{IsUpTo}
 use Rattle.sessions.proofs.loading.load_classes.Given as goal
@@ -9,7 +8,7 @@ invariant-loop-name g l =
     let state = g.W.World.state in
     record {
       files : LeavesFiles ⊥ (state l.fn.world) (state l.world);
-      read : (files : List HeldFile) → (state l.fn.world).holds ≡ Some files → IsUpTo files l.names l.rest l.index l.classes;
+      read : IsUpTo (state l.fn.world).holds l.names l.rest l.index l.classes;
       none : l.names ≡ [] → (l.rest ≡ []) × (state l.world ≡ state l.fn.world);
     }
 
