@@ -20,7 +20,7 @@ use Rattle.sessions.specs.Loads.{Give, IsLoaded, loads_of}
 use Rattle.sessions.specs.Loading.{IsUnreadable}
 use Rattle.sessions.specs.declared.loading.Files as code
 use Rattle.sessions.specs.declared.loading.Files.TheVariants as variant
-use Rattle.sessions.specs.Changed.{IsMade, IsRefused, IsChanged, Opens}
+use Rattle.sessions.specs.Changed.{IsChangeMade, IsChangeRefused, IsChanged, OpensVersion}
 use Rattle.sessions.specs.Texts.{version_text}
 use Rattle.sessions.specs.Outcomes.{replied_or}
 use Rattle.sessions.specs.Meets.{Answered}
@@ -34,12 +34,12 @@ abbrev refused_at : Loaded → List Change → ChangeFault → Met
 refused_at loads at fault = record { at = at; loads = loads; site = None; env = record { types = []; pairs = []; decls = []; goal = 0; limit = 0; depth = 0; binder = [] }; page = record { items = []; last = false; grown = 0 }; fault = Some fault; short = Enough }
 
 -- The session and the reply are those of the change.
-made_answer : (s t : Seen) (id : Id) (c : Change) (loads : Loaded) (reply : List ℕ) (old new : WorldState) (m : IsMade c id reply old new) → t ≡ s
+made_answer : (s t : Seen) (id : Id) (c : Change) (loads : Loaded) (reply : List ℕ) (old new : WorldState) (m : IsChangeMade c id reply old new) → t ≡ s
     → asked s id (change c) (made_at loads m.accepts.at) ≡ (t, replied reply)
 made_answer s t id c loads reply old new m to =
     ap (λ n. (s, replied (version_text id n))) (sym m.accepts.counted) ∙ ap (λ b. (s, replied b)) (sym m.told) ∙ ap (λ x. (x, replied reply)) (sym to)
 
-refused_answer : (s t : Seen) (id : Id) (c : Change) (loads : Loaded) (reply : List ℕ) (old new : WorldState) (r : IsRefused c id reply old new) → t ≡ s
+refused_answer : (s t : Seen) (id : Id) (c : Change) (loads : Loaded) (reply : List ℕ) (old new : WorldState) (r : IsChangeRefused c id reply old new) → t ≡ s
     → asked s id (change c) (refused_at loads new.known r.fault) ≡ (t, replied reply)
 refused_answer s t id c loads reply old new r to = ap (λ b. (s, replied b)) (sym r.told) ∙ ap (λ x. (x, replied reply)) (sym to)
 
@@ -189,7 +189,7 @@ unreadable_told s id names removes counts files index r old new h is told =
     (told_here names files (variant.Unreadable index) old new h is) h.leaves h.none (nothing_learnt new new refl) told
 
 -- The change was made, and the reply is its opening with its version.
-pub made_by : (id : Id) (c : Change) (opening reply : List ℕ) (number : ℕ) (old new : WorldState) → Opens id opening → Accepts c number old new → reply ≡ opening ++ (decimal number ++ codes "}}") → IsChanged c id reply old new
+pub made_by : (id : Id) (c : Change) (opening reply : List ℕ) (number : ℕ) (old new : WorldState) → OpensVersion id opening → Accepts c number old new → reply ≡ opening ++ (decimal number ++ codes "}}") → IsChanged c id reply old new
 made_by id c opening reply number old new opens accepts is = inl (record { number = number; accepts = accepts; told = is ∙ sym (opens number) })
 
 refuses_by : (id : Id) (c : Change) (fault : ChangeFault) (reply : List ℕ) (old new : WorldState) → (fault ≡ OutOfMemory → ⊥) → Declines c fault old new → reply ≡ reply_text (Some id) (failure (change_refused fault)) → IsChanged c id reply old new

@@ -8,7 +8,7 @@ use Rattle.serde_json.specs.Written.{compact_text}
 use Rattle.json_rpc.specs.declared.message.Id.{Id}
 use Rattle.answers.specs.Replies.{id_data}
 use Rattle.sessions.specs.Texts.{version_text}
-use Rattle.sessions.specs.Changed.{Opens}
+use Rattle.sessions.specs.Changed.{OpensVersion}
 
 -- Pieces of an object with what follows them.
 abbrev piece : (a b c d e v more : List ℕ) → List ℕ
@@ -49,5 +49,5 @@ cut p body is =
     ap (λ k. take k body) n ∙ ap (take (length p)) is ∙ take-append_seam p (codes "0}}")
 
 -- Cut by the version and the brackets it is an opening.
-pub opens : (id : Id) (body left : List ℕ) → body ≡ version_text id 0 → left ≡ take (length body - 3) body → Opens id left
+pub opens : (id : Id) (body left : List ℕ) → body ≡ version_text id 0 → left ≡ take (length body - 3) body → OpensVersion id left
 opens id body left is to = λ n. opened id n ∙ ap (λ p. p ++ (decimal n ++ codes "}}")) (sym (to ∙ cut (opening id) body (is ∙ zero id)))

@@ -11,13 +11,13 @@ use Rattle.sessions.specs.Publications.{Accepts, Learns}
 use Rattle.sessions.specs.Texts.{version_text}
 
 -- It was made, and is answered by its version.
-pub record IsMade (change : Change) (id : Id) (reply : List ℕ) (old new : WorldState) : Type 0 where
+pub record IsChangeMade (change : Change) (id : Id) (reply : List ℕ) (old new : WorldState) : Type 0 where
   pub number : ℕ
   pub accepts : Accepts change number old new
   pub told : reply ≡ version_text id number
 
 -- It was refused after all that is then known, and the cause is answered.
-pub record IsRefused (change : Change) (id : Id) (reply : List ℕ) (old new : WorldState) : Type 0 where
+pub record IsChangeRefused (change : Change) (id : Id) (reply : List ℕ) (old new : WorldState) : Type 0 where
   pub fault : ChangeFault
   pub refuses : Refuses new.known change fault
   pub newest : IsWholeOf new.whole new.known
@@ -25,8 +25,8 @@ pub record IsRefused (change : Change) (id : Id) (reply : List ℕ) (old new : W
   pub told : reply ≡ reply_text (Some id) (failure (change_refused fault))
 
 abbrev pub IsChanged : Change → Id → List ℕ → WorldState → WorldState → Type 0
-IsChanged change id reply old new = IsMade change id reply old new ⊎ IsRefused change id reply old new
+IsChanged change id reply old new = IsChangeMade change id reply old new ⊎ IsChangeRefused change id reply old new
 
 -- What completes it to the reply that tells a version.
-abbrev pub Opens : Id → List ℕ → Type 0
-Opens id opening = (number : ℕ) → version_text id number ≡ opening ++ (decimal number ++ codes "}}")
+abbrev pub OpensVersion : Id → List ℕ → Type 0
+OpensVersion id opening = (number : ℕ) → version_text id number ≡ opening ++ (decimal number ++ codes "}}")

@@ -2,7 +2,7 @@ ghost use Rattle.std.specs.Prelude.{◌≡◌, ◌≤◌, ◌+◌, ◌++◌, len
 ghost use Rattle.std.specs.Vec.{vec_len, vec_capacity};
 ghost use Rattle.answers.specs.Messages.{publishes};
 ghost use Rattle.answers.specs.Sessions.{Seen};
-ghost use Rattle.sessions.specs.Changed.{IsChanged, Opens};
+ghost use Rattle.sessions.specs.Changed.{IsChanged, OpensVersion};
 ghost use Rattle.sessions.specs.Meets.{Answered};
 ghost use Rattle.sessions.specs.Outcomes.{replied_or};
 ghost use Rattle.sessions.specs.Publications.{Learns};
@@ -23,7 +23,7 @@ const ROOM: usize = 12;
 
 /// The reply that tells a version, up to the version, with room for the rest of it.
 fn open_reply(alloc: Global, id: &Id) -> Result<Vec<u8>, AllocError>
-    ensures opening { IfOk result (λ opening. Opens id.now opening.items) }
+    ensures opening { IfOk result (λ opening. OpensVersion id.now opening.items) }
     ensures room { IfOk result (λ opening. vec_len opening + ROOM ≤ vec_capacity opening) }
 {
     let version = make_version(alloc, 0)?;
