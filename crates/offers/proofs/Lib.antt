@@ -16,3 +16,5 @@ pub mod Grouping
 pub mod Rows
 pub mod Overriding
 pub mod Rivals
+pub mod Placing
+pub mod Spelled

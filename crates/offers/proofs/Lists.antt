@@ -1,5 +1,5 @@
 -- Lists that loops make.
-use Rattle.std.proofs.Common.{◌≡◌, ◌∙◌, ap, sym, arith, refl, ℕ, zero, suc, ◌+◌, ◌≤◌, Bool, true, false, cond, List, [], ◌∷◌, ◌++◌, map, take, length, get_or, ◌&&◌, Some}
+use Rattle.std.proofs.Common.{◌≡◌, ◌∙◌, ap, sym, arith, refl, ℕ, zero, suc, ◌+◌, ◌<◌, ◌≤◌, Bool, true, false, cond, List, [], ◌∷◌, ◌++◌, map, take, length, get_or, ◌&&◌, Some}
 use Rattle.std.specs.Prelude.{slice_get}
 use Rattle.std.proofs.lemmas.List.{append-nil, take_more}
 use Rattle.std.proofs.lemmas.Grind.{flat_map-append}
@@ -79,3 +79,9 @@ pub same-test : (b c : Bool) → (b ≡ true → c ≡ true) → (c ≡ true →
 same-test true c f g = sym (f refl)
 same-test false true f g = g refl
 same-test false false f g = refl
+
+-- the element that is read at a place
+pub at-get : {A : Type 0} (xs : List A) (i : ℕ) (x : A) → i < length xs → x ≡ get_or xs i x → slice_get xs i ≡ Some x
+at-get [] i x l e = absurd (omega (arith, l))
+at-get (y ∷ ys) zero x l e = ap Some (sym e)
+at-get (y ∷ ys) (suc i) x l e = at-get ys i x (omega arith) e

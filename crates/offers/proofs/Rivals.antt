@@ -1,12 +1,18 @@
--- A member is crowded by one of its rivals.
-use Rattle.std.proofs.Common.{◌≡◌, ◌∙◌, ap, sym, refl, arith, length, Bool, true, false, ◌&&◌, ◌||◌, cond, List, [], ◌∷◌, map}
+-- A member is crowded by one of its rivals, which stand among the members of its name.
+use Rattle.std.proofs.Common.{rules, ◌≡◌, ◌∙◌, ap, sym, subst, refl, ℕ, zero, suc, ◌<◌, length, Option, Some, Bool, true, false, ◌&&◌, ◌||◌, ◌==◌, cond, List, [], ◌∷◌, map, bytes_eq}
+use Rattle.std.specs.Prelude.{slice_get}
 use Rattle.std.specs.List.{list_any, filter}
+use Rattle.std.proofs.lemmas.Option.{slice_get_within}
 use Rattle.type_names.specs.declared.kinds.Erased.{Erased}
 use Rattle.offers.specs.declared.member.Member.{Member}
+use Rattle.offers.specs.declared.placed.Placed.{Placed}
 use Rattle.offers.specs.Scenes.{Scene, of_class, at_or_below}
-use Rattle.offers.specs.Candidates.{is_private}
-use Rattle.offers.specs.Omissions.{meet, crowds, is_crowded}
-use Rattle.offers.specs.Rivals.{is_rival, rivals, types_under, has_under}
+use Rattle.offers.specs.Candidates.{same_kind, is_private}
+use Rattle.offers.specs.Omissions.{is_kin, is_other, meet, crowds, is_crowded}
+use Rattle.offers.specs.Grouping.{IsRow, at_place}
+use Rattle.offers.specs.Rivals.{is_rival, types_under, has_under, is_met}
+use Rattle.offers.proofs.Lists.{first-true, second-true}
+use Rattle.offers.proofs.Rows.{any-row}
 
 both : {A : Type 0} (b : Bool) (q : A → Bool) (x : A) (ys : List A) (more : Bool) → more ≡ list_any q ys → ((b && q x) || more) ≡ list_any q (cond b (x ∷ ys) ys)
 both true q x ys more e = ap (λ t. q x || t) e
@@ -17,28 +23,51 @@ any-both : {A : Type 0} (p q : A → Bool) (xs : List A) → list_any (λ x. p x
 any-both p q [] = refl
 any-both p q (x ∷ xs) = both (p x) q x (filter p xs) (list_any (λ y. p y && q y) xs) (any-both p q xs)
 
-met : (v : Scene) (ts : List Erased) (m n : Member) → meet v ts m n ≡ has_under v (types_under v ts (of_class m.owner)) (of_class n.owner)
-met v ts m n = any-both (λ t. at_or_below v t (of_class m.owner)) (λ t. at_or_below v t (of_class n.owner)) ts
+meets : (v : Scene) (ts : List Erased) (m n : Member) → meet v ts m n ≡ has_under v (types_under v ts (of_class m.owner)) (of_class n.owner)
+meets v ts m n = any-both (λ t. at_or_below v t (of_class m.owner)) (λ t. at_or_below v t (of_class n.owner)) ts
 
-step : (b meets : Bool) (n : Member) (fs : List Member) (h : Erased → Bool) (more : Bool) → meets ≡ h (of_class n.owner) → more ≡ list_any h (map (λ (m : Member). of_class m.owner) fs) → ((b && meets) || more) ≡ list_any h (map (λ (m : Member). of_class m.owner) (cond b (n ∷ fs) fs))
-step true meets n fs h more e f = ap (λ t. t || more) e ∙ ap (λ t. h (of_class n.owner) || t) f
-step false meets n fs h more e f = f
+any-crowds : (v : Scene) (ts : List Erased) (m : Member) (ms : List Member) → list_any (is_met v (types_under v ts (of_class m.owner)) m) ms ≡ list_any (crowds v ts m) ms
+any-crowds v ts m [] = refl
+any-crowds v ts m (n ∷ ns) =
+    ap (λ t. (is_rival m n && t) || list_any (is_met v (types_under v ts (of_class m.owner)) m) ns) (sym (meets v ts m n))
+    ∙ ap (λ t. (is_rival m n && meet v ts m n) || t) (any-crowds v ts m ns)
 
-any-rival : (v : Scene) (ts : List Erased) (m : Member) (ms : List Member) → list_any (crowds v ts m) ms ≡ list_any (has_under v (types_under v ts (of_class m.owner))) (rivals ms m)
-any-rival v ts m [] = refl
-any-rival v ts m (n ∷ ns) = step (is_rival m n) (meet v ts m n) n (filter (is_rival m) ns) (has_under v (types_under v ts (of_class m.owner))) (list_any (crowds v ts m) ns) (met v ts m n) (any-rival v ts m ns)
+mapped-at : {A B : Type 0} (f : A → B) (xs : List A) (i : ℕ) (x : A) → slice_get xs i ≡ Some x → slice_get (map f xs) i ≡ Some (f x)
+mapped-at f [] i x s = absurd (let k = s in cc)
+mapped-at f (y ∷ ys) zero x s = let k : y ≡ x = cc in ap (λ z. Some (f z)) k
+mapped-at f (y ∷ ys) (suc i) x s = mapped-at f ys i x s
 
--- a member that isn't private
-pub crowded-by : (v : Scene) (ts : List Erased) (ms : List Member) (m : Member) (under owners : List Erased) (out : Bool) → is_private m ≡ false → owners ≡ rivals ms m → under ≡ types_under v ts (of_class m.owner) → out ≡ list_any (has_under v under) owners → out ≡ is_crowded v ts ms m
+-- a member that isn't private, where these types are at or below its owner
+pub crowded-by : (v : Scene) (ts : List Erased) (ms : List Member) (m : Member) (owner : List ℕ) (under : List Erased) (out : Bool) → is_private m ≡ false → under ≡ types_under v ts (of_class owner) → owner ≡ m.owner → out ≡ list_any (is_met v under m) ms → out ≡ is_crowded v ts ms m
 unfolding is_crowded
-crowded-by v ts ms m under owners out e f g h =
-    h ∙ ap (λ (us : List Erased). list_any (has_under v us) owners) g ∙ ap (list_any (has_under v (types_under v ts (of_class m.owner)))) f
-    ∙ sym (any-rival v ts m ms) ∙ sym (ap (λ t. t || list_any (crowds v ts m) ms) e)
+crowded-by v ts ms m owner under out e f g h =
+    h ∙ ap (λ (us : List Erased). list_any (is_met v us m) ms) (f ∙ ap (λ (o : List ℕ). types_under v ts (of_class o)) g)
+    ∙ any-crowds v ts m ms ∙ sym (ap (λ t. t || list_any (crowds v ts m) ms) e)
 
-none : (xs : List Erased) → length xs ≡ 0 → xs ≡ []
-none [] e = refl
-none (x ∷ xs) e = absurd (omega (arith, e))
+pub crowded-same : (v : Scene) (old new : Placed) (ms ns : List Member) (m : Member) (out : Bool) → new ≡ old → ns ≡ ms → out ≡ is_crowded v new.types ns m → out ≡ is_crowded v old.types ms m
+crowded-same v old new ms ns m out e f h = h ∙ ap (λ (p : Placed). is_crowded v p.types ns m) e ∙ ap (λ (z : List Member). is_crowded v old.types z m) f
 
--- and that has no rivals
-pub crowded-none : (v : Scene) (ts : List Erased) (ms : List Member) (m : Member) (owners : List Erased) → is_private m ≡ false → owners ≡ rivals ms m → length owners ≡ 0 → false ≡ is_crowded v ts ms m
-crowded-none v ts ms m owners e f g = crowded-by v ts ms m (types_under v ts (of_class m.owner)) owners false e f refl (sym (ap (list_any (has_under v (types_under v ts (of_class m.owner)))) (none owners g)))
+-- the owner of a member at a place
+pub owner-at : (ms : List Member) (ts : List Erased) (i : ℕ) (n : Member) → ts ≡ map (λ (m : Member). of_class m.owner) ms → slice_get ms i ≡ Some n → slice_get ts i ≡ Some (of_class n.owner)
+owner-at ms ts i n e s = ap (λ (us : List Erased). slice_get us i) e ∙ mapped-at (λ (m : Member). of_class m.owner) ms i n s
+
+pub owner-within : (ms : List Member) (ts : List Erased) (i : ℕ) (n : Member) → ts ≡ map (λ (m : Member). of_class m.owner) ms → slice_get ms i ≡ Some n → i < length ts
+owner-within ms ts i n e s = slice_get_within ts i (of_class n.owner) (owner-at ms ts i n e s)
+
+same_name : (m n : Member) → bytes_eq m.name n.name ≡ true → n.name ≡ m.name
+same_name m n e = let q : m.name ≡ n.name = search rules in sym q
+
+rival-name : (m n : Member) → is_rival m n ≡ true → n.name ≡ m.name
+rival-name m n e =
+    same_name m n
+    (second-true (same_kind m.kind n.kind) _
+    (first-true (is_kin m n) _
+    (first-true (is_kin m n && (length m.params == length n.params)) _ e)))
+
+met-name : (v : Scene) (under : List Erased) (m n : Member) → is_met v under m n ≡ true → n.name ≡ m.name
+met-name v under m n e = rival-name m n (first-true (is_rival m n) _ e)
+
+pub met-found : (v : Scene) (under : List Erased) (m : Member) (ms : List Member) (key row places : List ℕ) (out : Bool) → out ≡ list_any (at_place (is_met v under m) ms) places → places ≡ row → key ≡ m.name → IsRow (map (λ (n : Member). n.name) ms) key row → out ≡ list_any (is_met v under m) ms
+met-found v under m ms key row places out h p q r =
+    h ∙ ap (list_any (at_place (is_met v under m) ms)) p
+    ∙ any-row (is_met v under m) (λ (n : Member). n.name) ms m.name row (met-name v under m) (subst (λ (k : List ℕ). IsRow (map (λ (n : Member). n.name) ms) k row) q r)

@@ -7,6 +7,7 @@ pub mod Omissions
 pub mod Functional
 pub mod Missing
 pub mod Rivals
+pub mod Kept
 pub mod Grouping
 pub mod Order
 pub mod Views
@@ -16,3 +17,5 @@ pub mod Pairs
 pub mod Types
 pub mod Weighing
 pub mod Offers
+pub mod Placing
+pub mod Spelled

@@ -1,66 +1,22 @@
-ghost use Rattle.std.specs.Prelude.{◌≡◌, IfOk};
+ghost use Rattle.std.specs.Prelude.{◌≡◌, slice_get, map, Some, IfOk, OnOk};
 ghost use Rattle.std.specs.List.{list_any};
-ghost use Rattle.offers.specs.Scenes.{at_or_below};
+ghost use Rattle.offers.specs.Scenes.{of_class};
 ghost use Rattle.offers.specs.Omissions.{is_other, is_crowded};
-ghost use Rattle.offers.specs.Rivals.{is_rival, rivals, types_under, has_under};
+ghost use Rattle.offers.specs.Grouping.{at_place};
+ghost use Rattle.offers.specs.Placing.{IsPlaced};
+ghost use Rattle.offers.specs.Rivals.{is_rival, has_under, is_met, types_under};
+ghost use Rattle.offers.specs.Kept.{AreOwned, IsKept, IsCrowding};
 ghost use Rattle.offers.specs.Views.{scene};
 
+use crate::by_name::MembersByName;
 use crate::member::Member;
+use crate::placed::Placed;
 use crate::repeats::{is_kin, is_private};
-use crate::types::{same_type, same_types};
+use crate::types::same_types;
 use crate::view::{View, of_class};
-use lists::{Copies, Items};
+use lists::{Copies, Items, Text};
 use std::alloc::{AllocError, Global};
 use type_names::Erased;
-
-/// Whether a type is another, or a strict subtype of it.
-fn at_or_below(view: &View<'_>, a: &Erased, b: &Erased) -> bool
-    ensures { result ≡ at_or_below (scene view.now) a.now b.now }
-{
-    same_type(a, b) || view.is_below(a, b)
-}
-
-/// Copies of those of these types that are at or below a type.
-fn types_under(
-    alloc: Global,
-    view: &View<'_>,
-    types: &[Erased],
-    high: &Erased,
-) -> Result<Items<Erased>, AllocError>
-    ensures { IfOk result (λ all. all ≡ types_under (scene view.now) types.now high.now) }
-{
-    let mut all = Items::new(alloc);
-    for kind in types {
-        if at_or_below(view, kind, high) {
-            all.push(kind.copy(alloc)?)?;
-        }
-    }
-    Ok(all)
-}
-
-/// Whether one of these types is.
-fn has_under(view: &View<'_>, types: &[Erased], high: &Erased) -> bool
-    ensures { result ≡ has_under (scene view.now) types.now high.now }
-{
-    for kind in types {
-        if at_or_below(view, kind, high) {
-            return true;
-        }
-    }
-    false
-}
-
-/// Whether one of these types is at or below one of the others.
-fn is_any_met(view: &View<'_>, types: &[Erased], owners: &[Erased]) -> bool
-    ensures { result ≡ list_any (has_under (scene view.now) types.now) owners.now }
-{
-    for owner in owners {
-        if has_under(view, types, owner) {
-            return true;
-        }
-    }
-    false
-}
 
 /// Whether members differ in their owners or their parameter types.
 fn is_other(a: &Member, b: &Member) -> bool
@@ -76,38 +32,217 @@ fn is_rival(a: &Member, b: &Member) -> bool
     is_kin(a, b) && a.params.len() == b.params.len() && is_other(a, b)
 }
 
-/// The owners of those of these members that are.
-fn rivals(alloc: Global, members: &[Member], member: &Member) -> Result<Items<Erased>, AllocError>
-    ensures { IfOk result (λ all. all ≡ rivals members.now member.now) }
+/// The types of the owners of members.
+fn owners_of(alloc: Global, members: &[Member]) -> Result<Items<Erased>, AllocError>
+    ensures { IfOk result (λ all. all ≡ map (λ m. of_class m.owner) members.now) }
 {
     let mut all = Items::new(alloc);
-    for other in members {
-        if is_rival(member, other) {
-            all.push(of_class(alloc, &other.owner)?)?;
-        }
+    for member in members {
+        all.push(of_class(alloc, &member.owner)?)?;
     }
     Ok(all)
 }
 
-/// Whether a member is crowded among these members and types.
-#[tactic(auto, unfolding(crate::specs::Omissions::is_crowded))]
-pub fn is_crowded(
+/// Members by their names, with the types of their owners.
+#[derive(Drop)]
+pub(crate) struct OwnedMembers<'a> {
+    members: MembersByName<'a>,
+    owners: Placed,
+}
+
+impl<'a> OwnedMembers<'a> {
+    /// These members with their owners.
+    pub fn new(
+        alloc: Global,
+        view: &View<'_>,
+        members: &'a [Member],
+    ) -> Result<OwnedMembers<'a>, AllocError>
+        ensures members { IfOk result (λ all. all.members ≡ members.now) }
+        ensures owned { IfOk result (λ all. AreOwned view.now all) }
+    {
+        let owners = owners_of(alloc, members)?;
+        let owners = Placed::new(alloc, view, owners)?;
+        let members = MembersByName::new(alloc, members)?;
+        Ok(OwnedMembers { members, owners })
+    }
+
+    /// Whether one of these types is at or below the owner of the member at a place.
+    fn is_owner_met(&self, view: &View<'_>, under: &Placed, other: &Member, place: usize) -> bool
+        requires owned { AreOwned view.now self.now }
+        requires under { IsPlaced view.now under.now }
+        requires there { slice_get self.now.members place ≡ Some other.now }
+        ensures { result ≡ has_under (scene view.now) under.now.types (of_class other.now.owner) }
+    {
+        under.meets(view, &self.owners, place)
+    }
+
+    /// Whether the member at a place is a rival of a member, with one of these types at or below its owner.
+    fn is_met_by(
+        &self,
+        view: &View<'_>,
+        under: &Placed,
+        member: &Member,
+        other: &Member,
+        place: usize,
+    ) -> bool
+        requires owned { AreOwned view.now self.now }
+        requires under { IsPlaced view.now under.now }
+        requires there { slice_get self.now.members place ≡ Some other.now }
+        ensures { result ≡ is_met (scene view.now) under.now.types member.now other.now }
+    {
+        is_rival(member, other) && self.is_owner_met(view, under, other, place)
+    }
+
+    /// Whether there is a member at a place that is.
+    fn is_met_at(&self, view: &View<'_>, under: &Placed, member: &Member, place: usize) -> bool
+        requires owned { AreOwned view.now self.now }
+        requires under { IsPlaced view.now under.now }
+        ensures { result ≡ at_place (is_met (scene view.now) under.now.types member.now) self.now.members place }
+    {
+        match self.members.members().get(place) {
+            Some(other) => self.is_met_by(view, under, member, other, place),
+            None => false,
+        }
+    }
+
+    /// Whether the member at one of these places is.
+    fn is_met_in(&self, view: &View<'_>, under: &Placed, member: &Member, places: &[usize]) -> bool
+        requires owned { AreOwned view.now self.now }
+        requires under { IsPlaced view.now under.now }
+        ensures { result ≡ list_any (at_place (is_met (scene view.now) under.now.types member.now) self.now.members) places.now }
+    {
+        for place in places {
+            if self.is_met_at(view, under, member, *place) {
+                return true;
+            }
+        }
+        false
+    }
+
+    /// Whether one of the members is.
+    fn is_met(
+        &self,
+        alloc: Global,
+        view: &View<'_>,
+        under: &Placed,
+        member: &Member,
+    ) -> Result<bool, AllocError>
+        requires owned { AreOwned view.now self.now }
+        requires under { IsPlaced view.now under.now }
+        ensures { IfOk result (λ yes. yes ≡ list_any (is_met (scene view.now) under.now.types member.now) self.now.members) }
+    {
+        let row = self.members.row(alloc, member.name.as_str())?;
+        Ok(self.is_met_in(view, under, member, row.as_slice()))
+    }
+}
+
+/// An owner of members, and the types of an environment that are at or below it, kept for all of its members.
+#[derive(Drop)]
+pub(crate) struct BelowOwner {
+    owner: Text,
+    types: Placed,
+}
+
+/// Those of these types that are at or below an owner.
+fn types_below(
     alloc: Global,
     view: &View<'_>,
-    types: &[Erased],
-    members: &[Member],
-    member: &Member,
-) -> Result<bool, AllocError>
-    ensures { IfOk result (λ yes. yes ≡ is_crowded (scene view.now) types.now members.now member.now) }
+    types: &Placed,
+    owner: &Text,
+) -> Result<Items<Erased>, AllocError>
+    requires { IsPlaced view.now types.now }
+    ensures { IfOk result (λ all. all ≡ types_under (scene view.now) types.now.types (of_class owner.now)) }
 {
-    if is_private(member) {
-        return Ok(true);
+    let high = of_class(alloc, owner)?;
+    let place = view.class_place(&high);
+    types.under(alloc, view, &high, place)
+}
+
+impl BelowOwner {
+    /// Those of these types that are at or below an owner.
+    pub fn new(
+        alloc: Global,
+        view: &View<'_>,
+        types: &Placed,
+        owner: &Text,
+    ) -> Result<BelowOwner, AllocError>
+        requires { IsPlaced view.now types.now }
+        ensures owner { IfOk result (λ below. below.owner ≡ owner.now) }
+        ensures kept { IfOk result (IsKept view.now types.now.types) }
+    {
+        let under = types_below(alloc, view, types, owner)?;
+        let types = Placed::new(alloc, view, under)?;
+        Ok(BelowOwner {
+            owner: owner.copy(alloc)?,
+            types,
+        })
     }
-    let owners = rivals(alloc, members, member)?;
-    if owners.len() == 0 {
-        return Ok(false);
+}
+
+/// Members, and the types of an environment, among which members are crowded or not.
+#[derive(Drop)]
+pub struct Crowding<'a> {
+    types: Placed,
+    members: OwnedMembers<'a>,
+    below: BelowOwner,
+}
+
+impl<'a> Crowding<'a> {
+    /// These types and members.
+    pub fn new(
+        alloc: Global,
+        view: &View<'_>,
+        types: &[Erased],
+        members: &'a [Member],
+    ) -> Result<Crowding<'a>, AllocError>
+        ensures types { IfOk result (λ all. all.types.types ≡ types.now) }
+        ensures members { IfOk result (λ all. all.members.members ≡ members.now) }
+        ensures kept { IfOk result (IsCrowding view.now) }
+    {
+        let types = Placed::of(alloc, view, types)?;
+        let members = OwnedMembers::new(alloc, view, members)?;
+        let below = BelowOwner::new(alloc, view, &types, view.edited())?;
+        Ok(Crowding {
+            types,
+            members,
+            below,
+        })
     }
-    let high = of_class(alloc, &member.owner)?;
-    let under = types_under(alloc, view, types, &high)?;
-    Ok(is_any_met(view, under.as_slice(), owners.as_slice()))
+
+    /// Goes on to the types at or below an owner.
+    fn turn(&mut self, alloc: Global, view: &View<'_>, owner: &Text) -> Result<(), AllocError>
+        requires { IsCrowding view.now self.old }
+        ensures owner { OnOk result (self.new.below.owner ≡ owner.now) }
+        ensures types { self.new.types ≡ self.old.types }
+        ensures members { self.new.members ≡ self.old.members }
+        ensures kept { OnOk result (IsCrowding view.now self.new) }
+    {
+        if self.below.owner.as_str() != owner.as_str() {
+            self.below = BelowOwner::new(alloc, view, &self.types, owner)?;
+        }
+        Ok(())
+    }
+
+    /// Whether a member is crowded among the members and types. The types at or below its owner are kept for the next
+    /// one.
+    #[tactic(auto, unfolding(crate::specs::Omissions::is_crowded))]
+    pub fn is_crowded(
+        &mut self,
+        alloc: Global,
+        view: &View<'_>,
+        member: &Member,
+    ) -> Result<bool, AllocError>
+        requires { IsCrowding view.now self.old }
+        ensures exact { IfOk result (λ yes. yes ≡ is_crowded (scene view.now) self.old.types.types self.old.members.members member.now) }
+        ensures types { self.new.types ≡ self.old.types }
+        ensures members { self.new.members ≡ self.old.members }
+        ensures kept { OnOk result (IsCrowding view.now self.new) }
+    {
+        if is_private(member) {
+            return Ok(true);
+        }
+        self.turn(alloc, view, &member.owner)?;
+        let met = self.members.is_met(alloc, view, &self.below.types, member)?;
+        Ok(met)
+    }
 }

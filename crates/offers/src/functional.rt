@@ -2,12 +2,12 @@ ghost use Rattle.std.specs.Prelude.{◌≡◌, ◌++◌, [], IfOk, OnOk};
 ghost use Rattle.offers.specs.Scenes.{of_class};
 ghost use Rattle.offers.specs.Reach.{offered};
 ghost use Rattle.offers.specs.Functional.{is_interface, faces_above, is_whole, is_giver, is_given, is_of_object, is_promise, promises, group, one_method, method_in, face_of, faces_by, faces};
-ghost use Rattle.offers.specs.Missing.{missing};
+ghost use Rattle.offers.specs.Missing.{missing, interfaces};
 ghost use Rattle.offers.specs.Views.{scene};
 
 use crate::calls::{are_same_calls, has_body, is_of_object};
 use crate::candidates::has_result;
-use crate::interfaces::{faces_above, is_below, is_interface, is_whole, missing};
+use crate::interfaces::{faces_above, interfaces, is_below, is_interface, is_whole, missing};
 use crate::member::Face;
 use crate::reach::{ABSTRACT, has_flag};
 use crate::spelling::class_spelling;
@@ -127,15 +127,18 @@ fn one_method(alloc: Global, methods: &[MethodSummary]) -> Result<Option<MethodS
     }
 }
 
-/// The one method of a functional interface. `names` are those of the missing classes.
+/// The one method of a functional interface. `names` are those of the missing classes, `known`
+/// the known interfaces.
 #[tactic(auto, unfolding(crate::specs::Functional::method_in))]
 fn method_in(
     alloc: Global,
     view: &View<'_>,
     names: &[Text],
+    known: &[ClassSummary],
     class: &ClassSummary,
 ) -> Result<Option<MethodSummary>, AllocError>
-    requires { names.now ≡ missing (scene view.now) }
+    requires names { names.now ≡ missing (scene view.now) }
+    requires known { known.now ≡ interfaces (scene view.now) }
     ensures { IfOk result (λ one. one ≡ method_in (scene view.now) class.now) }
 {
     if !is_interface(class) {
@@ -148,7 +151,7 @@ fn method_in(
     if !whole {
         return Ok(None);
     }
-    let faces = faces_above(alloc, view, class)?;
+    let faces = faces_above(alloc, view, known, class)?;
     let methods = group(alloc, view, faces.as_slice())?;
     let one = one_method(alloc, methods.as_slice())?;
     Ok(one)
@@ -174,13 +177,15 @@ fn add_lambda(
     alloc: Global,
     view: &View<'_>,
     names: &[Text],
+    known: &[ClassSummary],
     class: &ClassSummary,
     all: &mut Items<Face>,
 ) -> Result<(), AllocError>
-    requires { names.now ≡ missing (scene view.now) }
+    requires names { names.now ≡ missing (scene view.now) }
+    requires known { known.now ≡ interfaces (scene view.now) }
     ensures { OnOk result (all.new ≡ all.old ++ faces_by class.now.name (method_in (scene view.now) class.now)) }
 {
-    let Some(method) = method_in(alloc, view, names, class)? else {
+    let Some(method) = method_in(alloc, view, names, known, class)? else {
         return Ok(());
     };
     all.push(face_of(alloc, &class.name, &method)?)?;
@@ -198,9 +203,17 @@ pub fn faces(
     ensures { IfOk result (λ all. all ≡ faces (scene view.now)) }
 {
     let names = missing(alloc, view)?;
+    let known = interfaces(alloc, view)?;
     let mut all = Items::new(alloc);
     for class in classes {
-        add_lambda(alloc, view, names.as_slice(), class, &mut all)?;
+        add_lambda(
+            alloc,
+            view,
+            names.as_slice(),
+            known.as_slice(),
+            class,
+            &mut all,
+        )?;
     }
     Ok(all)
 }

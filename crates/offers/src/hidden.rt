@@ -10,8 +10,8 @@ ghost use Rattle.offers.specs.Views.{scene};
 use crate::candidates::same_kind;
 use crate::member::{Kind, Member};
 use crate::repeats::is_static;
+use crate::spellings::Spellings;
 use crate::texts::{is_among, parts};
-use crate::view::View;
 use crate::written::{after_four, owner_text, static_text};
 use class_summary::joined;
 use lists::{Copies, Items, Text};
@@ -28,14 +28,14 @@ fn is_static_field(member: &Member) -> bool
 /// Adds the text of a member that is a static field.
 fn add_field_text(
     alloc: Global,
-    view: &View<'_>,
+    spellings: &Spellings<'_>,
     member: &Member,
     all: &mut Items<Text>,
 ) -> Result<(), AllocError>
-    ensures { OnOk result (all.new ≡ all.old ++ field_text (scene view.now) member.now) }
+    ensures { OnOk result (all.new ≡ all.old ++ field_text (scene spellings.now) member.now) }
 {
     if is_static_field(member) {
-        all.push(static_text(alloc, view, member)?)?;
+        all.push(static_text(alloc, spellings, member)?)?;
     }
     Ok(())
 }
@@ -43,14 +43,14 @@ fn add_field_text(
 /// The texts of the static fields among these members.
 fn field_texts(
     alloc: Global,
-    view: &View<'_>,
+    spellings: &Spellings<'_>,
     members: &[Member],
 ) -> Result<Items<Text>, AllocError>
-    ensures { IfOk result (λ all. all ≡ field_texts (scene view.now) members.now) }
+    ensures { IfOk result (λ all. all ≡ field_texts (scene spellings.now) members.now) }
 {
     let mut all = Items::new(alloc);
     for member in members {
-        add_field_text(alloc, view, member, &mut all)?;
+        add_field_text(alloc, spellings, member, &mut all)?;
     }
     Ok(all)
 }
@@ -97,17 +97,17 @@ fn first_of(texts: &[Text]) -> &str
 #[tactic(auto, unfolding(crate::specs::Omissions::is_hidden))]
 fn is_hidden(
     alloc: Global,
-    view: &View<'_>,
+    spellings: &Spellings<'_>,
     names: &[Text],
     fields: &[Text],
     member: &Member,
 ) -> Result<bool, AllocError>
-    ensures { IfOk result (λ yes. yes ≡ is_hidden (scene view.now) names.now fields.now member.now) }
+    ensures { IfOk result (λ yes. yes ≡ is_hidden (scene spellings.now) names.now fields.now member.now) }
 {
     if !is_static(member) {
         return Ok(false);
     }
-    let owner = owner_text(alloc, view, member)?;
+    let owner = owner_text(alloc, spellings, member)?;
     let parts = parts(alloc, owner.as_str())?;
     let prefixes = prefixes(alloc, &owner)?;
     Ok(is_among(names, first_of(parts.as_slice())) || is_any_among(prefixes.as_slice(), fields))
@@ -116,16 +116,16 @@ fn is_hidden(
 /// Copies of the members that are left after the fifth omission.
 fn shown_of(
     alloc: Global,
-    view: &View<'_>,
+    spellings: &Spellings<'_>,
     names: &[Text],
     members: &[Member],
 ) -> Result<Items<Member>, AllocError>
-    ensures { IfOk result (λ all. all ≡ shown_of (scene view.now) names.now members.now) }
+    ensures { IfOk result (λ all. all ≡ shown_of (scene spellings.now) names.now members.now) }
 {
-    let fields = field_texts(alloc, view, members)?;
+    let fields = field_texts(alloc, spellings, members)?;
     let mut all = Items::new(alloc);
     for member in members {
-        let hidden = is_hidden(alloc, view, names, fields.as_slice(), member)?;
+        let hidden = is_hidden(alloc, spellings, names, fields.as_slice(), member)?;
         if !hidden {
             all.push(member.copy(alloc)?)?;
         }
@@ -137,15 +137,15 @@ fn shown_of(
 #[tactic(auto, unfolding(crate::specs::Omissions::after_five))]
 pub fn after_five(
     alloc: Global,
-    view: &View<'_>,
+    spellings: &Spellings<'_>,
     types: &[Erased],
     names: &[Text],
     members: &[Member],
 ) -> Result<Items<Member>, AllocError>
-    requires { names.now ≡ taken_names (scene view.now) }
-    ensures { IfOk result (λ all. all ≡ after_five (scene view.now) types.now members.now) }
+    requires { names.now ≡ taken_names (scene spellings.now) }
+    ensures { IfOk result (λ all. all ≡ after_five (scene spellings.now) types.now members.now) }
 {
-    let left = after_four(alloc, view, types, members)?;
-    let shown = shown_of(alloc, view, names, left.as_slice())?;
+    let left = after_four(alloc, spellings, types, members)?;
+    let shown = shown_of(alloc, spellings, names, left.as_slice())?;
     Ok(shown)
 }

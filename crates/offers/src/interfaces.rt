@@ -2,7 +2,7 @@ ghost use Rattle.std.specs.Prelude.{◌≡◌, ◌++◌, ◌∷◌, [], if◌the
 ghost use Rattle.std.specs.List.{filter};
 ghost use Rattle.offers.specs.Scenes.{of_class, at_or_below};
 ghost use Rattle.offers.specs.Functional.{is_interface, is_face, faces_above, is_whole};
-ghost use Rattle.offers.specs.Missing.{is_missing, missing, is_apart};
+ghost use Rattle.offers.specs.Missing.{is_missing, missing, is_apart, interfaces};
 ghost use Rattle.offers.specs.Views.{scene};
 
 use crate::reach::{INTERFACE, has_flag};
@@ -79,19 +79,58 @@ fn add_face(
     Ok(())
 }
 
-/// Copies of the known interfaces at or above a class.
-#[tactic(auto, unfolding(crate::specs::Functional::faces_above))]
-pub(crate) fn faces_above(
+/// Adds a copy of a class that is an interface.
+fn add_interface(
     alloc: Global,
-    view: &View<'_>,
     class: &ClassSummary,
-) -> Result<Items<ClassSummary>, AllocError>
-    ensures { IfOk result (λ all. all ≡ faces_above (scene view.now) class.now) }
+    all: &mut Items<ClassSummary>,
+) -> Result<(), AllocError>
+    ensures { OnOk result (all.new ≡ all.old ++ (if is_interface class.now then class.now ∷ [] else [])) }
+{
+    if is_interface(class) {
+        all.push(class.copy(alloc)?)?;
+    }
+    Ok(())
+}
+
+/// Copies of the known interfaces.
+pub(crate) fn interfaces(alloc: Global, view: &View<'_>) -> Result<Items<ClassSummary>, AllocError>
+    ensures { IfOk result (λ all. all ≡ interfaces (scene view.now)) }
 {
     let mut all = Items::new(alloc);
     for place in 0..view.count() {
-        add_face(alloc, view, class, view.at(place), &mut all)?;
+        add_interface(alloc, view.at(place), &mut all)?;
     }
+    Ok(all)
+}
+
+/// Copies of those of these classes that are interfaces at or above a class.
+fn faces_in(
+    alloc: Global,
+    view: &View<'_>,
+    class: &ClassSummary,
+    others: &[ClassSummary],
+) -> Result<Items<ClassSummary>, AllocError>
+    ensures { IfOk result (λ all. all ≡ filter (is_face (scene view.now) class.now) others.now) }
+{
+    let mut all = Items::new(alloc);
+    for other in others {
+        add_face(alloc, view, class, other, &mut all)?;
+    }
+    Ok(all)
+}
+
+/// Copies of those of the known interfaces that are at or above a class.
+pub(crate) fn faces_above(
+    alloc: Global,
+    view: &View<'_>,
+    known: &[ClassSummary],
+    class: &ClassSummary,
+) -> Result<Items<ClassSummary>, AllocError>
+    requires { known.now ≡ interfaces (scene view.now) }
+    ensures { IfOk result (λ all. all ≡ faces_above (scene view.now) class.now) }
+{
+    let all = faces_in(alloc, view, class, known)?;
     Ok(all)
 }
 

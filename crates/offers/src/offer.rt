@@ -14,6 +14,7 @@ use crate::names::taken_names;
 use crate::offered::offered;
 use crate::overrides::after_three;
 use crate::pairs::pairs_of;
+use crate::spellings::Spellings;
 use crate::view::View;
 use class_summary::Resolver;
 use decl_index::Index;
@@ -48,7 +49,14 @@ fn offer_of(alloc: Global, view: &View<'_>) -> Result<Offer, AllocError>
     let types = types_of(alloc, view, members.as_slice(), faces.as_slice())?;
     let pairs = pairs_of(alloc, view, &types)?;
     let names = taken_names(alloc, view)?;
-    let left = after_five(alloc, view, &types, names.as_slice(), members.as_slice())?;
+    let spellings = Spellings::new(alloc, view, &types)?;
+    let left = after_five(
+        alloc,
+        &spellings,
+        &types,
+        names.as_slice(),
+        members.as_slice(),
+    )?;
     Ok(Offer {
         types: Items::from_vec(types),
         pairs,

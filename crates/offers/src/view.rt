@@ -5,6 +5,7 @@ ghost use Rattle.java_units.specs.Dimensions.{dims_of_bounds};
 ghost use Rattle.known_classes.specs.Known.{HasEachOnce, class_named, class_by_canonical, outer_of, canonical};
 ghost use Rattle.class_summary.specs.Sources.{internal_name, canonical_name};
 ghost use Rattle.subtyping.specs.Places.{IsAncestry};
+ghost use Rattle.subtyping.specs.Asked.{class_place};
 ghost use Rattle.offers.specs.Sites.{IsSiteOf};
 ghost use Rattle.offers.specs.Scenes.{of_class, denoted, edited, package_here, own_names};
 ghost use Rattle.offers.specs.Views.{scene};
@@ -262,6 +263,28 @@ impl<'a> View<'a> {
         ensures { result ≡ (scene self.now).below a.now b.now }
     {
         self.subtypes.is_sub(a, b)
+    }
+
+    /// The place of the class of a type among the ancestors.
+    pub fn class_place(&self, kind: &Erased) -> Option<usize>
+        ensures { result ≡ class_place self.now.ancestry.names kind.now.base }
+    {
+        self.subtypes.class_place(kind)
+    }
+
+    /// Whether one type is a strict subtype of another, where the places of their classes are known.
+    pub fn is_below_at(
+        &self,
+        a: &Erased,
+        low: Option<usize>,
+        b: &Erased,
+        high: Option<usize>,
+    ) -> bool
+        requires low { low ≡ class_place self.now.ancestry.names a.now.base }
+        requires high { high ≡ class_place self.now.ancestry.names b.now.base }
+        ensures { result ≡ (scene self.now).below a.now b.now }
+    {
+        self.subtypes.is_sub_at(a, low, b, high)
     }
 
     /// The canonical name of a class.

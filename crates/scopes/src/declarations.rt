@@ -4,6 +4,7 @@ ghost use Rattle.offers.specs.Omissions.{scope_names};
 ghost use Rattle.offers.specs.Candidates.{value};
 ghost use Rattle.offers.specs.Spellings.{class_spelling};
 ghost use Rattle.offers.specs.Scenes.{of_class, denoted, edited};
+ghost use Rattle.offers.specs.Kept.{IsCrowding};
 ghost use Rattle.offers.specs.Types.{number_in};
 ghost use Rattle.offers.specs.Views.{scene};
 ghost use Rattle.offers.specs.Weighing.{AreWeights};
@@ -13,9 +14,7 @@ use crate::forms::{args_of, form_of};
 use crate::numbers::Numbers;
 use crate::weighing::weight_of;
 use lists::{Copies, Items, Text};
-use offers::{
-    Face, Member, View, class_spelling, is_crowded, of_base, of_class, string_type, value,
-};
+use offers::{Crowding, Face, Member, Spellings, View, of_base, of_class, string_type, value};
 use std::alloc::{AllocError, Global};
 use terms::{Arg, Decl, Form};
 use type_names::{Base, Erased};
@@ -114,25 +113,30 @@ fn add_string_literal(
     Ok(())
 }
 
-/// The declaration of a member among these. `scope` are the names in scope, hidden or not.
+/// The declaration of a member among others. `scope` are the names in scope, hidden or not.
 #[tactic(auto, unfolding(crate::specs::Declarations::member_decl))]
 fn member_decl(
     alloc: Global,
-    view: &View<'_>,
+    spellings: &Spellings<'_>,
     numbers: &Numbers<'_>,
     scope: &[Text],
-    members: &[Member],
+    crowding: &mut Crowding<'_>,
     member: &Member,
 ) -> Result<Decl, AllocError>
-    requires weights { AreWeights view.now.weights }
-    requires names { scope.now ≡ scope_names (scene view.now) }
-    ensures { IfOk result (λ decl. decl ≡ member_decl (scene view.now) numbers.now members.now member.now) }
+    requires weights { AreWeights spellings.now.weights }
+    requires names { scope.now ≡ scope_names (scene spellings.now) }
+    requires kept { IsCrowding spellings.now crowding.old }
+    requires types { crowding.old.types.types ≡ numbers.now }
+    ensures exact { IfOk result (λ decl. decl ≡ member_decl (scene spellings.now) numbers.now crowding.old.members.members member.now) }
+    ensures types { crowding.new.types ≡ crowding.old.types }
+    ensures members { crowding.new.members ≡ crowding.old.members }
+    ensures kept { OnOk result (IsCrowding spellings.now crowding.new) }
 {
     let result = result_of(alloc, numbers, member)?;
-    let weight = weight_of(alloc, view, member)?;
-    let crowded = is_crowded(alloc, view, numbers.types(), members, member)?;
+    let weight = weight_of(alloc, spellings.view(), member)?;
+    let crowded = crowding.is_crowded(alloc, spellings.view(), member)?;
     let args = args_of(alloc, numbers, member)?;
-    let form = form_of(alloc, view, scope, member)?;
+    let form = form_of(alloc, spellings, scope, member)?;
     Ok(Decl {
         args,
         result,
@@ -153,19 +157,21 @@ fn result_of(alloc: Global, numbers: &Numbers<'_>, member: &Member) -> Result<u3
 /// Adds the declarations of those of the members that are left.
 pub(crate) fn add_members(
     alloc: Global,
-    view: &View<'_>,
+    spellings: &Spellings<'_>,
     numbers: &Numbers<'_>,
     scope: &[Text],
     members: &[Member],
     left: &[Member],
     all: &mut Items<Decl>,
 ) -> Result<(), AllocError>
-    requires weights { AreWeights view.now.weights }
-    requires names { scope.now ≡ scope_names (scene view.now) }
-    ensures { OnOk result (all.new ≡ all.old ++ map (member_decl (scene view.now) numbers.now members.now) left.now) }
+    requires weights { AreWeights spellings.now.weights }
+    requires names { scope.now ≡ scope_names (scene spellings.now) }
+    ensures { OnOk result (all.new ≡ all.old ++ map (member_decl (scene spellings.now) numbers.now members.now) left.now) }
 {
+    let mut crowding = Crowding::new(alloc, spellings.view(), numbers.types(), members)?;
     for member in left {
-        all.push(member_decl(alloc, view, numbers, scope, members, member)?)?;
+        let decl = member_decl(alloc, spellings, numbers, scope, &mut crowding, member)?;
+        all.push(decl)?;
     }
     Ok(())
 }
@@ -196,10 +202,10 @@ fn face_args(alloc: Global, numbers: &Numbers<'_>, face: &Face) -> Result<Items<
 }
 
 /// The spelling of a functional interface, the empty text where there is none.
-fn face_text(alloc: Global, view: &View<'_>, face: &Face) -> Result<Text, AllocError>
-    ensures { IfOk result (λ text. text ≡ unwrap_or (class_spelling (scene view.now) face.now.name) []) }
+fn face_text(alloc: Global, spellings: &Spellings<'_>, face: &Face) -> Result<Text, AllocError>
+    ensures { IfOk result (λ text. text ≡ unwrap_or (class_spelling (scene spellings.now) face.now.name) []) }
 {
-    match class_spelling(alloc, view, &face.name)? {
+    match spellings.of(alloc, &face.name)? {
         Some(text) => Ok(text),
         None => Ok(Text::new(alloc)),
     }
@@ -217,19 +223,19 @@ fn face_number(alloc: Global, numbers: &Numbers<'_>, face: &Face) -> Result<u32,
 #[tactic(auto, unfolding(crate::specs::Declarations::face_decl))]
 fn face_decl(
     alloc: Global,
-    view: &View<'_>,
+    spellings: &Spellings<'_>,
     numbers: &Numbers<'_>,
     face: &Face,
 ) -> Result<Decl, AllocError>
-    ensures { IfOk result (λ decl. decl ≡ face_decl (scene view.now) numbers.now face.now) }
+    ensures { IfOk result (λ decl. decl ≡ face_decl (scene spellings.now) numbers.now face.now) }
 {
     let result = face_number(alloc, numbers, face)?;
-    let text = face_text(alloc, view, face)?;
+    let text = face_text(alloc, spellings, face)?;
     let args = face_args(alloc, numbers, face)?;
     Ok(Decl {
         args,
         result,
-        weight: view.weights().lambda,
+        weight: spellings.view().weights().lambda,
         crowded: false,
         form: Form::Lambda(text),
     })
@@ -238,15 +244,15 @@ fn face_decl(
 /// Adds the declarations of functional interfaces.
 pub(crate) fn add_faces(
     alloc: Global,
-    view: &View<'_>,
+    spellings: &Spellings<'_>,
     numbers: &Numbers<'_>,
     faces: &[Face],
     all: &mut Items<Decl>,
 ) -> Result<(), AllocError>
-    ensures { OnOk result (all.new ≡ all.old ++ map (face_decl (scene view.now) numbers.now) faces.now) }
+    ensures { OnOk result (all.new ≡ all.old ++ map (face_decl (scene spellings.now) numbers.now) faces.now) }
 {
     for face in faces {
-        all.push(face_decl(alloc, view, numbers, face)?)?;
+        all.push(face_decl(alloc, spellings, numbers, face)?)?;
     }
     Ok(())
 }

@@ -9,7 +9,7 @@ ghost use Rattle.scopes.specs.Declarations.{form_by, wants_by};
 
 use crate::numbers::Numbers;
 use lists::{Copies, Items, Text, copy_all};
-use offers::{Kind, Member, View, is_among, is_static, of_class, owner_text, static_text};
+use offers::{Kind, Member, Spellings, is_among, is_static, of_class, owner_text, static_text};
 use std::alloc::{AllocError, Global};
 use terms::{Arg, Form};
 use type_names::Erased;
@@ -18,41 +18,45 @@ use type_names::Erased;
 /// scope, hidden or not.
 pub(crate) fn form_of(
     alloc: Global,
-    view: &View<'_>,
+    spellings: &Spellings<'_>,
     scope: &[Text],
     member: &Member,
 ) -> Result<Form, AllocError>
-    requires { scope.now ≡ scope_names (scene view.now) }
-    ensures { IfOk result (λ form. form ≡ form_by (scene view.now) member.now member.now.kind (is_static member.now)) }
+    requires { scope.now ≡ scope_names (scene spellings.now) }
+    ensures { IfOk result (λ form. form ≡ form_by (scene spellings.now) member.now member.now.kind (is_static member.now)) }
 {
     match member.kind {
-        Kind::Field => field_form(alloc, view, scope, member),
-        Kind::Method => method_form(alloc, view, member),
-        Kind::Constructor => Ok(Form::New(owner_text(alloc, view, member)?)),
+        Kind::Field => field_form(alloc, spellings, scope, member),
+        Kind::Method => method_form(alloc, spellings, member),
+        Kind::Constructor => Ok(Form::New(owner_text(alloc, spellings, member)?)),
     }
 }
 
 fn field_form(
     alloc: Global,
-    view: &View<'_>,
+    spellings: &Spellings<'_>,
     scope: &[Text],
     member: &Member,
 ) -> Result<Form, AllocError>
-    requires { scope.now ≡ scope_names (scene view.now) }
-    ensures { IfOk result (λ form. form ≡ form_by (scene view.now) member.now Kind.Field (is_static member.now)) }
+    requires { scope.now ≡ scope_names (scene spellings.now) }
+    ensures { IfOk result (λ form. form ≡ form_by (scene spellings.now) member.now Kind.Field (is_static member.now)) }
 {
     if is_static(member) {
-        return Ok(Form::Name(static_text(alloc, view, member)?));
+        return Ok(Form::Name(static_text(alloc, spellings, member)?));
     }
     let hidden = is_among(scope, member.name.as_str());
     Ok(Form::Field(member.name.copy(alloc)?, hidden))
 }
 
-fn method_form(alloc: Global, view: &View<'_>, member: &Member) -> Result<Form, AllocError>
-    ensures { IfOk result (λ form. form ≡ form_by (scene view.now) member.now Kind.Method (is_static member.now)) }
+fn method_form(
+    alloc: Global,
+    spellings: &Spellings<'_>,
+    member: &Member,
+) -> Result<Form, AllocError>
+    ensures { IfOk result (λ form. form ≡ form_by (scene spellings.now) member.now Kind.Method (is_static member.now)) }
 {
     if is_static(member) {
-        return Ok(Form::Call(static_text(alloc, view, member)?));
+        return Ok(Form::Call(static_text(alloc, spellings, member)?));
     }
     Ok(Form::Method(member.name.copy(alloc)?))
 }

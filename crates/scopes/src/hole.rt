@@ -18,8 +18,8 @@ use java_units::Unit;
 use known_classes::Merged;
 use lists::{Items, Text};
 use offers::{
-    Face, Member, View, after_five, after_three, faces, offered_classes, own_summaries, pairs_of,
-    scope_names, taken_names, types_of,
+    Face, Member, Spellings, View, after_five, after_three, faces, offered_classes, own_summaries,
+    pairs_of, scope_names, taken_names, types_of,
 };
 use std::alloc::{AllocError, Global};
 use subtyping::Subtypes;
@@ -53,29 +53,30 @@ fn seen_of(alloc: Global, view: &View<'_>) -> Result<Seen, AllocError>
 #[tactic(auto, unfolding(crate::specs::Declarations::decls_of))]
 fn decls_of(
     alloc: Global,
-    view: &View<'_>,
+    spellings: &Spellings<'_>,
     seen: &Seen,
     numbers: &Numbers<'_>,
     names: &[Text],
 ) -> Result<Items<Decl>, AllocError>
-    requires weights { AreWeights view.now.weights }
-    requires names { names.now ≡ taken_names (scene view.now) }
-    ensures { IfOk result (λ all. all ≡ decls_of (scene view.now) numbers.now seen.now.members seen.now.faces) }
+    requires weights { AreWeights spellings.now.weights }
+    requires names { names.now ≡ taken_names (scene spellings.now) }
+    ensures { IfOk result (λ all. all ≡ decls_of (scene spellings.now) numbers.now seen.now.members seen.now.faces) }
 {
+    let view = spellings.view();
     let members = seen.members.as_slice();
-    let left = after_five(alloc, view, numbers.types(), names, members)?;
+    let left = after_five(alloc, spellings, numbers.types(), names, members)?;
     let scope = scope_names(alloc, view)?;
     let mut all = site_decls(alloc, view, numbers)?;
     add_members(
         alloc,
-        view,
+        spellings,
         numbers,
         scope.as_slice(),
         members,
         left.as_slice(),
         &mut all,
     )?;
-    add_faces(alloc, view, numbers, seen.faces.as_slice(), &mut all)?;
+    add_faces(alloc, spellings, numbers, seen.faces.as_slice(), &mut all)?;
     Ok(all)
 }
 
@@ -90,18 +91,19 @@ fn goal_of(alloc: Global, view: &View<'_>, numbers: &Numbers<'_>) -> Result<u32,
 /// The parts of an environment with these declarations.
 fn parts_of(
     alloc: Global,
-    view: &View<'_>,
+    spellings: &Spellings<'_>,
     numbers: &Numbers<'_>,
     names: &[Text],
     decls: Items<Decl>,
     limit: u32,
     depth: u32,
 ) -> Result<Parts, AllocError>
-    requires names { names.now ≡ taken_names (scene view.now) }
-    ensures { IfOk result (λ parts. parts ≡ parts_by (scene view.now) numbers.now decls limit depth) }
+    requires names { names.now ≡ taken_names (scene spellings.now) }
+    ensures { IfOk result (λ parts. parts ≡ parts_by (scene spellings.now) numbers.now decls limit depth) }
 {
+    let view = spellings.view();
     let goal = goal_of(alloc, view, numbers)?;
-    let types = type_texts(alloc, view, numbers.types())?;
+    let types = type_texts(alloc, spellings, numbers.types())?;
     let binder = binder(alloc, decls.as_slice(), types.as_slice(), names)?;
     let pairs = pairs_of(alloc, view, numbers.types())?;
     Ok(Parts {
@@ -123,8 +125,17 @@ fn parts(alloc: Global, view: &View<'_>, limit: u32, depth: u32) -> Result<Parts
     let seen = seen_of(alloc, view)?;
     let numbers = Numbers::new(&seen.types)?;
     let names = taken_names(alloc, view)?;
-    let decls = decls_of(alloc, view, &seen, &numbers, names.as_slice())?;
-    let parts = parts_of(alloc, view, &numbers, names.as_slice(), decls, limit, depth)?;
+    let spellings = Spellings::new(alloc, view, numbers.types())?;
+    let decls = decls_of(alloc, &spellings, &seen, &numbers, names.as_slice())?;
+    let parts = parts_of(
+        alloc,
+        &spellings,
+        &numbers,
+        names.as_slice(),
+        decls,
+        limit,
+        depth,
+    )?;
     Ok(parts)
 }
 

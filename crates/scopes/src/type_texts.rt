@@ -5,27 +5,27 @@ ghost use Rattle.offers.specs.Views.{scene};
 ghost use Rattle.scopes.specs.Texts.{class_text};
 
 use lists::{Items, Text};
-use offers::{View, class_spelling, with_dims};
+use offers::{Spellings, with_dims};
 use std::alloc::{AllocError, Global};
 use type_names::{Base, Erased};
 
 /// The spelling of a class, or its canonical name where it has none.
-fn class_text(alloc: Global, view: &View<'_>, name: &Text) -> Result<Text, AllocError>
-    ensures { IfOk result (λ text. text ≡ class_text (scene view.now) name.now) }
+fn class_text(alloc: Global, spellings: &Spellings<'_>, name: &Text) -> Result<Text, AllocError>
+    ensures { IfOk result (λ text. text ≡ class_text (scene spellings.now) name.now) }
 {
-    match class_spelling(alloc, view, name)? {
+    match spellings.of(alloc, name)? {
         Some(text) => Ok(text),
-        None => view.canonical(alloc, name),
+        None => spellings.view().canonical(alloc, name),
     }
 }
 
 /// The text of a type without its dimensions.
-fn base_text(alloc: Global, view: &View<'_>, base: &Base) -> Result<Text, AllocError>
-    ensures { IfOk result (λ text. Some text ≡ base_by (λ name. Some (class_text (scene view.now) name)) base.now) }
+fn base_text(alloc: Global, spellings: &Spellings<'_>, base: &Base) -> Result<Text, AllocError>
+    ensures { IfOk result (λ text. Some text ≡ base_by (λ name. Some (class_text (scene spellings.now) name)) base.now) }
 {
     let word = match base {
         Base::Class(name) => {
-            return class_text(alloc, view, name);
+            return class_text(alloc, spellings, name);
         }
         Base::Byte => "byte",
         Base::Char => "char",
@@ -41,10 +41,10 @@ fn base_text(alloc: Global, view: &View<'_>, base: &Base) -> Result<Text, AllocE
 
 /// The text of a type.
 #[tactic(auto, unfolding(offers::specs::Spellings::type_text))]
-fn type_text(alloc: Global, view: &View<'_>, kind: &Erased) -> Result<Text, AllocError>
-    ensures { IfOk result (λ text. text ≡ type_text (scene view.now) kind.now) }
+fn type_text(alloc: Global, spellings: &Spellings<'_>, kind: &Erased) -> Result<Text, AllocError>
+    ensures { IfOk result (λ text. text ≡ type_text (scene spellings.now) kind.now) }
 {
-    let text = base_text(alloc, view, &kind.base)?;
+    let text = base_text(alloc, spellings, &kind.base)?;
     let text = with_dims(text, kind.dims)?;
     Ok(text)
 }
@@ -52,14 +52,14 @@ fn type_text(alloc: Global, view: &View<'_>, kind: &Erased) -> Result<Text, Allo
 /// The texts of types.
 pub(crate) fn type_texts(
     alloc: Global,
-    view: &View<'_>,
+    spellings: &Spellings<'_>,
     kinds: &[Erased],
 ) -> Result<Items<Text>, AllocError>
-    ensures { IfOk result (λ all. all ≡ map (type_text (scene view.now)) kinds.now) }
+    ensures { IfOk result (λ all. all ≡ map (type_text (scene spellings.now)) kinds.now) }
 {
     let mut all = Items::new(alloc);
     for kind in kinds {
-        all.push(type_text(alloc, view, kind)?)?;
+        all.push(type_text(alloc, spellings, kind)?)?;
     }
     Ok(all)
 }

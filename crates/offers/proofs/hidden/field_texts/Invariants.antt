@@ -5,4 +5,4 @@ use Rattle.offers.specs.Views.{scene}
 use Rattle.offers.proofs.hidden.field_texts.Given as goal
 
 abbrev pub invariant-loop-member : goal.invariant-loop-member
-invariant-loop-member l = l.all ≡ flat_map (field_text (scene l.view)) (take l.member-index l.members)
+invariant-loop-member l = l.all ≡ flat_map (field_text (scene l.spellings)) (take l.member-index l.members)

@@ -5,4 +5,4 @@ use Rattle.offers.specs.Views.{scene}
 use Rattle.offers.proofs.hidden.shown_of.Given as goal
 
 abbrev pub invariant-loop-member : goal.invariant-loop-member
-invariant-loop-member l = l.all ≡ filter (λ m. not (is_hidden (scene l.view) l.names l.fields m)) (take l.member-index l.members)
+invariant-loop-member l = l.all ≡ filter (λ m. not (is_hidden (scene l.spellings) l.names l.fields m)) (take l.member-index l.members)

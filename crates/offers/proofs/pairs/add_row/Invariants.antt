@@ -5,4 +5,4 @@ use Rattle.offers.specs.Views.{scene}
 use Rattle.offers.proofs.pairs.add_row.Given as goal
 
 abbrev pub invariant-loop-high : goal.invariant-loop-high
-invariant-loop-high l = l.pairs ≡ l.initial.pairs ++ row_of (is_below_at (scene l.view) l.types) l.low l.high
+invariant-loop-high l = l.pairs ≡ l.initial.pairs ++ row_of (is_below_at (scene l.view) l.types.types) l.low l.high

@@ -6,4 +6,4 @@ use Rattle.offers.specs.Views.{scene}
 use Rattle.offers.proofs.written.are_spelled.Given as goal
 
 abbrev pub invariant-loop-kind : goal.invariant-loop-kind
-invariant-loop-kind l = list_all (λ p. is_some (spelling (scene l.view) p)) (take l.kind-index l.kinds) ≡ true
+invariant-loop-kind l = list_all (λ p. is_some (spelling (scene l.spellings) p)) (take l.kind-index l.kinds) ≡ true

@@ -1,0 +1,27 @@
+-- What is kept while members are asked whether they are crowded.
+use Rattle.std.specs.Prelude.{◌≡◌, List, map}
+use Rattle.type_names.specs.declared.kinds.Erased.{Erased}
+use Rattle.offers.specs.declared.crowds.OwnedMembers.{OwnedMembers}
+use Rattle.offers.specs.declared.crowds.BelowOwner.{BelowOwner}
+use Rattle.offers.specs.declared.crowds.Crowding.{Crowding}
+use Rattle.offers.specs.Scenes.{of_class}
+use Rattle.offers.specs.Views.{Outlook, scene}
+use Rattle.offers.specs.Placing.{IsPlaced}
+use Rattle.offers.specs.Rivals.{types_under}
+
+-- The owners are those of the members, each with its place.
+pub record AreOwned (o : Outlook) (all : OwnedMembers) : Type 0 where
+  pub owners : all.owners.types ≡ map (λ m. of_class m.owner) all.members
+  pub placed : IsPlaced o all.owners
+
+-- The types are those of these that are at or below the owner, each with the place of its class.
+pub record IsKept (o : Outlook) (ts : List Erased) (below : BelowOwner) : Type 0 where
+  pub types : below.types.types ≡ types_under (scene o) ts (of_class below.owner)
+  pub placed : IsPlaced o below.types
+
+-- All types have the places of their classes, the members those of their owners, and the types at or below one owner
+-- are kept.
+pub record IsCrowding (o : Outlook) (c : Crowding) : Type 0 where
+  pub types : IsPlaced o c.types
+  pub members : AreOwned o c.members
+  pub kept : IsKept o c.types.types c.below
