@@ -3,4 +3,5 @@ mod FileKeyLaws
 mod ListLaws
 mod NumberLaws
 mod RangeLaws
+mod TallyLaws
 mod UseLaws

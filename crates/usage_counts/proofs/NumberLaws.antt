@@ -9,7 +9,9 @@ use Rattle.std.specs.Map.{lookup, keys_of}
 use Rattle.std.specs.Cmp.Lexicographic.{slice_cmp}
 use Rattle.std.specs.Ordering.{nat_cmp, is_eq}
 use Rattle.std.proofs.lemmas.Map.Text.{is_eq-slice_cmp}
-use Rattle.usage_counts.specs.Counts.{Key, number_at, KeysRise, numbers_in, times, with_uses, AreAdded}
+use Rattle.usage_counts.specs.declared.tallies.KeyTally.{KeyTally}
+use Rattle.usage_counts.specs.Counts.{Key, number_at, KeysRise, numbers_in, with_uses, AreAdded}
+use Rattle.usage_counts.specs.Tallies.{amount, AreTold}
 
 above_from : {Y : Type 0} (k : String Y) (es : List (String Y × ℕ)) → AllByRecursion {X = String Y} (λ j. string_cmp k j ≡ Less) (keys_of es) → AllByRecursion {X = Key × ℕ} (λ q. slice_cmp nat_cmp (string_bytes k) q.0 ≡ Less) (map (λ e. (string_bytes e.0, e.1)) es)
 above_from k [] h = h
@@ -42,5 +44,5 @@ number-there [] i k n text h e = absurd cc
 number-there (p ∷ es) zero k n text h e = ap (λ o. option_map (λ q. (string_bytes q.0, q.1)) o) h ∙ ap (λ t. Some (t, n)) (sym e)
 number-there (p ∷ es) (suc i) k n text h e = number-there es i k n text h e
 
-pub added-numbers : {Y : Type 0} (m n : BTreeMap (String Y) ℕ) (keys : List Key) → ((q : Key) → get_by_text n q ≡ with_uses (get_by_text m q) (times q keys)) → AreAdded (numbers_in m) keys (numbers_in n)
-added-numbers m n keys h q = number-found n q ∙ h q ∙ ap (λ o. with_uses o (times q keys)) (sym (number-found m q))
+pub added-numbers : {Y : Type 0} (m n : BTreeMap (String Y) ℕ) (ts : List KeyTally) (keys : List Key) → ((q : Key) → get_by_text n q ≡ with_uses (get_by_text m q) (amount q ts)) → AreTold ts keys → AreAdded (numbers_in m) keys (numbers_in n)
+added-numbers m n ts keys h t q = number-found n q ∙ h q ∙ ap (λ o. with_uses o (amount q ts)) (sym (number-found m q)) ∙ ap (λ k. with_uses (number_at (numbers_in m) q) k) (t q)

@@ -9,7 +9,7 @@ ghost use Rattle.usage_counts.specs.Files.{AreUses, IsUseFault};
 
 use crate::additions::add_all;
 use crate::counts::Counts;
-use crate::file_keys::file_keys;
+use crate::file_tallies::file_tallies;
 use code_walk::WalkFault;
 use std::alloc::Global;
 
@@ -35,7 +35,7 @@ pub fn count_file(alloc: Global, bytes: &[u8], counts: &mut Counts) -> Result<()
     // After a fault the counts are as before.
     ensures unchanged { OnErr result (counts.new ≡ counts.old) }
 {
-    let keys = file_keys(alloc, bytes)?;
-    add_all(alloc, &mut counts.uses, &keys)?;
+    let tallies = file_tallies(alloc, bytes)?;
+    add_all(alloc, &mut counts.uses, &tallies)?;
     Ok(())
 }

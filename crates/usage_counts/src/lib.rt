@@ -5,11 +5,12 @@
 #![tactic(auto)]
 
 mod additions;
-mod code_keys;
+mod code_members;
 mod counting;
 mod counts;
-mod file_keys;
+mod file_tallies;
 mod members;
+mod tallies;
 
 pub use counting::count_file;
 pub use counts::Counts;

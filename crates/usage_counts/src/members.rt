@@ -1,12 +1,20 @@
 ghost use Rattle.std.specs.Prelude.{◌≡◌, ◌≢◌, ◌+◌, ◌*◌, ◌≤◌, true, false, get_or, IfOk, IfErr};
-ghost use Rattle.code_walk.specs.declared.fault.WalkCause.TheVariants.{Place, OutOfMemory};
+ghost use Rattle.code_walk.specs.declared.fault.WalkCause.TheVariants.{Place};
 ghost use Rattle.usage_counts.specs.Uses.{names_field, names_member, index_at, opcode_at, member_at, is_named, key, key_of, listed, used};
+ghost use Rattle.usage_counts.specs.Tallies.{key_at, key_if};
 
 use class_pool::{Pool, decode_modified};
 use code_walk::{Instr, WalkCause, WalkFault};
 use lists::Text;
 use std::alloc::{AllocError, Global};
 use type_names::is_internal_name;
+
+/// A member by its place of the pool, and whether it is a field.
+#[derive(Clone, Copy, Debug, PartialEq, Eq)]
+pub struct MemberPlace {
+    pub place: u16,
+    pub field: bool,
+}
 
 /// Whether an instruction with this opcode names a field.
 fn names_field(opcode: u8) -> bool
@@ -75,29 +83,39 @@ fn key_of(
     Ok(Some(key_text(owner, &name, &descriptor)?))
 }
 
-/// The key that an instruction uses, or the place of its index where that isn't one of such a member.
-pub fn use_of(
-    alloc: Global,
-    pool: &Pool<'_>,
-    bytes: &[u8],
-    i: &Instr,
-) -> Result<Option<Text>, WalkFault>
+/// The member that an instruction names; or the place of its index where that isn't one of such a member.
+pub fn member_of(pool: &Pool<'_>, bytes: &[u8], i: &Instr) -> Result<Option<MemberPlace>, WalkFault>
     requires { i.now.at ≤ 16777216 }
     ensures named { IfOk result (λ o. is_named pool.now.entries bytes.now i.now ≡ true) }
-    ensures used { IfOk result (λ o. listed o ≡ used pool.now.entries bytes.now i.now) }
-    ensures unnamed { IfErr result (λ fault. fault.cause ≢ OutOfMemory → is_named pool.now.entries bytes.now i.now ≡ false) }
-    ensures place { IfErr result (λ fault. fault.cause ≢ OutOfMemory → fault ≡ record { at = i.now.at + 1; cause = Place }) }
-    ensures memory { IfErr result (λ fault. fault.cause ≡ OutOfMemory → fault.at ≡ 0) }
+    ensures used { IfOk result (λ o. key_if pool.now.entries o ≡ used pool.now.entries bytes.now i.now) }
+    ensures unnamed { IfErr result (λ fault. is_named pool.now.entries bytes.now i.now ≡ false) }
+    ensures place { IfErr result (λ fault. fault ≡ record { at = i.now.at + 1; cause = Place }) }
 {
     let opcode = byte_at(bytes, i.at as usize);
     if !names_member(opcode) {
         return Ok(None);
     }
-    match pool.member(index_at(bytes, i), names_field(opcode)) {
-        Some((owner, name, descriptor)) => Ok(key_of(alloc, owner, name, descriptor)?),
+    let place = index_at(bytes, i);
+    let field = names_field(opcode);
+    match pool.member(place, field) {
+        Some(_) => Ok(Some(MemberPlace { place, field })),
         None => Err(WalkFault {
             at: i.at + 1,
             cause: WalkCause::Place,
         }),
+    }
+}
+
+/// The key of a member by its place, where it has one.
+pub fn key_at(
+    alloc: Global,
+    pool: &Pool<'_>,
+    member: MemberPlace,
+) -> Result<Option<Text>, AllocError>
+    ensures { IfOk result (λ o. listed o ≡ key_at pool.now.entries member) }
+{
+    match pool.member(member.place, member.field) {
+        Some((owner, name, descriptor)) => key_of(alloc, owner, name, descriptor),
+        None => Ok(None),
     }
 }

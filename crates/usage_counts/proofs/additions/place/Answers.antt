@@ -7,10 +7,10 @@ use Rattle.usage_counts.proofs.additions.place.Goals as goal
 
 pub returns-in_ok-insert-clause-placed : goal.returns-in_ok-insert-clause-placed
 returns-in_ok-insert-clause-placed c =
-    let e : string_bytes c.in_ok-from_str.field-0 ≡ c.args.key.now = search rules in
-    placed-new c.args.uses.now c.insert.new.self (string_bytes c.in_ok-from_str.field-0) c.args.key.now e c.in_ok-insert.ensures.updates (was_absent (get_by_text c.args.uses.now c.args.key.now) (search rules))
+    let e : string_bytes c.in_ok-from_str.field-0 ≡ c.args.tally.now.key = search rules in
+    placed-new c.args.uses.now c.insert.new.self (string_bytes c.in_ok-from_str.field-0) c.args.tally.now e (search rules) c.in_ok-insert.ensures.updates (was_absent (get_by_text c.args.uses.now c.args.tally.now.key) (search rules))
 
 pub returns-in_ok-insert-clause-used : goal.returns-in_ok-insert-clause-used
 returns-in_ok-insert-clause-used c =
-    let e : string_bytes c.in_ok-from_str.field-0 ≡ c.args.key.now = search rules in
-    ap used_of c.in_ok-insert.ensures.entries ∙ none-used c.args.uses.now.entries c.in_ok-from_str.field-0 (ap (get_by_text c.args.uses.now) e ∙ was_absent (get_by_text c.args.uses.now c.args.key.now) (search rules))
+    let e : string_bytes c.in_ok-from_str.field-0 ≡ c.args.tally.now.key = search rules in
+    ap used_of c.in_ok-insert.ensures.entries ∙ none-used c.args.uses.now.entries c.in_ok-from_str.field-0 (ap (get_by_text c.args.uses.now) e ∙ was_absent (get_by_text c.args.uses.now c.args.tally.now.key) (search rules))

@@ -1,5 +1,5 @@
 ghost use Rattle.std.specs.Prelude.{◌≡◌, ◌≢◌, ◌≤◌, List, length, IfOk, IfErr, MatchResult};
-ghost use Rattle.std.specs.List.{AllByRecursion};
+ghost use Rattle.std.specs.List.{AllByRecursion, flat_map};
 ghost use Rattle.class_pool.specs.Spelling.{Head, IsPoolOf};
 ghost use Rattle.class_shape.specs.Layout.{HasLayout};
 ghost use Rattle.code_walk.specs.declared.fault.WalkFault.{WalkFault};
@@ -7,31 +7,50 @@ ghost use Rattle.code_walk.specs.declared.fault.WalkCause.TheVariants.{OutOfMemo
 ghost use Rattle.code_walk.specs.Faults.{no_memory};
 ghost use Rattle.usage_counts.specs.Counts.{Key};
 ghost use Rattle.usage_counts.specs.Files.{LiesIn, UsesOfCodes, IsFaultOfCodes, AreUses, IsUseFault, OneWalk};
+ghost use Rattle.usage_counts.specs.Tallies.{key_at, AreTold};
 
-use crate::code_keys::add_code;
+use crate::code_members::add_code;
+use crate::members::MemberPlace;
+use crate::tallies::{KeyTally, key_tallies};
 use class_pool::{Pool, read_pool};
 use code_walk::{WalkCause, WalkFault, codes, list_or_fault, one_fault, one_list};
-use lists::Text;
 use std::alloc::Global;
 
-/// The keys that these codes use.
-fn keys_of(
+/// The members that these codes name.
+fn members_of(
     alloc: Global,
     pool: &Pool<'_>,
     bytes: &[u8],
     ranges: &[(u32, u32)],
-) -> Result<Vec<Text>, WalkFault>
+) -> Result<Vec<MemberPlace>, WalkFault>
     requires small { length bytes.now ≤ 16777216 }
     requires within { AllByRecursion (LiesIn (length bytes.now)) ranges.now }
-    ensures found { IfOk result (λ keys. UsesOfCodes pool.now.entries bytes.now ranges.now keys.items) }
+    ensures found { IfOk result (λ members. UsesOfCodes pool.now.entries bytes.now ranges.now (flat_map (key_at pool.now.entries) members.items)) }
     ensures first { IfErr result (λ fault. fault.cause ≢ OutOfMemory → IsFaultOfCodes pool.now.entries bytes.now ranges.now fault) }
     ensures memory { IfErr result (λ fault. fault.cause ≡ OutOfMemory → fault.at ≡ 0) }
 {
-    let mut keys = Vec::new(alloc);
+    let mut members = Vec::new(alloc);
     for range in ranges {
-        add_code(alloc, pool, bytes, *range, &mut keys)?;
+        add_code(alloc, pool, bytes, *range, &mut members)?;
     }
-    Ok(keys)
+    Ok(members)
+}
+
+/// How often these codes use each key.
+fn tallies_of(
+    alloc: Global,
+    pool: &Pool<'_>,
+    bytes: &[u8],
+    ranges: &[(u32, u32)],
+) -> Result<Vec<KeyTally>, WalkFault>
+    requires small { length bytes.now ≤ 16777216 }
+    requires within { AllByRecursion (LiesIn (length bytes.now)) ranges.now }
+    ensures found { IfOk result (λ tallies. (keys : List Key) × UsesOfCodes pool.now.entries bytes.now ranges.now keys × AreTold tallies.items keys) }
+    ensures first { IfErr result (λ fault. fault.cause ≢ OutOfMemory → IsFaultOfCodes pool.now.entries bytes.now ranges.now fault) }
+    ensures memory { IfErr result (λ fault. fault.cause ≡ OutOfMemory → fault.at ≡ 0) }
+{
+    let members = members_of(alloc, pool, bytes, ranges)?;
+    Ok(key_tallies(alloc, pool, &members)?)
 }
 
 /// The pool of a class file, whose bytes have one: the only fault is want of memory.
@@ -59,12 +78,12 @@ fn one_walk()
     list_or_fault();
 }
 
-/// The keys that a class file uses, in file order, or its first fault.
-pub fn file_keys(alloc: Global, bytes: &[u8]) -> Result<Vec<Text>, WalkFault>
+/// How often a class file uses each key, or its first fault.
+pub fn file_tallies(alloc: Global, bytes: &[u8]) -> Result<Vec<KeyTally>, WalkFault>
     requires small { length bytes.now ≤ 16777216 }
     requires layout { HasLayout bytes.now }
-    ensures found { IfOk result (λ keys. AreUses bytes.now keys.items) }
-    ensures only { (keys : List Key) → AreUses bytes.now keys → MatchResult result (λ found. found.items ≡ keys) (λ fault. fault ≡ no_memory) }
+    ensures found { IfOk result (λ tallies. (keys : List Key) × AreUses bytes.now keys × AreTold tallies.items keys) }
+    ensures only { (keys : List Key) → AreUses bytes.now keys → MatchResult result (λ tallies. AreTold tallies.items keys) (λ fault. fault ≡ no_memory) }
     ensures first { IfErr result (λ fault. fault.cause ≢ OutOfMemory → IsUseFault bytes.now fault) }
     ensures refused { (fault : WalkFault) → IsUseFault bytes.now fault → MatchResult result (λ _. ⊥) (λ answered. answered ≢ no_memory → answered ≡ fault) }
     ensures memory { IfErr result (λ fault. fault.cause ≡ OutOfMemory → fault.at ≡ 0) }
@@ -72,8 +91,8 @@ pub fn file_keys(alloc: Global, bytes: &[u8]) -> Result<Vec<Text>, WalkFault>
     one_walk();
     let ranges = codes(alloc, bytes)?;
     let pool = pool_of(alloc, bytes)?;
-    match keys_of(alloc, &pool, bytes, &ranges) {
-        Ok(keys) => Ok(keys),
+    match tallies_of(alloc, &pool, bytes, &ranges) {
+        Ok(tallies) => Ok(tallies),
         Err(fault) => Err(fault),
     }
 }

@@ -2,12 +2,14 @@ use Rattle.std.proofs.Common.{rules, inl, sym, subst, ◌≡◌, ◌≢◌, List
 use Rattle.std.proofs.lemmas.Result.{err_from_is_err_and}
 use Rattle.code_walk.specs.declared.fault.WalkCause.TheVariants.{OutOfMemory}
 use Rattle.code_walk.specs.Code.{AreCodes}
+use Rattle.usage_counts.specs.Counts.{Key}
+use Rattle.usage_counts.specs.Tallies.{AreTold}
 use Rattle.usage_counts.proofs.RangeLaws.{codes-within}
 use Rattle.usage_counts.proofs.FileKeyLaws.{known, found, fault-found, ok-only, ok-refused, err-only, err-refused, codes-refused, no-cause, no-place}
-use Rattle.usage_counts.proofs.file_keys.file_keys.Goals as goal
+use Rattle.usage_counts.proofs.file_tallies.file_tallies.Goals as goal
 
-pub keys_of-requires-clause-within : goal.keys_of-requires-clause-within
-keys_of-requires-clause-within c =
+pub tallies_of-requires-clause-within : goal.tallies_of-requires-clause-within
+tallies_of-requires-clause-within c =
     let e : c.deref.result.now ≡ c.in_ok-ranges.ranges.items = search rules in
     codes-within c.args.bytes.now c.deref.result.now (subst (λ (rs : List (ℕ × ℕ)). AreCodes c.args.bytes.now rs) (sym e) c.in_ok-ranges.ensures.found)
 
@@ -53,21 +55,21 @@ returns-in-Ok-clause-found c =
     let e : c.deref.result.now ≡ c.in_ok-ranges.ranges.items = search rules in
     let bytes = c.args.bytes.now in let pool = c.in_ok-pool.pool in
     let k = known bytes pool c.deref.result.now c.in_ok-ranges.ranges.items e c.in_ok-pool.ensures.found c.in_ok-pool.ensures.only c.in_ok-ranges.ensures.found c.in_ok-ranges.ensures.only c.in_ok-ranges.ensures.refused in
-    found c.one_walk.ensures bytes pool c.deref.result.now k c.in-Ok.keys.items c.in-Ok.ensures.found
+    let f = c.in-Ok.ensures.found in (f.0, found c.one_walk.ensures bytes pool c.deref.result.now k f.0 f.1, f.2)
 
 pub returns-in-Ok-clause-only : goal.returns-in-Ok-clause-only
 returns-in-Ok-clause-only c =
     let e : c.deref.result.now ≡ c.in_ok-ranges.ranges.items = search rules in
     let bytes = c.args.bytes.now in let pool = c.in_ok-pool.pool in
     let k = known bytes pool c.deref.result.now c.in_ok-ranges.ranges.items e c.in_ok-pool.ensures.found c.in_ok-pool.ensures.only c.in_ok-ranges.ensures.found c.in_ok-ranges.ensures.only c.in_ok-ranges.ensures.refused in
-    λ keys u. ok-only c.one_walk.ensures bytes pool c.deref.result.now k c.in-Ok.keys.items keys c.in-Ok.ensures.found u
+    λ keys u. let f = c.in-Ok.ensures.found in subst (λ (ks : List Key). AreTold c.in-Ok.tallies.items ks) (ok-only c.one_walk.ensures bytes pool c.deref.result.now k f.0 keys f.1 u) f.2
 
 pub returns-in-Ok-clause-refused : goal.returns-in-Ok-clause-refused
 returns-in-Ok-clause-refused c =
     let e : c.deref.result.now ≡ c.in_ok-ranges.ranges.items = search rules in
     let bytes = c.args.bytes.now in let pool = c.in_ok-pool.pool in
     let k = known bytes pool c.deref.result.now c.in_ok-ranges.ranges.items e c.in_ok-pool.ensures.found c.in_ok-pool.ensures.only c.in_ok-ranges.ensures.found c.in_ok-ranges.ensures.only c.in_ok-ranges.ensures.refused in
-    λ fault f. ok-refused c.one_walk.ensures bytes pool c.deref.result.now k c.in-Ok.keys.items fault c.in-Ok.ensures.found f
+    λ fault f. ok-refused c.one_walk.ensures bytes pool c.deref.result.now k c.in-Ok.ensures.found.0 fault c.in-Ok.ensures.found.1 f
 
 pub returns-clause-only : goal.returns-clause-only
 returns-clause-only c =
