@@ -1,16 +1,12 @@
 -- What faults of texts say.
-use Rattle.std.proofs.Common.{◌≡◌, ◌∙◌, ap, sym, subst, ℕ, List, [], Result, Ok, Err, IfOk, IfErr, OnOk}
+use Rattle.std.proofs.Common.{◌≡◌, sym, subst, ℕ, List, Result, Ok, Err, IfOk, IfErr, OnOk}
 use Rattle.terms.specs.declared.parts.Parts.{Parts}
 use Rattle.java_shapes.specs.Shape.{Shape as Tree, shown}
 use Rattle.java_shapes.specs.Grammar.{IsShape}
-use Rattle.java_resolve.specs.declared.shape.Shape.{Shape}
 use Rattle.java_resolve.specs.declared.fault.ReadFault.{ReadFault}
 use Rattle.java_resolve.specs.declared.fault.ReadFault.TheVariants as read
 use Rattle.java_resolve.specs.declared.fault.TextFault.{TextFault}
 use Rattle.java_resolve.specs.declared.fault.TextFault.TheVariants as fault
-use Rattle.java_resolve.specs.View.{shape_view}
-use Rattle.java_resolve.specs.Pieces.{shape_pieces}
-use Rattle.java_resolve.specs.Known.{AreKnown, is_declared}
 use Rattle.java_resolve.specs.Places.{SyntaxAt}
 use Rattle.java_resolve.specs.Faults.{FaultAt, UnknownAt, text_fault}
 
@@ -24,6 +20,8 @@ fault_as g binder text f t e h = subst (λ x. FaultAt g binder text x) (sym e) (
 fault_at : (g : Parts) (binder text : List ℕ) (s : Tree) (f : TextFault) → IsShape binder s → shown s ≡ text → UnknownAt g s f → FaultAt g binder text f
 fault_at g binder text s fault.OutOfMemory w e h = tt
 fault_at g binder text s (fault.Syntax at) w e h = absurd h
+fault_at g binder text s fault.WrongType w e h = absurd h
+fault_at g binder text s fault.TwoWays w e h = absurd h
 fault_at g binder text s (fault.Unknown at) w e h = record { shape = s; well_formed = w; is = e; place = h }
 
 pub faults_of : {A : Type 0} (g : Parts) (binder text : List ℕ) (s : Tree) (r : Result A TextFault) → IsShape binder s → shown s ≡ text → IfErr r (UnknownAt g s) → IfErr r (FaultAt g binder text)

@@ -1,17 +1,17 @@
 -- The pieces of the code's expressions, constructor by constructor.
-use Rattle.std.proofs.Common.{◌≡◌, ◌∙◌, ap, ap₂, sym, subst, refl, arith, ℕ, zero, suc, ◌+◌, ◌<◌, ◌≤◌, ◌==◌, Bool, true, false, List, [], ◌∷◌, ◌++◌, length, drop, take, get_or, Option, Some, None, Result, Ok, Err, IfOk, OnOk, append-nil, append_assoc, String}
+use Rattle.std.proofs.Common.{◌≡◌, ◌∙◌, ap, ap₂, sym, subst, ℕ, ◌+◌, ◌<◌, ◌≤◌, ◌==◌, Bool, true, false, List, [], ◌∷◌, ◌++◌, length, drop, take, get_or, Option, Result, Ok, Err, OnOk, append-nil, append_assoc}
 use Rattle.std.proofs.Math.Seq.{take-append_seam}
 use Rattle.std.proofs.lemmas.List.{drop_all, drop_more}
 use Rattle.indexmap.specs.IndexSet.{IndexSet}
-use Rattle.java_shapes.specs.Shape.{Shape as Tree, Before as Start, named, called, lambda, nothing, fresh, behind, in_brackets, Shapes, no_shapes, shapes}
+use Rattle.java_shapes.specs.Shape.{Shape as Tree, Shapes, no_shapes, shapes}
 use Rattle.java_resolve.specs.declared.shape.Shape.{Shape}
 use Rattle.java_resolve.specs.declared.shape.Shape as code
 use Rattle.java_resolve.specs.declared.shape.Before.{Before}
 use Rattle.java_resolve.specs.declared.shape.Before as code_before
 use Rattle.java_resolve.specs.declared.shape.Argument.{Argument}
 use Rattle.java_resolve.specs.View.{shape_view, before_view, argument_view, args_view}
-use Rattle.java_resolve.specs.Pieces.{Piece, sign, word, cut, cast_pieces, binder_pieces, header_pieces, call_pieces, shape_pieces, before_pieces, args_pieces, separator}
-use Rattle.java_resolve.specs.Known.{Passes, Knows, Begins}
+use Rattle.java_resolve.specs.Pieces.{sign, cut, cast_pieces, header_pieces, call_pieces, shape_pieces, before_pieces, args_pieces, separator}
+use Rattle.java_resolve.specs.Known.{Passes, Begins}
 use Rattle.java_resolve.proofs.Pieces.{over_both, over_first, over_none, over_pieces, as_true, as_false, later}
 use Rattle.java_resolve.proofs.Sizes.{view_named, view_called, view_lambda, view_nothing, view_fresh, view_behind, view_brackets, argument_shapes}
 

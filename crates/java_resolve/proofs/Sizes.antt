@@ -1,5 +1,5 @@
 -- The code's expressions, constructor by constructor, and how large they are: calls go down by it.
-use Rattle.std.proofs.Common.{rules, ◌≡◌, ◌∙◌, ap, sym, subst, refl, arith, ℕ, zero, suc, ◌+◌, ◌<◌, ◌≤◌, List, [], ◌∷◌, length, get_or, Option}
+use Rattle.std.proofs.Common.{rules, ◌≡◌, ◌∙◌, ap, sym, subst, arith, ℕ, zero, suc, ◌+◌, ◌<◌, ◌≤◌, List, [], ◌∷◌, length, get_or, Option}
 use Rattle.java_shapes.specs.Shape.{Shape as Tree, Before as Start, named, called, lambda, nothing, fresh, behind, in_brackets, Shapes, no_shapes, shapes}
 use Rattle.java_resolve.specs.declared.shape.Shape.{Shape}
 use Rattle.java_resolve.specs.declared.shape.Shape as code

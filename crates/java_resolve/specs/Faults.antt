@@ -23,12 +23,16 @@ abbrev pub UnknownAt : Parts → Shape → TextFault → Type 0
 UnknownAt g shape fault.OutOfMemory = Unit {0}
 UnknownAt g shape (fault.Syntax at) = ⊥
 UnknownAt g shape (fault.Unknown at) = IsUnknownPlace (is_declared g) (shape_pieces [] shape) at
+UnknownAt g shape fault.WrongType = ⊥
+UnknownAt g shape fault.TwoWays = ⊥
 
 -- what each fault says
 abbrev pub FaultAt : Parts → List ℕ → List ℕ → TextFault → Type 0
 FaultAt g binder text fault.OutOfMemory = Unit {0}
 FaultAt g binder text (fault.Syntax at) = IsSyntaxPlace binder text at
 FaultAt g binder text (fault.Unknown at) = HasUnknown g binder text at
+FaultAt g binder text fault.WrongType = ⊥
+FaultAt g binder text fault.TwoWays = ⊥
 
 -- the fault of a text that is not read
 abbrev pub text_fault : ReadFault → TextFault

@@ -5,3 +5,10 @@ pub mod Known
 pub mod Faults
 pub mod Keys
 pub mod Readable
+pub mod Found
+pub mod Trees
+pub mod Index
+pub mod Reading
+pub mod Naming
+pub mod Resolved
+pub mod Lambdas

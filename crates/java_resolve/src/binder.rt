@@ -24,7 +24,7 @@ fn are_digits(text: &str) -> bool
 }
 
 /// The text behind a prefix.
-fn after_prefix<'a>(prefix: &str, text: &'a str) -> Option<&'a str>
+pub fn after_prefix<'a>(prefix: &str, text: &'a str) -> Option<&'a str>
     ensures { MatchOption result ((rest : List ℕ) → chars text.now ≢ chars prefix.now ++ rest) (λ rest. chars text.now ≡ chars prefix.now ++ chars rest.now) }
 {
     text.strip_prefix(prefix)

@@ -28,6 +28,10 @@ pub enum TextFault {
     Syntax(usize),
     /// The place in bytes of the first identifier that neither a declaration nor a lambda around it gives.
     Unknown(usize),
+    /// No term that is well typed at the goal has the text.
+    WrongType,
+    /// Two terms or more that are well typed at the goal have it.
+    TwoWays,
 }
 
 impl From<AllocError> for TextFault {

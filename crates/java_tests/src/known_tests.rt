@@ -24,7 +24,7 @@ fn unknown(alloc: Global, env: &Env, text: &str) -> Result<Option<usize>, AllocE
         Ok(_) => Ok(None),
         Err(TextFault::Unknown(at)) => Ok(Some(at)),
         Err(TextFault::Syntax(_)) => Ok(Some(1000)),
-        Err(TextFault::OutOfMemory) => Err(AllocError),
+        Err(_) => Err(AllocError),
     }
 }
 

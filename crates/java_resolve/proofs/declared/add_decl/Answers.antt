@@ -1,6 +1,6 @@
 use Rattle.std.proofs.Common.{◌++◌, ap}
 use Rattle.java_resolve.specs.Known.{form_words, wanted_words, decl_words}
-use Rattle.java_resolve.proofs.Adding.{adds_by, adds_then, words_crowded, words_plain, on_ok}
+use Rattle.java_resolve.proofs.Adding.{adds_by, adds_then, words_crowded, on_ok}
 use Rattle.java_resolve.proofs.declared.add_decl.Goals as goal
 
 pub returns-then-decl : goal.returns-then-decl

@@ -1,4 +1,4 @@
-use Rattle.std.proofs.Common.{◌≡◌, ◌∙◌, ap, sym, subst, []}
+use Rattle.std.proofs.Common.{◌≡◌, ◌∙◌, ap, subst, []}
 use Rattle.std.specs.Str.{chars}
 use Rattle.java_shapes.specs.Words.{spells_identifier}
 use Rattle.java_shapes.specs.Shape.{shown}

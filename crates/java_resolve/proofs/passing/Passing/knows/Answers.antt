@@ -1,4 +1,3 @@
-use Rattle.std.proofs.Common.{rules, ◌≡◌, ◌∙◌, sym, refl}
 use Rattle.java_resolve.proofs.Pieces.{known_else, known_then}
 use Rattle.java_resolve.proofs.passing.Passing.knows.Goals as goal
 

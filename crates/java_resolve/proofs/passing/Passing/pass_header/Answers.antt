@@ -1,4 +1,4 @@
-use Rattle.std.proofs.Common.{[], ◌∷◌, ◌++◌, ◌∙◌, false, true, codes}
+use Rattle.std.proofs.Common.{[], ◌∷◌, ◌++◌, false, true, codes}
 use Rattle.java_resolve.specs.Pieces.{cut, sign, binder_pieces}
 use Rattle.java_resolve.proofs.Pieces.{over_both, over_first, as_true, as_false, knows_same}
 use Rattle.java_resolve.proofs.passing.Passing.pass_header.Goals as goal

@@ -1,7 +1,8 @@
 use Rattle.std.proofs.Common.{rules, ◌≡◌, ◌∙◌, ◌∷◌, ℕ, List, Bool, false, [], subst, sym, chars, refl}
 use Rattle.java_resolve.specs.Pieces.{cut, word}
 use Rattle.java_resolve.specs.Known.{Passes}
-use Rattle.java_resolve.proofs.Pieces.{over_pieces, piece_last, knows_same, if_some, if_none, if_ok}
+use Rattle.java_resolve.proofs.Pieces.{over_pieces, piece_last, knows_same, if_some, if_none}
+use Rattle.java_resolve.proofs.TextFacts.{if_map}
 use Rattle.java_resolve.proofs.Reading.{char_shorter, text_behind}
 use Rattle.java_resolve.proofs.passing.Passing.pass_text.Goals as goal
 
@@ -39,7 +40,7 @@ returns-in-None-clause-same c = c.pass_char.ensures.same ∙ c.loop-c.invariant.
 pub returns-clause-passes : goal.returns-clause-passes
 returns-clause-passes c = λ d bound k.
     let end : c.loop-c.rest.now ≡ [] = search rules in
-    if_ok (Passes d (word bound c.loop-c.name ∷ []) c.loop-c.self.at c.pass_word.new.self.at) (Passes d (cut bound [] (chars c.args.text.now)) c.args.self.now.at c.pass_word.new.self.at) c.pass_word.result
+    if_map (Passes d (word bound c.loop-c.name ∷ []) c.loop-c.self.at c.pass_word.new.self.at) (Passes d (cut bound [] (chars c.args.text.now)) c.args.self.now.at c.pass_word.new.self.at) c.pass_word.result
     (λ r h. c.loop-c.invariant.passes d bound k c.pass_word.new.self.at r
     (over_pieces d (word bound c.loop-c.name ∷ []) (cut bound c.loop-c.name (chars c.loop-c.rest.now)) c.loop-c.self.at c.pass_word.new.self.at r (piece_last bound c.loop-c.name c.loop-c.rest.now end) h))
     (c.pass_word.ensures.passes d bound (knows_same c.args.self.now.set c.loop-c.self.set d bound c.loop-c.invariant.same k))
