@@ -12,6 +12,8 @@ mod known_tests;
 #[cfg(test)]
 mod readable_tests;
 #[cfg(test)]
+mod resolve_tests;
+#[cfg(test)]
 mod shape_tests;
 #[cfg(test)]
 mod unit_tests;
