@@ -10,6 +10,8 @@ mod identifier_tests;
 #[cfg(test)]
 mod known_tests;
 #[cfg(test)]
+mod list_tests;
+#[cfg(test)]
 mod readable_tests;
 #[cfg(test)]
 mod resolve_tests;

@@ -4,7 +4,7 @@ use std::alloc::{AllocError, Global};
 use terms::{Env, Term, TermArg};
 
 /// The environment of a sheet.
-fn environment(alloc: Global, sheet: &str) -> Result<Env, AllocError> {
+pub fn environment(alloc: Global, sheet: &str) -> Result<Env, AllocError> {
     match read_sheet(alloc, sheet.as_bytes()) {
         Ok(env) => Ok(env),
         Err(_) => Err(AllocError),
@@ -25,7 +25,7 @@ fn write_number(
 
 /// Writes a term: `v1`, `2`, or `3(ARG)(ARG)`, where a lambda's body has `\` before it.
 #[cycle(writing)]
-fn write_term(alloc: Global, term: &Term, out: &mut String) -> Result<(), AllocError> {
+pub fn write_term(alloc: Global, term: &Term, out: &mut String) -> Result<(), AllocError> {
     match term {
         Term::Var(number) => write_number(alloc, "v", *number, out),
         Term::Head(decl, args) => {
