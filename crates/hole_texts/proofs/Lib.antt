@@ -1,0 +1,23 @@
+-- The laws of the texts of a hole's environment.
+pub mod Pairs
+pub mod Picks
+pub mod Paths
+pub mod Words
+pub mod Binders
+pub mod Spelled
+pub mod Members
+pub mod Left
+pub mod Faces
+pub mod Params
+pub mod Locals
+pub mod Origins
+pub mod Shown
+pub mod Unlike
+pub mod Alike
+pub mod Places
+pub mod Taken
+pub mod Wanted
+pub mod Told
+pub mod Letters
+pub mod Readable
+pub mod Apart

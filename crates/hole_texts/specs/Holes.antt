@@ -1,0 +1,26 @@
+-- The environments of holes.
+use Rattle.std.specs.Prelude.{◌≤◌, ℕ, IsUtf8}
+use Rattle.java_units.specs.declared.types.Unit as unit
+use Rattle.java_bodies.specs.declared.site.HoleSite.{HoleSite}
+use Rattle.known_classes.specs.Known.{HasEachOnce}
+use Rattle.decl_index.specs.History.{State}
+use Rattle.terms.specs.declared.parts.Parts.{Parts}
+use Rattle.scopes.specs.Holes.{IsHoleIn}
+use Rattle.scopes.specs.Environments.{IsEnvironmentAt}
+use Rattle.hole_texts.specs.Texts.{HasTexts}
+
+-- An environment that is made for a hole of a text in UTF-8, over published classes of which each stands once, as in
+-- the state of each history.
+pub record IsOfHole (g : Parts) : Type 0 where
+  pub state : State
+  pub unit : unit.Unit
+  pub site : HoleSite
+  pub limit : ℕ
+  pub depth : ℕ
+  pub once : HasEachOnce state.classes
+  pub hole : IsHoleIn unit site
+  pub utf8 : IsUtf8 hole.text
+  pub limits : (1 ≤ limit) × (limit ≤ 10000)
+  pub shallow : depth ≤ 1
+  pub is_environment : IsEnvironmentAt state unit site limit depth g
+  pub texts : HasTexts g

@@ -1,0 +1,11 @@
+// The texts of the terms at a hole: that the environment of each hole has texts that can be read back and that tell its
+// terms apart. So no two terms that a hole offers share a text, and each term's text resolves to the term itself. It has
+// laws alone, on `scopes` and `java_resolve`; what is meant by the environment of a hole is `IsOfHole`.
+#![tactic(auto)]
+
+mod laws;
+
+pub use laws::{hole_texts, terms_apart};
+
+#[cfg(test)]
+mod tests;

@@ -1,0 +1,7 @@
+use crate::laws::{hole_texts, terms_apart};
+
+#[test]
+fn laws_cost_nothing() {
+    hole_texts();
+    terms_apart();
+}
