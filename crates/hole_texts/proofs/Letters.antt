@@ -43,7 +43,7 @@ run-identifier n l = same_identifiers (replicate n 112) (run-utf8 n) ∙ ascii_i
 below : (c : ℕ) → is_ascii c ≡ true → c < 128
 below c e = search (rules, tests)
 
-all-below : (cs : List ℕ) → list_all is_ascii cs ≡ true → IsAscii cs
+pub all-below : (cs : List ℕ) → list_all is_ascii cs ≡ true → IsAscii cs
 all-below [] e zero = lit< tt
 all-below [] e (suc i) = lit< tt
 all-below (c ∷ cs) e zero = below c (and_parts (is_ascii c) (list_all is_ascii cs) e).0

@@ -20,4 +20,5 @@ pub mod Wanted
 pub mod Told
 pub mod Letters
 pub mod Readable
+pub mod Utf8
 pub mod Apart

@@ -16,10 +16,11 @@ pub fn hole_texts()
     ensures apart { (g : Parts) → IsOfHole g → IsApart g }
 {}
 
-/// So at a hole no two terms that are offered share a text, the text of each, which is in UTF-8 as every `str` is,
-/// resolves to it, and no text resolves in two ways.
+/// So at a hole no two terms that are offered share a text, the text of each, which is in UTF-8, resolves to it, and no
+/// text resolves in two ways.
 pub fn terms_apart()
     ensures one_term { (g : Parts) (e f : Expr) → IsOfHole g → HasShortRows g → IsInhabitant g e → IsInhabitant g f → text_of g e ≡ text_of g f → e ≡ f }
-    ensures own_text { (g : Parts) (e : Expr) → IsOfHole g → HasShortRows g → IsInhabitant g e → IsUtf8 (text_of g e) → ResolvesTo g (text_of g e) e }
+    ensures utf8 { (g : Parts) (e : Expr) → IsOfHole g → HasShortRows g → IsInhabitant g e → IsUtf8 (text_of g e) }
+    ensures own_text { (g : Parts) (e : Expr) → IsOfHole g → HasShortRows g → IsInhabitant g e → ResolvesTo g (text_of g e) e }
     ensures never_two { (g : Parts) (text : List ℕ) → IsOfHole g → HasShortRows g → IsFaultOf g text TwoWays → ⊥ }
 {}
