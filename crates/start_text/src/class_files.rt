@@ -1,6 +1,7 @@
 ghost use Rattle.std.specs.Prelude.{◌≡◌, ◌≤◌, ◌<◌, ◌⊎◌, ◌++◌, ◌∷◌, ◌^◌, ℕ, [], List, length, Some, IfOk, OnOk, IsErrOf, MatchResult};
 ghost use Rattle.outside.specs.Held.{held_under, longest_load};
 ghost use Rattle.outside.specs.declared.shelf.HeldFile.{HeldFile};
+ghost use Rattle.class_shape.specs.Shapes.{IsClassFile};
 ghost use Rattle.known_classes.specs.declared.summary.ClassSummary.{ClassSummary};
 ghost use Rattle.start_text.specs.Lines.{paths_among, paths_in};
 ghost use Rattle.start_text.specs.Faults.{IsOutside, Meets, LeavesShelf, of_class};
@@ -8,7 +9,7 @@ ghost use Rattle.start_text.specs.Starts.{file_fault, first_file_fault, IsClassO
 
 use crate::fault::StartFault;
 use class_pool::{ClassCause, ClassFault};
-use class_shape::read_class;
+use class_shape::{ClassShape, read_class};
 use class_summary::{ClassSummary, from_shape};
 use lists::Items;
 use outside::{Loaded, Shelf};
@@ -24,6 +25,19 @@ fn no_class(line: u32, fault: ClassFault) -> StartFault
     }
 }
 
+/// The shape of the bytes of the file of this line. `Failed` never comes.
+pub fn shape_of(alloc: Global, bytes: &[u8], line: u32) -> Result<ClassShape, StartFault>
+    requires { length bytes.now ≤ longest_load }
+    ensures fault { Meets (file_fault line (Some bytes.now)) result }
+    ensures shape { IfOk result (λ shape. IsClassFile bytes.now shape) }
+    ensures inside { IsErrOf result StartFault.Failed → ⊥ }
+{
+    match read_class(alloc, bytes) {
+        Ok(shape) => Ok(shape),
+        Err(fault) => Err(no_class(line, fault)),
+    }
+}
+
 /// The class of the bytes of the file of this line. `Failed` never comes.
 pub fn class_of(alloc: Global, bytes: &[u8], line: u32) -> Result<ClassSummary, StartFault>
     requires { length bytes.now ≤ longest_load }
@@ -31,14 +45,14 @@ pub fn class_of(alloc: Global, bytes: &[u8], line: u32) -> Result<ClassSummary, 
     ensures class { IfOk result (λ class. IsClassOf (Some bytes.now) class) }
     ensures inside { IsErrOf result StartFault.Failed → ⊥ }
 {
-    match read_class(alloc, bytes) {
+    match shape_of(alloc, bytes, line) {
         Ok(shape) => Ok(from_shape(alloc, &shape)?),
-        Err(fault) => Err(no_class(line, fault)),
+        Err(fault) => Err(fault),
     }
 }
 
-/// Loads the file of a line into the buffer.
-fn load_file<H: Shelf>(
+/// Loads the file of a line into the buffer, in place of what stood there.
+pub fn load_file<H: Shelf>(
     shelf: &mut H,
     path: &str,
     line: u32,

@@ -8,6 +8,7 @@ mod fault;
 mod start;
 mod text;
 
-pub use class_files::class_of;
+pub use class_files::{class_of, load_file, shape_of};
 pub use fault::StartFault;
 pub use start::read_start;
+pub use text::read_text;

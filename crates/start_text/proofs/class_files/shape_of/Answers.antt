@@ -3,7 +3,7 @@ use Rattle.start_text.specs.Faults.{IsOutside}
 use Rattle.start_text.specs.Starts.{file_fault}
 use Rattle.start_text.specs.declared.fault.StartFault.{StartFault}
 use Rattle.start_text.proofs.Loads.{class-wrong, class-inside}
-use Rattle.start_text.proofs.class_files.class_of.Goals as goal
+use Rattle.start_text.proofs.class_files.shape_of.Goals as goal
 
 pub returns-in-Err-clause-fault : goal.returns-in-Err-clause-fault
 returns-in-Err-clause-fault c =
