@@ -1,0 +1,4 @@
+mod FileUses
+mod Texts
+mod Written
+mod Endings

@@ -1,0 +1,4 @@
+pub mod Faults
+pub mod Counted
+pub mod Lines
+pub mod Runs
