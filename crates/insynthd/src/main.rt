@@ -1,12 +1,16 @@
-// The program: it makes one end of standard input and output and of the files of the machine, lets `run` do the work,
-// and exits with its code. What it prints on standard error is not proved. It stands on `serving` and `outside`.
+// The program: it makes ends of standard input and output, of the files of the pairs among its words and of the files
+// of the machine, lets `run` do the work, and exits with its code. What it prints on standard error is not proved. It
+// stands on `serving` and `outside`.
 #![tactic(auto)]
 
-use outside::{End, FileShelf, ReaderSource, Shelf, Sink, Source, WriterSink};
-use serving::{Status, run};
-use std::alloc::{AllocError, Global};
+mod streams;
+
+use crate::streams::{Input, Output};
+use outside::{End, FileShelf, ReaderSource, WriterSink};
+use serving::{Refused, Status, client_names, run};
+use std::alloc::AllocError;
+use std::fs::File;
 use std::process::ExitCode;
-use std::sync::Wait;
 use std::{env, io};
 
 /// The words after the program's name.
@@ -18,16 +22,59 @@ fn words(rt: &HostRuntime) -> io::Result<Vec<String>> {
     Ok(all)
 }
 
-/// Runs the command over one end.
-fn run_over<S: Source + Drop, K: Sink + Drop, H: Shelf + Drop, R: Wait>(
-    rt: &R,
-    alloc: Global,
-    words: &[String],
-    end: End<S, K, H>,
-) -> Result<Status, AllocError> {
-    let mut ends = Vec::new(alloc);
-    ends.push(end)?;
-    Ok(run(rt, alloc, words, &mut ends))
+/// One end of the program.
+type StreamEnd<'r> = End<ReaderSource<Input>, WriterSink<Output>, FileShelf<'r, HostRuntime>>;
+
+/// The end of these streams, with the files of the machine.
+fn end_over(rt: &HostRuntime, input: Input, output: Output) -> StreamEnd<'_> {
+    End {
+        source: ReaderSource::new(input),
+        sink: WriterSink::new(output),
+        shelf: FileShelf::new(rt, rt.alloc()),
+    }
+}
+
+/// The end of a pair of files: one that is read, and one that is made or emptied and written. Where one can't be opened
+/// the end fails at its first read or write.
+fn end_of_files<'r>(rt: &'r HostRuntime, input: &str, output: &str) -> StreamEnd<'r> {
+    let input = match File::open(rt, input) {
+        Ok(file) => Input::File(file),
+        Err(_) => Input::Unopened,
+    };
+    let output = match File::create(rt, output) {
+        Ok(file) => Output::File(file),
+        Err(_) => Output::Unopened,
+    };
+    end_over(rt, input, output)
+}
+
+/// Opens the files of the pairs, in the order of the words.
+fn open_files<'r>(
+    rt: &'r HostRuntime,
+    ends: &mut Vec<StreamEnd<'r>>,
+    names: &[(String, String)],
+) -> Result<(), AllocError> {
+    for (input, output) in names {
+        ends.push(end_of_files(rt, input.as_str(), output.as_str()))?;
+    }
+    Ok(())
+}
+
+/// The ends that the words name: standard input and output, and the pairs of files of a server. Where the words ask for
+/// nothing no file is opened.
+fn ends_for<'r>(rt: &'r HostRuntime, words: &[String]) -> Result<Vec<StreamEnd<'r>>, AllocError> {
+    let mut ends = Vec::new(rt.alloc());
+    ends.push(end_over(
+        rt,
+        Input::Standard(rt.stdin()),
+        Output::Standard(rt.stdout()),
+    ))?;
+    match client_names(rt.alloc(), words) {
+        Ok(names) => open_files(rt, &mut ends, names.as_slice())?,
+        Err(Refused::Fault(_)) => {}
+        Err(Refused::OutOfMemory) => return Err(AllocError),
+    }
+    Ok(ends)
 }
 
 /// The status of a run that found no memory to begin.
@@ -55,14 +102,11 @@ fn words_status(fault: &io::Error) -> Status {
 }
 
 fn main(rt: HostRuntime) -> ExitCode {
-    let alloc = rt.alloc();
-    let end = End {
-        source: ReaderSource::new(rt.stdin()),
-        sink: WriterSink::new(rt.stdout()),
-        shelf: FileShelf::new(&rt, alloc),
-    };
     let status = match words(&rt) {
-        Ok(words) => run_over(&rt, alloc, words.as_slice(), end).unwrap_or(NO_MEMORY),
+        Ok(words) => match ends_for(&rt, words.as_slice()) {
+            Ok(mut ends) => run(&rt, rt.alloc(), words.as_slice(), &mut ends),
+            Err(_) => NO_MEMORY,
+        },
         Err(fault) => words_status(&fault),
     };
     if status.code != 0 {

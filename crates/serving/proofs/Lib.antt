@@ -1,4 +1,6 @@
 mod Begun
+mod Crossing
+mod Parts
 mod Commands
 mod Versions
 mod Starting
@@ -7,3 +9,4 @@ mod Served
 mod Listed
 mod Endings
 mod Usages
+mod Seated

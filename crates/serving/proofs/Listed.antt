@@ -15,6 +15,7 @@ use Rattle.terms.specs.Expr.{Expr}
 use Rattle.terms.specs.Listing.{IsWhole}
 use Rattle.terms.specs.declared.parts.Parts.{Parts}
 use Rattle.terms.proofs.Lists.{one_whole}
+use Rattle.serving.proofs.Parts.{flat-join}
 use Rattle.serving.specs.Runs.{line_text, list_text, item_text, items_text, HasGiven, HasWritten}
 
 -- what holds anyhow
@@ -56,10 +57,6 @@ prefix-handed start now held all g = record {
   within = omega (arith, ap length g.whole, length-append g.handed held);
   wrote = rw (sym g.whole, take-append_seam g.handed held) g.wrote;
 }
-
-flat-join : {X : Type 0} (f : X → List ℕ) (xs ys : List X) → flat_map f (xs ++ ys) ≡ flat_map f xs ++ flat_map f ys
-flat-join f [] ys = refl
-flat-join f (x ∷ xs) ys = ap (λ t. f x ++ t) (flat-join f xs ys) ∙ sym (append_assoc (f x) (flat_map f xs) (flat_map f ys))
 
 flat-one : {X : Type 0} (f : X → List ℕ) (x : X) → flat_map f (x ∷ []) ≡ f x
 flat-one f x = append-nil (f x)

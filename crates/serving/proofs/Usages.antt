@@ -1,9 +1,13 @@
 -- Words and ends that don't fit are told by one status.
-use Rattle.std.proofs.Common.{◌≡◌, ◌≢◌, inl, inr, ⊎_elim, ℕ, ◌+◌, ◌-◌, ◌≤◌, ◌<◌, List, [], ◌∷◌, ◌++◌, take, drop, Option, refl, sym, ap, subst, ◌∙◌, arith, append_assoc}
-use Rattle.std.specs.Prelude.{codes}
+use Rattle.std.proofs.Common.{◌≡◌, ◌≢◌, inl, inr, ⊎_elim, ℕ, suc, ◌+◌, ◌-◌, ◌≤◌, ◌<◌, List, [], ◌∷◌, ◌++◌, take, drop, Option, refl, sym, ap, subst, ◌∙◌, arith, append_assoc}
+use Rattle.std.specs.Prelude.{codes, length, option_map}
 use Rattle.std.proofs.Math.Seq.{take-add}
 use Rattle.std.proofs.lemmas.Bool.{cases_order}
-use Rattle.serving.specs.Words.{Asked, list, serve, AskFor, CanBegin, IsFirstWrong}
+use denote.Ref.{Bor}
+use Rattle.serving.specs.declared.words.Command.{Command}
+use Rattle.serving.specs.declared.words.Command.TheVariants as command
+use Rattle.serving.specs.Words.{Pair, Asked, list, serve, AreParts, AskFor, CanBegin, IsFirstWrong, Commands, ends_of}
+use Rattle.serving.proofs.Parts.{one-server}
 use Rattle.serving.specs.Usages.{IsUsage, ends_for}
 use Rattle.serving.specs.declared.status.Status.{Status}
 
@@ -27,23 +31,45 @@ pub wrong-words : (ws : List (List ℕ)) (n place : ℕ) (status : Status) → I
 wrong-words ws n place status wrong (inl u) = ap (λ p. record { code = 2; end = 0; place = p; cause = 1 }) (same-place ws place u.0 wrong u.1) ∙ sym u.2
 wrong-words ws n place status wrong (inr u) = absurd (wrong.nothing u.0 u.1)
 
-one-end : (asked : Asked) → ends_for asked ≡ 1
-one-end list = refl
-one-end (serve start) = refl
-
 -- the number of ends is wrong
 pub wrong-ends : (ws : List (List ℕ)) (n : ℕ) (asked : Asked) (status : Status) → AskFor asked ws → IsUsage ws n status → record { code = 2; end = 0; place = n; cause = 2 } ≡ status
 wrong-ends ws n asked status ask (inl u) = absurd (u.1.nothing asked ask)
 wrong-ends ws n asked status ask (inr u) = sym u.3
 
-pub is-wrong-ends : (ws : List (List ℕ)) (n : ℕ) (asked : Asked) → AskFor asked ws → n ≢ 1 → IsUsage ws n (record { code = 2; end = 0; place = n; cause = 2 })
-is-wrong-ends ws n asked ask other = inr (asked, ask, (λ e. other (e ∙ one-end asked)), refl)
-
--- the words and the ends fit
-pub no-usage-fits : (ws : List (List ℕ)) (n : ℕ) (asked : Asked) (status : Status) → AskFor asked ws → n ≡ 1 → IsUsage ws n status → ⊥
-no-usage-fits ws n asked status ask one (inl u) = u.1.nothing asked ask
-no-usage-fits ws n asked status ask one (inr u) = u.2 (one ∙ sym (one-end u.0))
+pub is-wrong-ends : (ws : List (List ℕ)) (n : ℕ) (asked : Asked) → AskFor asked ws → n ≢ ends_for asked → IsUsage ws n (record { code = 2; end = 0; place = n; cause = 2 })
+is-wrong-ends ws n asked ask other = inr (asked, ask, other, refl)
 
 -- words ask for one thing
-pub not-served : (ws : List (List ℕ)) (start : Option (List ℕ)) → ws ≡ codes "list" ∷ [] → AskFor (serve start) ws → ⊥
-not-served ws start e a = let f : codes "list" ∷ [] ≡ codes "serve" ∷ a.0 = sym e ∙ a.2 in cc
+pub not-served : (ws : List (List ℕ)) (start : Option (List ℕ)) (pairs : List Pair) → ws ≡ codes "list" ∷ [] → AskFor (serve start pairs) ws → ⊥
+not-served ws start pairs e a = let f : codes "list" ∷ [] ≡ codes "serve" ∷ a.0 = sym e ∙ a.2 in cc
+
+pub one-asked : (ws : List (List ℕ)) (s t : Option (List ℕ)) (pairs all : List Pair) → AskFor (serve s pairs) ws → AskFor (serve t all) ws → (s ≡ t) × (pairs ≡ all)
+one-asked ws s t pairs all a b =
+    let same : b.0 ≡ a.0 = cc in
+    one-server s t pairs all a.0 a.1 (subst (AreParts t all) same b.1)
+
+one-ends : (ws : List (List ℕ)) (a b : Asked) → AskFor a ws → AskFor b ws → ends_for a ≡ ends_for b
+one-ends ws list list h k = refl
+one-ends ws list (serve t all) h k = absurd (not-served ws t all h k)
+one-ends ws (serve s pairs) list h k = absurd (not-served ws s pairs k h)
+one-ends ws (serve s pairs) (serve t all) h k = ap (λ ps. suc (length ps)) (one-asked ws s t pairs all h k).1
+
+-- the words and the ends fit
+pub no-usage-fits : (ws : List (List ℕ)) (n : ℕ) (asked : Asked) (status : Status) → AskFor asked ws → n ≡ ends_for asked → IsUsage ws n status → ⊥
+no-usage-fits ws n asked status ask fits (inl u) = u.1.nothing asked ask
+no-usage-fits ws n asked status ask fits (inr u) = u.2 (fits ∙ one-ends ws asked u.0 ask u.1)
+
+-- a command and what it was asked by
+pub asked-of : (command : Command) (ws : List (List ℕ)) → Commands command ws → (asked : Asked) × AskFor asked ws × (ends_for asked ≡ ends_of command)
+asked-of command.List ws h = (list, h, refl)
+asked-of (command.Serve told count) ws h = (serve (option_map (λ s. s.now) told) h.0, h.2, omega (arith, h.1))
+
+pub ends-asked : (command : Command) (ws : List (List ℕ)) (asked : Asked) → Commands command ws → AskFor asked ws → ends_of command ≡ ends_for asked
+ends-asked command ws asked h k = let a = asked-of command ws h in sym a.2 ∙ one-ends ws a.0 asked a.1 k
+
+-- a server has few ends
+pub few-ends : (ws : List (List ℕ)) (start : Option (List ℕ)) (pairs : List Pair) (n : ℕ) → AskFor (serve start pairs) ws → n ≡ suc (length pairs) → (0 < n) × (n ≤ 64)
+few-ends ws start pairs n a e = (omega (arith, e), omega (arith, e, a.1.few))
+
+pub serve-start : (asked : Command) (told : Option (Bor (List ℕ))) (count : ℕ) (ws : List (List ℕ)) (start : Option (List ℕ)) (pairs : List Pair) → asked ≡ command.Serve told count → Commands asked ws → AskFor (serve start pairs) ws → option_map (λ s. s.now) told ≡ start
+serve-start asked told count ws start pairs is h k = let told_by : Commands (command.Serve told count) ws = subst (λ x. Commands x ws) is h in (one-asked ws (option_map (λ s. s.now) told) start told_by.0 pairs told_by.2 k).0

@@ -1,5 +1,5 @@
--- What a run of `serve` gives its one client, and the status that it answers.
-use Rattle.std.specs.Prelude.{◌≡◌, ◌≤◌, ◌==◌, ℕ, List, [], ◌∷◌, Option, Some, None, if◌then◌else◌}
+-- What a run of `serve` gives its clients, and the status that it answers.
+use Rattle.std.specs.Prelude.{◌≡◌, ◌≤◌, ◌<◌, ◌==◌, ℕ, List, [], ◌∷◌, length, map, slice_get, Option, Some, None, if◌then◌else◌}
 use Rattle.outside.specs.Causes.{Rose}
 use Rattle.outside.specs.declared.end.End.{End}
 use Rattle.outside.specs.declared.shelf.HeldFile.{HeldFile}
@@ -14,12 +14,13 @@ use Rattle.start_text.specs.Faults.{fault_line, number_of}
 use Rattle.start_text.specs.Starts.{publication, IsStart, IsFaultOf}
 use Rattle.answers.specs.Sessions.{Seen}
 use Rattle.answers.specs.Sessions as new
+use Rattle.answers.specs.Histories.{IsPrefix}
 use Rattle.sessions.specs.declared.ending.Ended.{Ended}
 use Rattle.sessions.specs.Worlds.{WorldState}
 use Rattle.sessions.specs.Served.{ServesWith}
 use Rattle.serving.specs.declared.status.Status.{Status}
 use Rattle.serving.specs.declared.status.Serving.{Serving}
-use Rattle.serving.specs.declared.status.Serving.TheVariants.{Session, NotStarted, ShelfFault, OutOfMemory}
+use Rattle.serving.specs.declared.status.Serving.TheVariants.{Sessions, NotStarted, ShelfFault, OutOfMemory}
 
 -- What is seen of an end: the bytes left to read and those written, the files held, where these are told, and how often its source,
 -- its sink and its shelf have failed.
@@ -76,37 +77,66 @@ pub record IsStartFault (start : Option (List ℕ)) (held : Option (List HeldFil
   pub wrong : (files : List HeldFile) → held ≡ Some files → IsFaultOf files name fault
   pub alone : (files : List HeldFile) (other : StartFault) → held ≡ Some files → IsFaultOf files name other → other ≡ fault
 
--- What the client has seen when it begins: the first changes, of which no version was read, and its files.
+-- What a client has seen when it begins: the first changes, of which no version was read, and its files.
 abbrev pub begun_at : List Change → EndView → WorldState
 begun_at history e = record { known = history; reads = []; whole = None; holds = e.held; faults = e.load_faults }
 
 -- A new session was served from the version of these changes on: what was written are the frames of the replies to the frames
--- read, and the headline holds of them. A failed read or write is that of its own source or sink, a file that couldn't be loaded
--- one of its own shelf.
-pub record IsServedFrom (history : List Change) (e f : EndView) (ended : Ended) : Type 0 where
+-- read, and the headline holds of them. What the client had seen at its end is a prefix of all changes. A failed read or write is
+-- that of its own source or sink, a file that couldn't be loaded one of its own shelf.
+pub record IsServedFrom (history all : List Change) (e f : EndView) (ended : Ended) : Type 0 where
   pub next : Seen
   pub after : WorldState
   pub load_faults : after.faults ≡ f.load_faults
   pub serves : ServesWith new.start next e.left e.written f.written (begun_at history e) after ended
+  pub seen : IsPrefix after.known all
   pub read_cause : ended.code ≡ 4 → Rose e.read_faults f.read_faults
   pub write_cause : ended.code ≡ 5 → Rose e.write_faults f.write_faults
 
--- The same, where a session began.
-abbrev pub IsServed : Serving → List Change → EndView → EndView → Type 0
-IsServed (Session ended) history e f = IsServedFrom history e f ended
-IsServed (NotStarted line cause) history e f = ⊥
-IsServed ShelfFault history e f = ⊥
-IsServed OutOfMemory history e f = Unit {0}
+-- Of these endings this one, at this place, has the greatest code, and no one before it has.
+pub record IsGreatest (endings : List Ended) (place : ℕ) (ended : Ended) : Type 0 where
+  pub at : slice_get endings place ≡ Some ended
+  pub none_above : (i : ℕ) (other : Ended) → slice_get endings i ≡ Some other → other.code ≤ ended.code
+  pub least : (i : ℕ) (other : Ended) → i < place → slice_get endings i ≡ Some other → other.code < ended.code
 
--- A new session was served from the version of the first changes on. While these were loaded the shelf may have failed as well.
-pub record HasServed (start : Option (List ℕ)) (e f : EndView) (ended : Ended) : Type 0 where
+-- A new session was served over each end, all from the version of the same changes on. There is one list of changes: what each
+-- client had seen at its end is a prefix of it. The answered ending is the one of the greatest code, of these that of the first end.
+pub record AreServedFrom (history : List Change) (es fs : List EndView) (place : ℕ) (ended : Ended) : Type 0 where
+  pub all : List Change
+  pub endings : List Ended
+  pub count : length endings ≡ length es
+  pub each : (i : ℕ) (e f : EndView) (way : Ended) → slice_get es i ≡ Some e → slice_get fs i ≡ Some f → slice_get endings i ≡ Some way → IsServedFrom history all e f way
+  pub greatest : IsGreatest endings place ended
+
+-- The same, where sessions began.
+abbrev pub AreServed : Serving → List Change → List EndView → List EndView → Type 0
+AreServed (Sessions place ended) history es fs = AreServedFrom history es fs place ended
+AreServed (NotStarted line cause) history es fs = ⊥
+AreServed ShelfFault history es fs = ⊥
+AreServed OutOfMemory history es fs = Unit {0}
+
+-- The start text is loaded from the shelf of the first end: the files that it holds, and how often it has failed.
+abbrev pub first_held : List EndView → Option (List HeldFile)
+first_held [] = None
+first_held (e ∷ es) = e.held
+
+abbrev pub first_loads : List EndView → ℕ
+first_loads [] = 0
+first_loads (e ∷ es) = e.load_faults
+
+-- The ends where that shelf has failed so often.
+abbrev pub with_loads : ℕ → List EndView → List EndView
+with_loads loads [] = []
+with_loads loads (e ∷ es) = record e { load_faults = loads } ∷ es
+
+-- New sessions were served from the version of the first changes on. While these were loaded the shelf may have failed as well.
+pub record HasServed (start : Option (List ℕ)) (es fs : List EndView) (place : ℕ) (ended : Ended) : Type 0 where
   pub history : List Change
-  pub first : IsFirstHistory start e.held history
-  pub sound : IsSound start e.held
-  pub begun : EndView
-  pub same : begun ≡ record e { load_faults = begun.load_faults }
-  pub later : e.load_faults ≤ begun.load_faults
-  pub served : IsServedFrom history begun f ended
+  pub first : IsFirstHistory start (first_held es) history
+  pub sound : IsSound start (first_held es)
+  pub loads : ℕ
+  pub later : first_loads es ≤ loads
+  pub served : AreServedFrom history (with_loads loads es) fs place ended
 
 -- The start text is wrong, by the fault of this line and number.
 pub record HasNoStart (start : Option (List ℕ)) (held : Option (List HeldFile)) (place number : ℕ) : Type 0 where
@@ -115,31 +145,42 @@ pub record HasNoStart (start : Option (List ℕ)) (held : Option (List HeldFile)
   pub line : place ≡ fault_line fault
   pub cause : number_of fault ≡ Some number
 
--- How a run of `serve` ended, by what is seen of its end before and after.
-abbrev pub ServesBy : Serving → Option (List ℕ) → EndView → EndView → Type 0
-ServesBy (Session ended) start e f = HasServed start e f ended
-ServesBy (NotStarted line cause) start e f = HasNoStart start e.held line cause
-ServesBy ShelfFault start e f = Rose e.load_faults f.load_faults
-ServesBy OutOfMemory start e f = Unit {0}
+-- How a run of `serve` ended, by what is seen of its ends before and after.
+abbrev pub ServesBy : Serving → Option (List ℕ) → List EndView → List EndView → Type 0
+ServesBy (Sessions place ended) start es fs = HasServed start es fs place ended
+ServesBy (NotStarted line cause) start es fs = HasNoStart start (first_held es) line cause
+ServesBy ShelfFault start es fs = Rose (first_loads es) (first_loads fs)
+ServesBy OutOfMemory start es fs = Unit {0}
 
 -- No session began.
 abbrev pub HasNotBegun : Serving → Type 0
-HasNotBegun (Session ended) = ⊥
+HasNotBegun (Sessions place ended) = ⊥
 HasNotBegun (NotStarted line cause) = Unit {0}
 HasNotBegun ShelfFault = Unit {0}
 HasNotBegun OutOfMemory = Unit {0}
 
+-- Nothing was read from the sources of these ends, and nothing was written to their sinks.
+module _ {S K H : Type 0} where
+  pub record AreUntouched (es fs : List (End S K H)) : Type 0 where
+    pub sources : map (λ (e : End S K H). e.source) fs ≡ map (λ (e : End S K H). e.source) es
+    pub sinks : map (λ (e : End S K H). e.sink) fs ≡ map (λ (e : End S K H). e.sink) es
+
+-- Of each end the files held stay, and no count of its faults falls; the ends are as many as before, each at its place.
+pub record AllLast (es fs : List EndView) : Type 0 where
+  pub count : length fs ≡ length es
+  pub each : (i : ℕ) (e f : EndView) → slice_get es i ≡ Some e → slice_get fs i ≡ Some f → Lasts e f
+
 -- What a fault of the start ends a run by.
 abbrev pub Tells : StartFault → Serving → Type 0
-Tells fault (Session ended) = ⊥
+Tells fault (Sessions place ended) = ⊥
 Tells fault (NotStarted line cause) = (line ≡ fault_line fault) × (number_of fault ≡ Some cause)
 Tells fault ShelfFault = fault ≡ start_fault.Failed
 Tells fault OutOfMemory = number_of fault ≡ None
 
--- The status of a run of `serve`: that of its session; 8 with the line and the number of what is wrong with the start text; 4 for
--- its shelf, and 6 for want of memory, before a session began.
+-- The status of a run of `serve`: that of the answered session and its end; 8 with the line and the number of what is wrong with the
+-- start text; 4 for the first end's shelf, and 6 for want of memory, before a session began.
 unfoldable pub serving_status : Serving → Status
-serving_status (Session ended) = record { code = ended.code; end = 0; place = ended.place; cause = ended.cause }
+serving_status (Sessions place ended) = record { code = ended.code; end = place; place = ended.place; cause = ended.cause }
 serving_status (NotStarted line cause) = record { code = 8; end = 0; place = line; cause = cause }
 serving_status ShelfFault = record { code = 4; end = 0; place = 0; cause = 0 }
 serving_status OutOfMemory = record { code = 6; end = 0; place = 0; cause = 0 }

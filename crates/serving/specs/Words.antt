@@ -1,27 +1,78 @@
 -- The words of the command line, and what they ask for.
-use Rattle.std.specs.Prelude.{◌≡◌, ◌≢◌, ◌⊎◌, ℕ, ◌+◌, ◌<◌, ◌≤◌, List, [], ◌∷◌, ◌++◌, length, take, codes, Option, Some, None, slice_get, option_map}
+use Rattle.std.specs.Prelude.{◌≡◌, ◌≢◌, ℕ, ◌+◌, ◌<◌, ◌≤◌, List, [], ◌∷◌, ◌++◌, length, take, codes, Option, Some, None, slice_get, get_or, option_map, option_to_list}
+use Rattle.std.specs.List.{flat_map, AllByRecursion}
 use Rattle.serving.specs.declared.words.Command.{Command}
 use Rattle.serving.specs.declared.words.Command.TheVariants as command
 
--- What can be asked for: the list of a sheet, or a server, with or without the name of a start text.
+-- The two names of a pair of files: the one that is read, and the one that is written.
+abbrev pub Pair : Type 0
+Pair = List ℕ × List ℕ
+
+-- What can be asked for: the list of a sheet, or a server, with or without the name of a start text, over standard input and output
+-- and these pairs of files.
 pub data Asked : Type 0 where
   list : Asked
-  serve : Option (List ℕ) → Asked
+  serve : Option (List ℕ) → List Pair → Asked
 
 -- The name of a file: not empty, and no option.
 pub record IsFileName (name : List ℕ) : Type 0 where
   pub some : name ≢ []
   pub no_option : slice_get name 0 ≢ Some 45
 
--- The words by which a server is told its start text: `--start FILE` or `--start=FILE`, or none.
-abbrev pub TellStart : Option (List ℕ) → List (List ℕ) → Type 0
-TellStart None words = words ≡ []
-TellStart (Some file) words = IsFileName file × ((words ≡ codes "--start" ∷ file ∷ []) ⊎ (words ≡ (codes "--start=" ++ file) ∷ []))
+-- Names that can stand as `IN=OUT`: the first is a file's and holds no `=`, and the second isn't empty.
+pub record IsPair (names : Pair) : Type 0 where
+  pub input : IsFileName names.0
+  pub parted : (i : ℕ) → i < length names.0 → get_or names.0 i 0 ≢ 61
+  pub output : names.1 ≢ []
 
--- The words ask for this: `list`, or `serve` and the words of its start text.
+-- A part of a server's words: `IN=OUT`, `--start FILE` or `--start=FILE`.
+pub data Part : Type 0 where
+  pair : Pair → Part
+  start : List ℕ → Part
+  joined : List ℕ → Part
+
+abbrev pub words_of : Part → List (List ℕ)
+words_of (pair names) = (names.0 ++ 61 ∷ names.1) ∷ []
+words_of (start file) = codes "--start" ∷ file ∷ []
+words_of (joined file) = (codes "--start=" ++ file) ∷ []
+
+abbrev pub IsPart : Part → Type 0
+IsPart (pair names) = IsPair names
+IsPart (start file) = IsFileName file
+IsPart (joined file) = IsFileName file
+
+-- The pair of a part, and the start text that it names.
+abbrev pub pair_in : Part → List Pair
+pair_in (pair names) = names ∷ []
+pair_in (start file) = []
+pair_in (joined file) = []
+
+abbrev pub start_in : Part → List (List ℕ)
+start_in (pair names) = []
+start_in (start file) = file ∷ []
+start_in (joined file) = file ∷ []
+
+-- There are at most so many pairs.
+abbrev pub most_pairs : ℕ
+most_pairs = 63
+
+-- The words after `serve` are parts in any order: these pairs, and this start text at most once.
+pub record AreParts (told : Option (List ℕ)) (names : List Pair) (rest : List (List ℕ)) : Type 0 where
+  pub parts : List Part
+  pub each : AllByRecursion IsPart parts
+  pub words : rest ≡ flat_map words_of parts
+  pub starts : flat_map start_in parts ≡ option_to_list told
+  pub pairs : flat_map pair_in parts ≡ names
+  pub few : length names ≤ most_pairs
+
+-- The words ask for this: `list`, or `serve` and its parts.
 abbrev pub AskFor : Asked → List (List ℕ) → Type 0
 AskFor list words = words ≡ codes "list" ∷ []
-AskFor (serve start) words = (told : List (List ℕ)) × TellStart start told × (words ≡ codes "serve" ∷ told)
+AskFor (serve told pairs) words = (rest : List (List ℕ)) × AreParts told pairs rest × (words ≡ codes "serve" ∷ rest)
+
+-- The words ask for something else than a server.
+abbrev pub AskForPlain : List (List ℕ) → Type 0
+AskForPlain words = AskFor list words
 
 -- Words with which something can be asked for begin with these.
 pub record CanBegin (words : List (List ℕ)) : Type 0 where
@@ -36,7 +87,17 @@ pub record IsFirstWrong (words : List (List ℕ)) (place : ℕ) : Type 0 where
   pub wrong : place < length words → CanBegin (take (place + 1) words) → ⊥
   pub nothing : (asked : Asked) → AskFor asked words → ⊥
 
--- What a command was asked by.
-abbrev pub asked_by : Command → Asked
-asked_by command.List = list
-asked_by (command.Serve start) = serve (option_map (λ s. s.now) start)
+-- The pairs that are asked for.
+abbrev pub pairs_asked : Asked → List Pair
+pairs_asked list = []
+pairs_asked (serve told pairs) = pairs
+
+-- The words are those of a command, which keeps of the pairs their number.
+abbrev pub Commands : Command → List (List ℕ) → Type 0
+Commands command.List words = AskFor list words
+Commands (command.Serve told count) words = (pairs : List Pair) × (length pairs ≡ count) × AskFor (serve (option_map (λ s. s.now) told) pairs) words
+
+-- So many ends are needed: standard input and output, and one for each pair of files.
+abbrev pub ends_of : Command → ℕ
+ends_of command.List = 1
+ends_of (command.Serve told count) = count + 1

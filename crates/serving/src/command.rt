@@ -1,10 +1,10 @@
-ghost use Rattle.std.specs.Prelude.{◌≡◌, ◌⊎◌, ◌≤◌, ℕ, List, [], ◌∷◌, Option, length, map, slice_get, Some, string_bytes, codes};
+ghost use Rattle.std.specs.Prelude.{◌≡◌, ◌≢◌, ◌⊎◌, ◌≤◌, ℕ, suc, List, [], ◌∷◌, Option, length, map, slice_get, Some, string_bytes, codes};
 ghost use Rattle.outside.specs.Causes.{Rose};
 ghost use Rattle.outside.specs.declared.end.End.{End};
 ghost use Rattle.serving.specs.Runs.{EndsBy, status_of};
-ghost use Rattle.serving.specs.Services.{view_of, ServesBy, HasNotBegun, serving_status};
+ghost use Rattle.serving.specs.Services.{view_of, ServesBy, HasNotBegun, AreUntouched, serving_status};
 ghost use Rattle.serving.specs.Usages.{IsUsage};
-ghost use Rattle.serving.specs.Words.{AskFor, serve as served};
+ghost use Rattle.serving.specs.Words.{Pair, AskFor, AskForPlain, serve as served};
 ghost use Rattle.sheets.specs.Sheets.{IsSheet};
 ghost use Rattle.serving.specs.declared.status.Ending.{Ending};
 ghost use Rattle.serving.specs.declared.status.Serving.{Serving};
@@ -19,6 +19,7 @@ use outside::{End, ReadFault, Shelf, Sink, Source, WriteFault, read_up_to};
 use sheets::{SheetFault, read_sheet};
 use std::alloc::Global;
 use std::sync::Wait;
+use std::thread::Threads;
 
 /// The most bytes that are read: one more than a sheet may have.
 const LONGEST_INPUT: usize = 16_777_217;
@@ -47,20 +48,42 @@ fn list<S: Source, K: Sink, H: Shelf>(alloc: Global, end: &mut End<S, K, H>) -> 
     }
 }
 
-/// Does all that the program does: looks at the words and the number of ends, then serves what the words ask for over
-/// the one end. `list` reads a sheet from its source and writes its list to its sink. `serve` answers an editor over
-/// the class files of a start text, which it loads from the end's shelf before anything is read, and may wait. The code
-/// is 0 where all was read and written, and a session was shut down before its exit; 1 where it wasn't; 2 where the
-/// words or the ends don't fit; 3 where the input is no sheet (its line and cause) or its frames are wrong (the place
-/// and the number of the fault); 4 or 5 where the source, or the shelf before the session, or the sink failed; 6 where
-/// memory was wanting; 7 where a session needs a byte past the first 2^40; 8 where the start text is wrong (its line
-/// and the number of the cause). The end is always 0.
-pub fn run<S: Source + Drop, K: Sink + Drop, H: Shelf + Drop, R: Wait>(
-    rt: &R,
+/// Runs a command other than `serve` over one end: `list` reads a sheet from its source and writes its list to its sink.
+/// It waits for nobody. The codes are those of `run`.
+pub fn run_plain<S: Source, K: Sink, H: Shelf>(
     alloc: Global,
     words: &[String],
-    ends: &mut Vec<End<S, K, H>>,
+    end: &mut End<S, K, H>,
 ) -> Status
+    requires plain { AskForPlain (map string_bytes words.now) }
+    ensures ending { (ending : Ending) × (result ≡ status_of ending) × EndsBy ending (S.left end.old.source) (S.left end.new.source) (K.written end.old.sink) (K.written end.new.sink)
+        (S.faults end.old.source) (S.faults end.new.source) (K.faults end.old.sink) (K.faults end.new.sink) }
+    ensures fits { result.code ≢ 2 }
+    ensures complete { (bytes : List ℕ) (parts : Parts) → S.left end.old.source ≡ Some bytes → IsSheet bytes parts
+        → ¬ (Rose (S.faults end.old.source) (S.faults end.new.source)) → ¬ (Rose (K.faults end.old.sink) (K.faults end.new.sink))
+        → (result.code ≡ 0) ⊎ (result.code ≡ 6) }
+    ensures shelf { end.new.shelf ≡ end.old.shelf }
+    ensures later { (S.faults end.old.source ≤ S.faults end.new.source) × (K.faults end.old.sink ≤ K.faults end.new.sink) }
+{
+    Status::of(list(alloc, end))
+}
+
+/// Does all that the program does: looks at the words and then at the number of ends, and serves what the words ask for
+/// over the ends. `list` needs one end, reads a sheet from its source and writes its list to its sink. `serve` needs one
+/// end more than it has pairs. It answers an editor at each end, each in a thread, all over one list of published
+/// changes, from the class files of a start text on, which it loads from the shelf of the first end before anything is
+/// read; it may wait. The ends stay as many, in their order. The code is 0 where all was read and written, and a session
+/// was shut down before its exit; 1 where it wasn't; 2 where the words or the ends don't fit; 3 where the input is no
+/// sheet (its line and cause) or its frames are wrong (the place and the number of the fault); 4 or 5 where the source,
+/// or the first end's shelf before the sessions, or the sink failed; 6 where memory was wanting; 7 where a session needs
+/// a byte past the first 2^40; 8 where the start text is wrong (its line and the number of the cause). Of several
+/// sessions the greatest code is answered, with the first end that has it; else the end is 0.
+pub fn run<
+    S: Source + Drop + Send,
+    K: Sink + Drop + Send,
+    H: Shelf + Drop + Send,
+    R: Threads + Wait + Sync,
+>(rt: &R, alloc: Global, words: &[String], ends: &mut Vec<End<S, K, H>>) -> Status
     ensures usage { (status : Status) → IsUsage (map string_bytes words.now) (length ends.old.items) status
         → (result ≡ status) × (ends.new.items ≡ ends.old.items) }
     ensures usage_alone { result.code ≡ 2 → IsUsage (map string_bytes words.now) (length ends.old.items) result }
@@ -69,9 +92,9 @@ pub fn run<S: Source + Drop, K: Sink + Drop, H: Shelf + Drop, R: Wait>(
         → EndsBy ending (S.left e.source) (S.left f.source) (K.written e.sink) (K.written f.sink)
         (S.faults e.source) (S.faults f.source) (K.faults e.sink) (K.faults f.sink))) }
     ensures serving { let seen = view_of S.left K.written H.holds S.faults K.faults H.faults in
-        (start : Option (List ℕ)) → AskFor (served start) (map string_bytes words.now) → length ends.old.items ≡ 1
-        → ((way : Serving) × (result ≡ serving_status way) × ((e f : End S K H) → ends.old.items ≡ e ∷ [] → ends.new.items ≡ f ∷ []
-        → ServesBy way start (seen e) (seen f) × (HasNotBegun way → (f.source ≡ e.source) × (f.sink ≡ e.sink)))) }
+        (start : Option (List ℕ)) (pairs : List Pair) → AskFor (served start pairs) (map string_bytes words.now) → length ends.old.items ≡ suc (length pairs)
+        → ((way : Serving) × (result ≡ serving_status way) × ServesBy way start (map seen ends.old.items) (map seen ends.new.items)
+        × (HasNotBegun way → AreUntouched ends.old.items ends.new.items)) }
     ensures kept { length ends.new.items ≡ length ends.old.items }
     ensures faults_rise { (i : ℕ) (e f : End S K H) → slice_get ends.old.items i ≡ Some e → slice_get ends.new.items i ≡ Some f
         → (S.faults e.source ≤ S.faults f.source) × (K.faults e.sink ≤ K.faults f.sink) × (H.faults e.shelf ≤ H.faults f.shelf) }
@@ -88,11 +111,11 @@ pub fn run<S: Source + Drop, K: Sink + Drop, H: Shelf + Drop, R: Wait>(
         Ok(command) => command,
         Err(fault) => return Status::usage(fault.word as u64, 1),
     };
-    if ends.len() != 1 {
+    if ends.len() != command.ends() {
         return Status::usage(ends.len() as u64, 2);
     }
     match command {
-        Command::List => Status::of(list(alloc, &mut ends[0])),
-        Command::Serve { start } => Status::of_serving(serve(rt, alloc, start, ends)),
+        Command::List => run_plain(alloc, words, &mut ends[0]),
+        Command::Serve { start, pairs: _ } => Status::of_serving(serve(rt, alloc, start, ends)),
     }
 }

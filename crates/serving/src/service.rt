@@ -1,18 +1,18 @@
-ghost use Rattle.std.specs.Prelude.{◌≡◌, ◌≤◌, ◌⊎◌, [], ◌∷◌, Option, Some, length, option_map, IfOk, IfErr};
-ghost use Rattle.outside.specs.Causes.{Rose};
-ghost use Rattle.outside.specs.declared.end.End.{End};
+ghost use Rattle.std.specs.Prelude.{◌≡◌, ◌≤◌, ◌<◌, ◌⊎◌, Option, Some, length, map, option_map, IfOk, IfErr};
 ghost use Rattle.start_text.specs.Faults.{IsOutside, LeavesShelf};
 ghost use Rattle.version_board.specs.Versions.{IsVersion};
-ghost use Rattle.serving.specs.Services.{view_of, Lasts, IsFirst, IsStartFault, IsServed, ServesBy, HasNotBegun};
+ghost use Rattle.serving.specs.Services.{view_of, IsFirst, IsStartFault, AreServed, ServesBy, HasNotBegun, AreUntouched, AllLast};
 
+use crate::seats::{close_all, greatest, join_prefixes, open_all, room_for, serve_all};
 use crate::status::Serving;
-use json_rpc::Frames;
+use core::mem::replace;
 use outside::{End, Shelf, Sink, Source};
-use sessions::{Client, Hub, Session, serve_client};
+use sessions::Hub;
 use start_text::{StartFault, read_start};
 use std::alloc::Global;
 use std::marker::Brand;
 use std::sync::Wait;
+use std::thread::Threads;
 use version_board::{Naming, Opened, Snapshot, start_board};
 
 /// The version of the start text of this name.
@@ -47,77 +47,72 @@ fn first_version<H: Shelf>(
     }
 }
 
-/// Serves a new session from this version on, over a board of its own, and gives the end back. Where there is no memory
-/// for the board, nothing is read or written.
-fn serve_board<J: Naming, S: Source + Drop, K: Sink + Drop, H: Shelf + Drop, R: Wait + Drop + Copy>(
-    rt: R,
+/// The same from the shelf of an end; nothing is read from its source or written to its sink.
+fn load_first<S: Source, K: Sink, H: Shelf>(
     alloc: Global,
-    opened: Opened,
-    first: Snapshot,
-    end: End<S, K, H>,
-) -> (End<S, K, H>, Serving)
+    end: &mut End<S, K, H>,
+    name: Option<&str>,
+) -> Result<Snapshot, StartFault>
+    ensures first { IfOk result (λ version. IsFirst (option_map (λ n. n.now) name.entry) (H.holds end.old.shelf) version) }
+    ensures fault { IfErr result (λ fault. IsOutside fault ⊎ IsStartFault (option_map (λ n. n.now) name.entry) (H.holds end.old.shelf) fault) }
+    ensures shelf { LeavesShelf (H.holds end.old.shelf) (H.holds end.new.shelf) (H.faults end.old.shelf) (H.faults end.new.shelf) result }
+    ensures untouched { (end.new.source ≡ end.old.source) × (end.new.sink ≡ end.old.sink) }
+{
+    first_version(alloc, &mut end.shelf, name)
+}
+
+/// Serves new sessions at the ends over one board, each in a thread, and gives the ends back in their order: all from
+/// this version on. Where there is no memory for the board or the seats, nothing is read or written.
+fn serve_board<
+    J: Naming + Send + Sync,
+    S: Source + Drop + Send,
+    K: Sink + Drop + Send,
+    H: Shelf + Drop + Send,
+    R: Threads + Wait + Drop + Copy + Send + Sync,
+>(rt: R, alloc: Global, opened: Opened, first: Snapshot, ends: &mut Vec<End<S, K, H>>) -> Serving
     requires book { opened.seen.book ≡ J.book }
     requires first { IsVersion J.first first }
-    ensures serves { let seen = view_of S.left K.written H.holds S.faults K.faults H.faults in IsServed result.1 J.first (seen end) (seen result.0) }
-    ensures untouched { HasNotBegun result.1 → result.0 ≡ end }
-    ensures lasts { let seen = view_of S.left K.written H.holds S.faults K.faults H.faults in Lasts (seen end) (seen result.0) }
+    requires count { (0 < length ends.old.items) × (length ends.old.items ≤ 64) }
+    ensures serves { let seen = view_of S.left K.written H.holds S.faults K.faults H.faults in AreServed result J.first (map seen ends.old.items) (map seen ends.new.items) }
+    ensures untouched { HasNotBegun result → ends.new.items ≡ ends.old.items }
+    ensures lasts { let seen = view_of S.left K.written H.holds S.faults K.faults H.faults in AllLast (map seen ends.old.items) (map seen ends.new.items) }
 {
-    let (publisher, mut passes) = match start_board::<J, R>(rt, alloc, opened, first, 1) {
+    let count = ends.len();
+    let (publisher, passes) = match start_board::<J, R>(rt, alloc, opened, first, count) {
         Ok(board) => board,
-        Err(_) => return (end, Serving::OutOfMemory),
+        Err(_) => return Serving::OutOfMemory,
     };
     let hub = Hub::new(alloc, publisher);
-    let client = Client {
-        end,
-        session: Session::new(alloc),
-        frames: Frames::new(alloc),
-        pass: passes.pop().unwrap(),
+    let Ok(mut seats) = room_for(alloc, count) else {
+        return Serving::OutOfMemory;
     };
-    let (client, ended) = serve_client(&rt, alloc, &hub, client);
-    let Client {
-        end,
-        session: _,
-        frames: _,
-        pass: _,
-    } = client;
-    (end, Serving::Session(ended))
+    let Ok(mut back) = room_for(alloc, count) else {
+        return Serving::OutOfMemory;
+    };
+    open_all(&mut seats, replace(ends, Vec::new(alloc)), passes);
+    serve_all(&rt, alloc, &hub, &mut seats, count);
+    let answered = greatest(&seats);
+    let _all = join_prefixes(seats[0].pass.prefix().again(), &seats);
+    close_all(&mut back, seats);
+    *ends = back;
+    Serving::Sessions(answered.end, answered.ended)
 }
 
-/// Serves over one end, from the start text of this name, and gives the end back. Where there is no version to start
-/// at, nothing is read or written.
-fn serve_end<S: Source + Drop, K: Sink + Drop, H: Shelf + Drop, R: Wait>(
-    rt: &R,
-    alloc: Global,
-    name: Option<&str>,
-    end: End<S, K, H>,
-) -> (End<S, K, H>, Serving)
-    ensures serves { let seen = view_of S.left K.written H.holds S.faults K.faults H.faults in ServesBy result.1 (option_map (λ n. n.now) name.entry) (seen end) (seen result.0) }
-    ensures untouched { HasNotBegun result.1 → (result.0.source ≡ end.source) × (result.0.sink ≡ end.sink) }
-    ensures lasts { let seen = view_of S.left K.written H.holds S.faults K.faults H.faults in Lasts (seen end) (seen result.0) }
+/// Serves new sessions at the ends, from the class files of the start text of this name, where one is named: it is
+/// loaded from the shelf of the first end. Where there is no version to start at, nothing is read or written.
+pub fn serve<
+    S: Source + Drop + Send,
+    K: Sink + Drop + Send,
+    H: Shelf + Drop + Send,
+    R: Threads + Wait + Sync,
+>(rt: &R, alloc: Global, name: Option<&str>, ends: &mut Vec<End<S, K, H>>) -> Serving
+    requires count { (0 < length ends.old.items) × (length ends.old.items ≤ 64) }
+    ensures serves { let seen = view_of S.left K.written H.holds S.faults K.faults H.faults in ServesBy result (option_map (λ n. n.now) name.entry) (map seen ends.old.items) (map seen ends.new.items) }
+    ensures untouched { HasNotBegun result → AreUntouched ends.old.items ends.new.items }
+    ensures lasts { let seen = view_of S.left K.written H.holds S.faults K.faults H.faults in AllLast (map seen ends.old.items) (map seen ends.new.items) }
 {
-    let mut end = end;
-    match first_version(alloc, &mut end.shelf, name) {
-        Ok(first) => serve_board::<Brand, S, K, H, &R>(rt, alloc, Opened::new(), first, end),
-        Err(fault) => (end, Serving::of_fault(&fault)),
+    match load_first(alloc, &mut ends[0], name) {
+        Ok(first) => serve_board::<Brand, S, K, H, &R>(rt, alloc, Opened::new(), first, ends),
+        Err(fault) => Serving::of_fault(&fault),
     }
-}
-
-/// Serves a new session over the one end, from the class files of the start text of this name, where one is named.
-/// Where there is no version to start at, nothing is read or written.
-pub fn serve<S: Source + Drop, K: Sink + Drop, H: Shelf + Drop, R: Wait>(
-    rt: &R,
-    alloc: Global,
-    name: Option<&str>,
-    ends: &mut Vec<End<S, K, H>>,
-) -> Serving
-    requires one { length ends.old.items ≡ 1 }
-    ensures serves { let seen = view_of S.left K.written H.holds S.faults K.faults H.faults in (e f : End S K H) → ends.old.items ≡ e ∷ [] → ends.new.items ≡ f ∷ []
-        → ServesBy result (option_map (λ n. n.now) name.entry) (seen e) (seen f) × (HasNotBegun result → (f.source ≡ e.source) × (f.sink ≡ e.sink)) }
-    ensures lasts { let seen = view_of S.left K.written H.holds S.faults K.faults H.faults in
-        (e f : End S K H) × (ends.old.items ≡ e ∷ []) × (ends.new.items ≡ f ∷ []) × Lasts (seen e) (seen f) }
-{
-    let end = ends.pop().unwrap();
-    let (end, serving) = serve_end(rt, alloc, name, end);
-    ends.push_reserved(end);
-    serving
 }

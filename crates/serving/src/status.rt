@@ -28,11 +28,11 @@ pub enum Ending {
     OutOfMemory,
 }
 
-/// How a run of `serve` over one end ended.
+/// How a run of `serve` ended.
 #[derive(Clone, Copy, Debug)]
 pub enum Serving {
-    /// A session was served, and ended so.
-    Session(Ended),
+    /// Sessions were served: the end whose session has the greatest code, the first one of several, and how that ended.
+    Sessions(u32, Ended),
     /// No session began: the line of the start text, 0 for the text itself and for the change of all its files, and
     /// the number of the cause.
     NotStarted(u32, u32),
@@ -107,9 +107,9 @@ impl Status {
         ensures { result ≡ serving_status serving }
     {
         match serving {
-            Serving::Session(ended) => Status {
+            Serving::Sessions(end, ended) => Status {
                 code: ended.code,
-                end: 0,
+                end,
                 place: ended.place,
                 cause: ended.cause,
             },

@@ -1,12 +1,14 @@
-use Rattle.std.proofs.Common.{rules, ◌≡◌, ◌⊎◌, ◌∙◌, sym, refl, ap, subst, map, length, get_or, option_map, Some}
+use Rattle.std.proofs.Common.{rules, tests, ◌≡◌, ◌≢◌, ◌⊎◌, ◌∙◌, sym, refl, ap, subst, map, length, get_or, option_map, Some}
 use Rattle.std.specs.Prelude.{string_bytes, slice_set}
 use Rattle.outside.specs.Causes.{Rose}
-use Rattle.serving.specs.Words.{list, serve, AskFor}
+use Rattle.std.proofs.lemmas.Option.{slice_get-map}
+use Rattle.serving.specs.Services.{view_of}
+use Rattle.serving.specs.Usages.{IsUsage}
+use Rattle.serving.specs.Words.{list, serve, Commands, ends_of}
 use Rattle.serving.specs.declared.status.Status.{Status}
-use Rattle.serving.proofs.Endings.{complete, no-usage}
-use Rattle.serving.proofs.Ends.{head-is, no-one}
-use Rattle.serving.proofs.Served.{one-start, no-usage-served}
-use Rattle.serving.proofs.Usages.{wrong-words}
+use Rattle.serving.proofs.Ends.{head-is}
+use Rattle.serving.proofs.Served.{no-usage-served}
+use Rattle.serving.proofs.Usages.{wrong-words, wrong-ends, is-wrong-ends, no-usage-fits, asked-of, ends-asked, serve-start}
 use Rattle.serving.proofs.command.run.Goals as goal
 
 pub returns-in-Err-clause-usage : goal.returns-in-Err-clause-usage
@@ -18,51 +20,91 @@ pub returns-in-Err-clause-ending : goal.returns-in-Err-clause-ending
 returns-in-Err-clause-ending g c = λ words one. absurd (c.in-Err.ensures.command.nothing list words)
 
 pub returns-in-Err-clause-serving : goal.returns-in-Err-clause-serving
-returns-in-Err-clause-serving g c = λ start words one. absurd (c.in-Err.ensures.command.nothing (serve start) words)
-
-pub returns-in-List-clause-usage_alone : goal.returns-in-List-clause-usage_alone
-returns-in-List-clause-usage_alone g c = λ two. absurd (no-usage c.list.result (sym (ap (λ (s : Status). s.code) c.of.ensures) ∙ two))
-
-pub returns-in-Serve-clause-usage_alone : goal.returns-in-Serve-clause-usage_alone
-returns-in-Serve-clause-usage_alone g c = λ two.
-    let l = c.serve.ensures.lasts in
-    let served = c.serve.ensures.serves l.0 l.1 l.2 l.3 in
-    absurd (no-usage-served c.serve.result _ _ _ served.0 (sym (ap (λ (s : Status). s.code) c.of_serving.ensures) ∙ two))
-
-pub returns-in-Serve-clause-serving : goal.returns-in-Serve-clause-serving
-returns-in-Serve-clause-serving g c = λ start words one.
-    let ws = map string_bytes c.args.words.now in
-    let told = option_map (λ n. n.now) c.in-Serve.start in
-    let asked : AskFor (serve told) ws = search rules in
-    let same : told ≡ start = one-start ws told start asked words in
-    (c.serve.result, c.of_serving.ensures, λ e f before after. rw (← same) (c.serve.ensures.serves e f before after))
-
-pub returns-in-List-clause-ending : goal.returns-in-List-clause-ending
-returns-in-List-clause-ending g c = λ words one. (
-  c.list.result,
-  c.of.ensures,
-  λ e f before after.
-      let old : c.index_mut.result.now ≡ e = c.index_mut.ensures.value ∙ ap (λ xs. get_or xs 0 c.index_mut.result.now) before in
-      let new : c.list.new.end ≡ f = head-is c.list.new.end f (ap (λ xs. slice_set xs 0 c.list.new.end) (sym before) ∙ after) in
-      rw (← old, ← new) c.list.ensures.ending,
-)
+returns-in-Err-clause-serving g c = λ start pairs words many. absurd (c.in-Err.ensures.command.nothing (serve start pairs) words)
 
 pub returns-in-Err-clause-complete : goal.returns-in-Err-clause-complete
 returns-in-Err-clause-complete g c = λ e f bytes parts before after words left sheet source sink. absurd (c.in-Err.ensures.command.nothing list words)
 
-pub returns-then-len-ne1-clause-complete : goal.returns-then-len-ne1-clause-complete
-returns-then-len-ne1-clause-complete g c = λ e f bytes parts before after words left sheet source sink.
-    absurd (no-one c.args.ends.now.items e before (search rules))
+pub returns-then-len-ends-clause-usage : goal.returns-then-len-ends-clause-usage
+returns-then-len-ends-clause-usage g c = λ status u.
+    let ws = map string_bytes c.args.words.now in
+    let n = length c.args.ends.now.items in
+    let h : Commands c.in-Ok.command ws = search rules in
+    let asked = asked-of c.in-Ok.command ws h in
+    let long : c.len-then-len-ends.result ≡ n = search rules in
+    let told = c.usage-then-len-ends.ensures ∙ ap (λ p. record { code = 2; end = 0; place = p; cause = 2 }) long in
+    (told ∙ wrong-ends ws n asked.0 status asked.1 u, refl)
+
+pub returns-then-len-ends-clause-usage_alone : goal.returns-then-len-ends-clause-usage_alone
+returns-then-len-ends-clause-usage_alone g c = λ two.
+    let ws = map string_bytes c.args.words.now in
+    let n = length c.args.ends.now.items in
+    let h : Commands c.in-Ok.command ws = search rules in
+    let asked = asked-of c.in-Ok.command ws h in
+    let other : n ≢ ends_of c.in-Ok.command = search (rules, tests) in
+    let long : c.len-then-len-ends.result ≡ n = search rules in
+    let told = c.usage-then-len-ends.ensures ∙ ap (λ p. record { code = 2; end = 0; place = p; cause = 2 }) long in
+    subst (IsUsage ws n) (sym told) (is-wrong-ends ws n asked.0 asked.1 (λ e. other (e ∙ asked.2)))
+
+pub returns-then-len-ends-clause-serving : goal.returns-then-len-ends-clause-serving
+returns-then-len-ends-clause-serving g c = λ start pairs words many.
+    let ws = map string_bytes c.args.words.now in
+    let n = length c.args.ends.now.items in
+    let h : Commands c.in-Ok.command ws = search rules in
+    let asked = asked-of c.in-Ok.command ws h in
+    let other : n ≢ ends_of c.in-Ok.command = search (rules, tests) in
+    absurd (other (many ∙ sym (ends-asked c.in-Ok.command ws (serve start pairs) h words)))
+
+pub returns-in-List-clause-usage : goal.returns-in-List-clause-usage
+returns-in-List-clause-usage g c = λ status u.
+    let ws = map string_bytes c.args.words.now in
+    let n = length c.args.ends.now.items in
+    let h : Commands c.in-Ok.command ws = search rules in
+    let asked = asked-of c.in-Ok.command ws h in
+    let even : n ≡ ends_of c.in-Ok.command = search (rules, tests) in
+    absurd (no-usage-fits ws n asked.0 status asked.1 (even ∙ sym asked.2) u)
 
 pub returns-in-List-clause-complete : goal.returns-in-List-clause-complete
 returns-in-List-clause-complete g c = λ e f bytes parts before after words left sheet source sink.
     let was = c.index_mut.result.now in
-    let is = c.list.new.end in
+    let is = c.run_plain.new.end in
     let old : was ≡ e = c.index_mut.ensures.value ∙ ap (λ xs. get_or xs 0 was) before in
     let new : is ≡ f = head-is is f (ap (λ xs. slice_set xs 0 is) (sym before) ∙ after) in
     let told : g.S.Source.left was.source ≡ Some bytes = ap (λ x. g.S.Source.left x.source) old ∙ left in
     let steady : ¬ (Rose (g.S.Source.faults was.source) (g.S.Source.faults is.source)) = rw (old, new) source in
     let taken : ¬ (Rose (g.K.Sink.faults was.sink) (g.K.Sink.faults is.sink)) = rw (old, new) sink in
-    let P : Status → Type 0 = λ s. (s.code ≡ 0) ⊎ (s.code ≡ 6) in
-    subst P (sym c.of.ensures) (complete c.list.result bytes parts (g.S.Source.left was.source) (g.S.Source.left is.source) (g.K.Sink.written was.sink) (g.K.Sink.written is.sink)
-    (g.S.Source.faults was.source) (g.S.Source.faults is.source) (g.K.Sink.faults was.sink) (g.K.Sink.faults is.sink) told sheet steady taken c.list.ensures.ending)
+    c.run_plain.ensures.complete bytes parts told sheet steady taken
+
+pub returns-in-Serve-clause-usage : goal.returns-in-Serve-clause-usage
+returns-in-Serve-clause-usage g c = λ status u.
+    let ws = map string_bytes c.args.words.now in
+    let n = length c.args.ends.now.items in
+    let h : Commands c.in-Ok.command ws = search rules in
+    let asked = asked-of c.in-Ok.command ws h in
+    let even : n ≡ ends_of c.in-Ok.command = search (rules, tests) in
+    absurd (no-usage-fits ws n asked.0 status asked.1 (even ∙ sym asked.2) u)
+
+pub returns-in-Serve-clause-usage_alone : goal.returns-in-Serve-clause-usage_alone
+returns-in-Serve-clause-usage_alone g c = λ two.
+    absurd (no-usage-served c.serve.result _ _ _ c.serve.ensures.lasts.count c.serve.ensures.serves (sym (ap (λ (s : Status). s.code) c.of_serving.ensures) ∙ two))
+
+pub returns-in-Serve-clause-serving : goal.returns-in-Serve-clause-serving
+returns-in-Serve-clause-serving g c = λ start pairs words many.
+    let ws = map string_bytes c.args.words.now in
+    let n = length c.args.ends.now.items in
+    let h : Commands c.in-Ok.command ws = search rules in
+    let asked = asked-of c.in-Ok.command ws h in
+    let same = serve-start c.in-Ok.command c.in-Serve.start _ ws start pairs c.in-Serve.is h words in
+    (c.serve.result, c.of_serving.ensures, rw (← same) c.serve.ensures.serves, c.serve.ensures.untouched)
+
+pub returns-in-Serve-clause-faults_rise : goal.returns-in-Serve-clause-faults_rise
+returns-in-Serve-clause-faults_rise g c = λ i e f at_e at_f.
+    let seen = view_of g.S.Source.left g.K.Sink.written g.H.Shelf.holds g.S.Source.faults g.K.Sink.faults g.H.Shelf.faults in
+    let l = c.serve.ensures.lasts.each i (seen e) (seen f) (slice_get-map seen c.args.ends.now.items i ∙ ap (option_map seen) at_e) (slice_get-map seen c.serve.new.ends.items i ∙ ap (option_map seen) at_f) in
+    (l.reads, l.writes, l.loads)
+
+pub returns-in-Serve-clause-shelf_holds : goal.returns-in-Serve-clause-shelf_holds
+returns-in-Serve-clause-shelf_holds g c = λ i e f at_e at_f.
+    let seen = view_of g.S.Source.left g.K.Sink.written g.H.Shelf.holds g.S.Source.faults g.K.Sink.faults g.H.Shelf.faults in
+    let l = c.serve.ensures.lasts.each i (seen e) (seen f) (slice_get-map seen c.args.ends.now.items i ∙ ap (option_map seen) at_e) (slice_get-map seen c.serve.new.ends.items i ∙ ap (option_map seen) at_f) in
+    l.held

@@ -1,28 +1,31 @@
-use Rattle.std.proofs.Common.{◌≡◌, length, refl, subst, arith}
-use Rattle.version_board.specs.Views.{newcomer}
-use Rattle.version_board.specs.declared.view.View.{View}
-use Rattle.answers.specs.Sessions.{Seen, start}
-use Rattle.sessions.specs.RunningStates.{running_state}
-use Rattle.sessions.specs.Served.{ServesWith}
-use Rattle.serving.proofs.Ends.{of-one}
+use Rattle.std.proofs.Common.{rules, ◌≡◌, ◌++◌, map}
+use mathlib.Core.List.{IsPrefix}
+use Rattle.std.specs.Prelude.{All}
+use Rattle.serving.specs.declared.seats.Seat.{Seat}
+use Rattle.serving.specs.Services.{view_of, IsGreatest}
+use Rattle.serving.specs.Seats.{end_of}
+use Rattle.serving.proofs.Seated.{all-served, all-last}
 use Rattle.serving.proofs.service.serve_board.Goals as goal
 
 pub returns-clause-serves : goal.returns-clause-serves
 returns-clause-serves g c =
-    let e = c.args.end in
-    let f = c.serve_client-client.result.0 in
-    let after = running_state f.pass (g.H.Shelf.holds f.end.shelf) (g.H.Shelf.faults f.end.shelf) in
-    let one : length c.in-Ok.board.1.items ≡ 1 = omega (arith, c.in-Ok.ensures.count, c.in-Ok.board.1.ok.0) in
-    let pass : c.unwrap.result ≡ newcomer g.J.Naming.first =
-    of-one (λ p. p ≡ newcomer g.J.Naming.first) c.in-Ok.board.1.items c.pop.new.self.items c.pop.result c.unwrap.result one c.pop.ensures.items c.unwrap.ensures c.in-Ok.ensures.passes in
-    let session : c.new.result ≡ start = cc in
-    let Served : Seen → View → Type 0 = λ s v. ServesWith s f.session (g.S.Source.left e.source) (g.K.Sink.written e.sink) (g.K.Sink.written f.end.sink)
-    (running_state v (g.H.Shelf.holds e.shelf) (g.H.Shelf.faults e.shelf)) after c.serve_client-client.result.1 in
-    record {
-      next = f.session;
-      after = after;
-      load_faults = refl;
-      serves = subst (λ s. Served s (newcomer g.J.Naming.first)) session (subst (Served c.new.result) pass c.serve_client-client.ensures.serves);
-      read_cause = c.serve_client-client.ensures.read_cause;
-      write_cause = c.serve_client-client.ensures.write_cause;
-    }
+    let seen = view_of g.S.Source.left g.K.Sink.written g.H.Shelf.holds g.S.Source.faults g.K.Sink.faults g.H.Shelf.faults in
+    let cs = c.open_all.new.seats.items in
+    let ds = c.serve_all.new.seats.items in
+    let before : map end_of cs ≡ c.args.ends.now.items = search rules in
+    let after : map end_of ds ≡ c.close_all.new.ends.items = search rules in
+    let slice : c.deref-2.result.now ≡ ds = search rules in
+    let known : All (λ (d : Seat g.row.J.Denot g.row.S.Denot g.row.K.Denot g.row.H.Denot). IsPrefix d.pass.seen (g.J.Naming.first ++ c.join_prefixes-all.result)) ds = rw slice at c.join_prefixes-all.ensures.all in
+    let one : c.deref.result.now ≡ ds = search rules in
+    let most : IsGreatest (map (λ (d : Seat g.row.J.Denot g.row.S.Denot g.row.K.Denot g.row.H.Denot). d.ended) ds) c.greatest-answered.result.end c.greatest-answered.result.ended = rw one at c.greatest-answered.ensures.greatest in
+    rw (← before, ← after) (all-served seen g.J.Naming.first (g.J.Naming.first ++ c.join_prefixes-all.result) cs ds c.greatest-answered.result.end c.greatest-answered.result.ended
+    c.serve_all.ensures.same c.open_all.ensures.newcomers c.serve_all.ensures.each known most)
+
+pub returns-clause-lasts : goal.returns-clause-lasts
+returns-clause-lasts g c =
+    let seen = view_of g.S.Source.left g.K.Sink.written g.H.Shelf.holds g.S.Source.faults g.K.Sink.faults g.H.Shelf.faults in
+    let cs = c.open_all.new.seats.items in
+    let ds = c.serve_all.new.seats.items in
+    let before : map end_of cs ≡ c.args.ends.now.items = search rules in
+    let after : map end_of ds ≡ c.close_all.new.ends.items = search rules in
+    rw (← before, ← after) (all-last seen cs ds c.serve_all.ensures.same c.serve_all.ensures.each)

@@ -1,5 +1,5 @@
 use Rattle.serving.specs.Services.{history_of}
-use Rattle.serving.proofs.service.serve_end.Given as goal
+use Rattle.serving.proofs.service.serve.Given as goal
 
 -- the log that was just opened, and the changes that the version stands for
 abbrev pub ghosts-serve_board : goal.ghosts-serve_board
