@@ -22,6 +22,8 @@ mod run_tests;
 #[cfg(test)]
 mod serve_tests;
 #[cfg(test)]
+mod several_tests;
+#[cfg(test)]
 mod shared_page_tests;
 #[cfg(test)]
 mod snapshot_tests;

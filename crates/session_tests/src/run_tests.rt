@@ -3,9 +3,10 @@ use outside::{End, FaultPlan, MemSink, MemSource, SteadyShelf, SteadySink, Stead
 use serving::{Status, run};
 use std::alloc::{AllocError, Global};
 use std::sync::Wait;
+use std::thread::Threads;
 
 /// Runs `list` over one end, with reads and writes of at most `most` bytes and these failing calls.
-fn listed<R: Wait>(
+fn listed<R: Threads + Wait + Sync>(
     rt: &R,
     alloc: Global,
     sheet: &str,

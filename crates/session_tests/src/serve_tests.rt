@@ -4,6 +4,7 @@ use serving::{Status, run};
 use std::alloc::{AllocError, Global};
 use std::sync::Wait;
 use std::test::Fail;
+use std::thread::Threads;
 
 /// `public class A extends java/lang/Object`, without members.
 const A: [u8; 53] = [
@@ -67,7 +68,7 @@ fn words_of(alloc: Global, texts: &[&str]) -> Result<Vec<String>, AllocError> {
 }
 
 /// Runs the words over one end.
-fn ran<R: Wait>(
+fn ran<R: Threads + Wait + Sync>(
     rt: &R,
     alloc: Global,
     words: &[&str],
@@ -87,7 +88,7 @@ fn ran<R: Wait>(
 }
 
 /// Runs the words over these bytes.
-fn served<R: Wait>(
+fn served<R: Threads + Wait + Sync>(
     rt: &R,
     alloc: Global,
     words: &[&str],
