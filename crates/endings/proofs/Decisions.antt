@@ -1,0 +1,72 @@
+-- What an input says of the status of its session.
+use Rattle.std.proofs.Common.{◌≡◌, ◌⊎◌, inl, inr, ℕ, ap, sym, ◌∙◌, List, [], ◌∷◌, ◌++◌, refl, subst, Bool, Option, Some, None, append_assoc}
+use Rattle.std.specs.Prelude.{All}
+use Rattle.std.proofs.lemmas.List.Elements.{All-nil, All-cons, All-head, All-tail}
+use Rattle.json_rpc.specs.Whole.{AreFramesOf, BeginFramesOf}
+use Rattle.json_rpc.specs.declared.fault.FrameFault.{FrameFault}
+use Rattle.json_rpc.specs.declared.fault.FrameFault.TheVariants.{Header, NoLength, TooLong, Cut, ReadFault, Budget, OutOfMemory}
+use Rattle.answers.specs.Sessions.{Seen}
+use Rattle.answers.specs.Messages.{is_stopped}
+use Rattle.answers.specs.Runs.{Message, replies_to}
+use Rattle.sessions.specs.Worlds.{WorldState}
+use Rattle.sessions.specs.declared.ending.Ended.{Ended}
+use Rattle.sessions.specs.declared.ending.Ending as ways
+use Rattle.sessions.specs.declared.ending.Ending.TheVariants.{Exit, Input, Frames, Sink, Memory}
+use Rattle.sessions.specs.Served.{Serves, GoesOn, bodies_in, status_of}
+use Rattle.endings.specs.Decided.{IsExit, IsNoExit, IsOutside, end_status, FramesDecide, ExitDecides}
+use Rattle.endings.proofs.Readings.{one_reading, first_of_all}
+use Rattle.endings.proofs.Exits.{exit_is_read, stop_is_told, none_goes_on}
+
+-- The first of bodies that are no exits are none.
+first_are : (firsts more : List (List ℕ)) → All IsNoExit (firsts ++ more) → All IsNoExit firsts
+first_are [] more clear = All-nil IsNoExit
+first_are (x ∷ xs) more clear = All-cons IsNoExit x xs (All-head IsNoExit x (xs ++ more) clear) (first_are xs more (All-tail IsNoExit x (xs ++ more) clear))
+
+module _ (s next : Seen) (input : List ℕ) (before after : Option (List ℕ)) (old new : WorldState) where
+  -- Over an input without an exit.
+  frames_by : (way : ways.Ending) (bodies : List (List ℕ)) (end : Option FrameFault) → Serves s next (Some input) before after old new way
+      → AreFramesOf input bodies end → All IsNoExit bodies → IsOutside (status_of way) ⊎ (status_of way ≡ end_status end)
+  frames_by (Exit b) bodies end h are clear =
+      let first : (more : List (List ℕ)) × (bodies ≡ bodies_in h.messages ++ more) = first_of_all input bodies (bodies_in h.messages) end are h.read in
+      absurd (exit_is_read s h.messages h.ended_by.before b h.ended_by.is (first_are (bodies_in h.messages) first.0 (subst (All IsNoExit) first.1 clear)))
+  frames_by Input bodies end h are clear = inr (ap end_status (one_reading input (bodies_in h.messages) bodies None end h.read are).1)
+  frames_by (Frames (Header k)) bodies end h are clear = inr (ap end_status (one_reading input (bodies_in h.messages) bodies (Some (Header k)) end h.read are).1)
+  frames_by (Frames (NoLength k)) bodies end h are clear = inr (ap end_status (one_reading input (bodies_in h.messages) bodies (Some (NoLength k)) end h.read are).1)
+  frames_by (Frames (TooLong k)) bodies end h are clear = inr (ap end_status (one_reading input (bodies_in h.messages) bodies (Some (TooLong k)) end h.read are).1)
+  frames_by (Frames (Cut k)) bodies end h are clear = inr (ap end_status (one_reading input (bodies_in h.messages) bodies (Some (Cut k)) end h.read are).1)
+  frames_by (Frames Budget) bodies end h are clear = inr (ap end_status (one_reading input (bodies_in h.messages) bodies (Some Budget) end h.read are).1)
+  frames_by (Frames ReadFault) bodies end h are clear = inl (inl refl)
+  frames_by (Frames OutOfMemory) bodies end h are clear = inl (inr (inr refl))
+  frames_by Sink bodies end h are clear = inl (inr (inl refl))
+  frames_by Memory bodies end h are clear = inl (inr (inr refl))
+
+  -- The frames up to an exit aren't all, where the session went on after each.
+  not_all : (messages : List Message) (end : Option FrameFault) (bodies : List (List ℕ)) (body : List ℕ) → AreFramesOf input (bodies_in messages) end
+      → All GoesOn (replies_to s messages) → BeginFramesOf input (bodies ++ body ∷ []) → IsExit body → ⊥
+  not_all messages end bodies body are on begins exit =
+      let first : (more : List (List ℕ)) × (bodies_in messages ≡ (bodies ++ body ∷ []) ++ more) = first_of_all input (bodies_in messages) (bodies ++ body ∷ []) end are begins in
+      none_goes_on s messages bodies first.0 body (first.1 ∙ append_assoc bodies (body ∷ []) first.0) exit on
+
+  -- Over an input with an exit.
+  exit_by : (way : ways.Ending) (bodies : List (List ℕ)) (body : List ℕ) → Serves s next (Some input) before after old new way
+      → BeginFramesOf input (bodies ++ body ∷ []) → IsExit body → IsOutside (status_of way) ⊎ (status_of way ≡ status_of (Exit (is_stopped next.phase)))
+  exit_by (Exit b) bodies body h begins exit =
+      inr (ap (λ (x : Bool). status_of (Exit x)) (stop_is_told s h.messages h.ended_by.before b h.ended_by.is ∙ ap (λ (x : Seen). is_stopped x.phase) (sym h.session)))
+  exit_by Input bodies body h begins exit = absurd (not_all h.messages None bodies body h.read h.ended_by begins exit)
+  exit_by (Frames (Header k)) bodies body h begins exit = absurd (not_all h.messages (Some (Header k)) bodies body h.read h.ended_by begins exit)
+  exit_by (Frames (NoLength k)) bodies body h begins exit = absurd (not_all h.messages (Some (NoLength k)) bodies body h.read h.ended_by begins exit)
+  exit_by (Frames (TooLong k)) bodies body h begins exit = absurd (not_all h.messages (Some (TooLong k)) bodies body h.read h.ended_by begins exit)
+  exit_by (Frames (Cut k)) bodies body h begins exit = absurd (not_all h.messages (Some (Cut k)) bodies body h.read h.ended_by begins exit)
+  exit_by (Frames Budget) bodies body h begins exit = absurd (not_all h.messages (Some Budget) bodies body h.read h.ended_by begins exit)
+  exit_by (Frames ReadFault) bodies body h begins exit = inl (inl refl)
+  exit_by (Frames OutOfMemory) bodies body h begins exit = inl (inr (inr refl))
+  exit_by Sink bodies body h begins exit = inl (inr (inl refl))
+  exit_by Memory bodies body h begins exit = inl (inr (inr refl))
+
+pub frames_decide : FramesDecide
+frames_decide s next input before after old new ended bodies end h are clear =
+    subst (λ (e : Ended). IsOutside e ⊎ (e ≡ end_status end)) (sym h.told) (frames_by s next input before after old new h.way bodies end h.serves are clear)
+
+pub exit_decides : ExitDecides
+exit_decides s next input before after old new ended bodies body h begins exit =
+    subst (λ (e : Ended). IsOutside e ⊎ (e ≡ status_of (Exit (is_stopped next.phase)))) (sym h.told) (exit_by s next input before after old new h.way bodies body h.serves begins exit)

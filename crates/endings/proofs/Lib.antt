@@ -1,0 +1,4 @@
+pub mod Readings
+pub mod Exits
+pub mod Stops
+pub mod Decisions
