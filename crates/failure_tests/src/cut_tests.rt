@@ -14,7 +14,7 @@ fn cut_at(length: usize) -> (u8, u64, u32) {
 }
 
 /// Whether the session ends so where these are its bytes, with the replies to what is whole in them.
-fn ends_at_cut<R: Threads + Wait>(
+fn ends_at_cut<R: Threads + Wait + Sync>(
     rt: &R,
     alloc: Global,
     input: &[u8],
@@ -54,7 +54,7 @@ fn after_brackets(alloc: Global, count: usize) -> Result<String, AllocError> {
 }
 
 /// Whether such a body is answered as no JSON, and the session goes on.
-fn goes_on_after<R: Threads + Wait>(
+fn goes_on_after<R: Threads + Wait + Sync>(
     rt: &R,
     alloc: Global,
     count: usize,

@@ -103,7 +103,7 @@ fn words_of(alloc: Global, texts: &[&str]) -> Result<Vec<String>, AllocError> {
 }
 
 /// Runs the words over one end.
-fn ran<R: Threads + Wait>(
+fn ran<R: Threads + Wait + Sync>(
     rt: &R,
     alloc: Global,
     words: &[&str],
@@ -124,7 +124,7 @@ fn ran<R: Threads + Wait>(
 }
 
 /// Serves these bytes, without files.
-pub(crate) fn served<R: Threads + Wait>(
+pub(crate) fn served<R: Threads + Wait + Sync>(
     rt: &R,
     alloc: Global,
     input: &[u8],
@@ -145,7 +145,7 @@ pub(crate) fn served<R: Threads + Wait>(
 }
 
 /// Serves the session above over these files, from the start text `start`.
-pub(crate) fn started<R: Threads + Wait>(
+pub(crate) fn started<R: Threads + Wait + Sync>(
     rt: &R,
     alloc: Global,
     files: &[(&str, &[u8])],
@@ -159,7 +159,7 @@ pub(crate) fn started<R: Threads + Wait>(
 }
 
 /// Whether the session is served to its end.
-fn is_served<R: Threads + Wait>(
+fn is_served<R: Threads + Wait + Sync>(
     rt: &R,
     alloc: Global,
     reads: Calls,

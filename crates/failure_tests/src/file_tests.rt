@@ -30,7 +30,11 @@ fn is_refused<R: Wait>(
 }
 
 /// Whether a server that starts from these bytes ends at the first line of its start text, and reads and writes nothing.
-fn is_no_start<R: Threads + Wait>(rt: &R, alloc: Global, bytes: &[u8]) -> Result<bool, AllocError> {
+fn is_no_start<R: Threads + Wait + Sync>(
+    rt: &R,
+    alloc: Global,
+    bytes: &[u8],
+) -> Result<bool, AllocError> {
     let files: [(&str, &[u8]); 2] = [("start", b"A.class"), ("A.class", bytes)];
     let left = started(rt, alloc, &files)?;
     Ok(left.ended_by(8, 1, 11) && left.reads == 0 && left.writes == 0)

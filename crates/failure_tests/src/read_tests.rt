@@ -8,7 +8,7 @@ use std::thread::Threads;
 const SOURCES: [(Calls, u64); 2] = [(AT_ONCE, 1), (ONE_BY_ONE, 201)];
 
 /// Whether the session is served in so many reads where none fails.
-fn takes<R: Threads + Wait>(
+fn takes<R: Threads + Wait + Sync>(
     rt: &R,
     alloc: Global,
     reads: Calls,
@@ -21,7 +21,7 @@ fn takes<R: Threads + Wait>(
 
 /// Whether the session ends at the read after so many, which fails: it isn't tried again, and what was written is the replies
 /// to the requests before. Each read before gave one byte.
-fn ends_at<R: Threads + Wait>(
+fn ends_at<R: Threads + Wait + Sync>(
     rt: &R,
     alloc: Global,
     reads: Calls,
@@ -38,7 +38,7 @@ fn ends_at<R: Threads + Wait>(
 }
 
 /// Whether that holds of each of so many reads.
-fn ends_at_each<R: Threads + Wait>(
+fn ends_at_each<R: Threads + Wait + Sync>(
     rt: &R,
     alloc: Global,
     reads: Calls,

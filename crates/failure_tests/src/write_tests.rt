@@ -18,7 +18,7 @@ fn reads_at(left: &Left, requests: (u64, u64)) -> u64 {
 
 /// Whether the write of this number fails and ends the session: it isn't tried again, the first bytes of the replies are written
 /// and no more, and nothing is read after it.
-fn ends_at<R: Threads + Wait>(
+fn ends_at<R: Threads + Wait + Sync>(
     rt: &R,
     alloc: Global,
     source: (Calls, (u64, u64)),
@@ -37,7 +37,7 @@ fn ends_at<R: Threads + Wait>(
 }
 
 /// How many writes the session takes where none fails.
-fn writes_of<R: Threads + Wait>(
+fn writes_of<R: Threads + Wait + Sync>(
     rt: &R,
     alloc: Global,
     source: (Calls, (u64, u64)),
@@ -49,7 +49,7 @@ fn writes_of<R: Threads + Wait>(
 }
 
 /// Whether each byte is a write, and the session ends at each of them.
-fn ends_at_each_byte<R: Threads + Wait>(
+fn ends_at_each_byte<R: Threads + Wait + Sync>(
     rt: &R,
     alloc: Global,
     source: (Calls, (u64, u64)),
@@ -63,7 +63,7 @@ fn ends_at_each_byte<R: Threads + Wait>(
 }
 
 /// Whether the session ends at each write over a sink that takes all at once, each time with more bytes written.
-fn ends_at_each_piece<R: Threads + Wait>(
+fn ends_at_each_piece<R: Threads + Wait + Sync>(
     rt: &R,
     alloc: Global,
     source: (Calls, (u64, u64)),
