@@ -1,6 +1,6 @@
 -- Which words can begin words that ask for something.
-use Rattle.std.proofs.Common.{◌≡◌, ◌≢◌, ◌⊎◌, inl, inr, ⊎_elim, ℕ, ◌+◌, ◌≤◌, ◌<◌, List, [], ◌∷◌, ◌++◌, length, take, drop, map, get_or, Option, Some, None, Bool, true, false, refl, sym, ap, subst, ◌∙◌, arith, add-one, append_assoc, append-nil, length-append}
-use Rattle.std.specs.Prelude.{codes, string_bytes, String, bytes_eq, option_map, option_to_list, Result, Ok, Err, MatchResult, is_some, IsTrue}
+use Rattle.std.proofs.Common.{◌≡◌, ◌≢◌, inl, inr, ℕ, ◌+◌, ◌≤◌, ◌<◌, List, [], ◌∷◌, ◌++◌, length, take, drop, map, get_or, Option, Some, None, Bool, true, false, refl, sym, ap, subst, ◌∙◌, arith, add-one, append_assoc, append-nil, length-append}
+use Rattle.std.specs.Prelude.{codes, string_bytes, String, bytes_eq, option_map, option_to_list, Result, Ok, Err, MatchResult, IfOk, is_some}
 use Rattle.std.proofs.lemmas.Bool.Decides.{not_from_Decides, Decides-at}
 use Rattle.std.proofs.lemmas.List.{take_all, take-append-drop, take_more, length-take, length-map, get_or-map}
 use Rattle.std.proofs.lemmas.Str.Pattern.{IsSplitOnceResult, split_parts, split_after}
@@ -8,7 +8,9 @@ use Rattle.std.proofs.lemmas.Slice.Eq.{bytes_eq-Decides}
 use denote.Ref.{Bor}
 use Rattle.serving.specs.declared.words.Scan.{Scan}
 use Rattle.serving.specs.declared.words.UsageFault.{UsageFault}
-use Rattle.serving.specs.Words.{Pair, Asked, list, serve, IsFileName, IsPair, pair, start, joined, AreParts, AskFor, CanBegin, IsFirstWrong, most_pairs}
+use Rattle.serving.specs.Words.{Pair, Asked, list, serve, count, IsFileName, IsPair, pair, start, joined, AreParts, AskFor, CanBegin, IsFirstWrong, Commands, pairs_asked, most_pairs}
+use Rattle.serving.specs.declared.words.Command.{Command}
+use Rattle.serving.specs.declared.words.Command.TheVariants as command
 use Rattle.serving.specs.Scanned.{Scanned, IsStuck, naming}
 use Rattle.serving.proofs.Parts.{no-dash, CanNext, next-part, add-part, no-parts, few-words}
 
@@ -54,9 +56,15 @@ pair-split w r x split is names p e =
     let parts = rw is at (split_after 61 w names.0 names.1 r split (omega arith) e p.parted) in
     (subst IsFileName (sym parts.0) p.input, λ n. p.output (sym parts.1 ∙ n))
 
+-- the first letter of words, by which commands differ
+abbrev pub letter : List (List ℕ) → ℕ
+letter [] = 0
+letter (w ∷ ws) = get_or w 0 0
+
 -- the words of a server are its parts
 pub told_by : (ws : List (List ℕ)) (asked : Asked) → AskFor asked (codes "serve" ∷ ws) → (told : Option (List ℕ)) × (pairs : List Pair) × AreParts told pairs ws
 told_by ws list e = absurd cc
+told_by ws (count name) a = let other : 115 ≡ 99 = ap letter a.2 in absurd (omega (arith, other))
 told_by ws (serve told pairs) a =
     let same : a.0 ≡ ws = cc in
     (told, pairs, subst (AreParts told pairs) same a.1)
@@ -264,8 +272,8 @@ ends-naming words scan pairs is s =
 pub wrong-word : (words : List (List ℕ)) (i : ℕ) (scan : Scan) (pairs : List Pair) (w : List ℕ) → i < length words → w ≡ get_or words i w → Scanned (take i words) scan pairs → IsStuck (take i words ++ w ∷ []) → IsFirstWrong (codes "serve" ∷ words) (scan.words + 1)
 wrong-word words i scan pairs w l at s stuck =
     let one : take (i + 1) words ≡ take i words ++ w ∷ [] = take_more words i w l ∙ ap (λ z. take i words ++ z ∷ []) (sym at) in
-    let count : scan.words ≡ i = omega (arith, s.read, length-take i words, l) in
-    rw count (server-wrong words i (omega (arith, l)) (begins-by scan.is_naming (take i words) scan pairs refl s) (λ _. rw one stuck)
+    let long : scan.words ≡ i = omega (arith, s.read, length-take i words, l) in
+    rw long (server-wrong words i (omega (arith, l)) (begins-by scan.is_naming (take i words) scan pairs refl s) (λ _. rw one stuck)
     (λ told all k. stuck told all (drop (i + 1) words) (rw (← one, take-append-drop (i + 1) words) k)))
 
 pub next-word : (words : List (List ℕ)) (i : ℕ) (w : List ℕ) → i < length words → w ≡ get_or words i w → take i words ++ w ∷ [] ≡ take (i + 1) words
@@ -278,6 +286,7 @@ begins-none = record { more = codes "list" ∷ []; asked = list; ask = refl }
 no-words : (asked : Asked) → AskFor asked [] → ⊥
 no-words list e = cc
 no-words (serve told pairs) a = let e = a.2 in cc
+no-words (count name) a = let e = a.2 in cc
 
 pub words-missing : IsFirstWrong [] 0
 words-missing = record {
@@ -287,22 +296,24 @@ words-missing = record {
   nothing = no-words;
 }
 
-no-command : (w : List ℕ) (ws : List (List ℕ)) → w ≢ codes "list" → w ≢ codes "serve" → (asked : Asked) → AskFor asked (w ∷ ws) → ⊥
-no-command w ws a b list e = let same : w ≡ codes "list" = cc in a same
-no-command w ws a b (serve told pairs) t = let e = t.2 in let same : w ≡ codes "serve" = cc in b same
+no-command : (w : List ℕ) (ws : List (List ℕ)) → w ≢ codes "list" → w ≢ codes "serve" → w ≢ codes "count" → (asked : Asked) → AskFor asked (w ∷ ws) → ⊥
+no-command w ws a b c list e = let same : w ≡ codes "list" = cc in a same
+no-command w ws a b c (serve told pairs) t = let e = t.2 in let same : w ≡ codes "serve" = cc in b same
+no-command w ws a b c (count name) t = let e = t.2 in let same : w ≡ codes "count" = cc in c same
 
-pub command-wrong : (w : List ℕ) (ws : List (List ℕ)) → w ≢ codes "list" → w ≢ codes "serve" → IsFirstWrong (w ∷ ws) 0
-command-wrong w ws a b = record {
+pub command-wrong : (w : List ℕ) (ws : List (List ℕ)) → w ≢ codes "list" → w ≢ codes "serve" → w ≢ codes "count" → IsFirstWrong (w ∷ ws) 0
+command-wrong w ws a b c = record {
   within = omega arith;
   begins = begins-none;
-  wrong = λ _ begins. no-command w begins.more a b begins.asked begins.ask;
-  nothing = no-command w ws a b;
+  wrong = λ _ begins. no-command w begins.more a b c begins.asked begins.ask;
+  nothing = no-command w ws a b c;
 }
 
 -- a word after `list`
 no-list : (w : List ℕ) (ws : List (List ℕ)) (asked : Asked) → AskFor asked (codes "list" ∷ w ∷ ws) → ⊥
 no-list w ws list e = cc
 no-list w ws (serve told pairs) a = let e = a.2 in cc
+no-list w ws (count name) a = let e = a.2 in cc
 
 pub list-more : (w : List ℕ) (ws : List (List ℕ)) → IsFirstWrong (codes "list" ∷ w ∷ ws) 1
 list-more w ws = record {
@@ -311,3 +322,13 @@ list-more w ws = record {
   wrong = λ _ begins. no-list w begins.more begins.asked begins.ask;
   nothing = no-list w ws;
 }
+
+-- a command other than `serve` has no pairs
+pub plain-pairs : (command : Command) (w : List ℕ) (ws : List (List ℕ)) → w ≢ codes "serve" → Commands command (w ∷ ws) → (asked : Asked) × AskFor asked (w ∷ ws) × ([] ≡ pairs_asked asked)
+plain-pairs command.List w ws other h = (list, h, refl)
+plain-pairs (command.Count name) w ws other h = (count name.now, h, refl)
+plain-pairs (command.Serve told many) w ws other h = let e = h.2.2 in let same : w ≡ codes "serve" = cc in absurd (other same)
+
+pub plain-none : (r : Result Command UsageFault) (w : List ℕ) (ws : List (List ℕ)) → w ≢ codes "serve" → MatchResult r (λ command. Commands command (w ∷ ws)) (λ fault. IsFirstWrong (w ∷ ws) fault.word) → IfOk r (λ _. (asked : Asked) × AskFor asked (w ∷ ws) × ([] ≡ pairs_asked asked))
+plain-none (Ok command) w ws other h = plain-pairs command w ws other h
+plain-none (Err fault) w ws other h = tt

@@ -2,6 +2,7 @@ mod Begun
 mod Crossing
 mod Parts
 mod Commands
+mod Counts
 mod Versions
 mod Starting
 mod Ends

@@ -4,5 +4,6 @@ pub mod Words
 pub mod Scanned
 pub mod Usages
 pub mod Services
+pub mod Counts
 pub mod Seats
 pub mod Crossing

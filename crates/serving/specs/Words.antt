@@ -1,5 +1,5 @@
 -- The words of the command line, and what they ask for.
-use Rattle.std.specs.Prelude.{◌≡◌, ◌≢◌, ℕ, ◌+◌, ◌<◌, ◌≤◌, List, [], ◌∷◌, ◌++◌, length, take, codes, Option, Some, None, slice_get, get_or, option_map, option_to_list}
+use Rattle.std.specs.Prelude.{◌≡◌, ◌≢◌, ◌⊎◌, ℕ, ◌+◌, ◌<◌, ◌≤◌, List, [], ◌∷◌, ◌++◌, length, take, codes, Option, Some, slice_get, get_or, option_map, option_to_list}
 use Rattle.std.specs.List.{flat_map, AllByRecursion}
 use Rattle.serving.specs.declared.words.Command.{Command}
 use Rattle.serving.specs.declared.words.Command.TheVariants as command
@@ -8,11 +8,12 @@ use Rattle.serving.specs.declared.words.Command.TheVariants as command
 abbrev pub Pair : Type 0
 Pair = List ℕ × List ℕ
 
--- What can be asked for: the list of a sheet, or a server, with or without the name of a start text, over standard input and output
--- and these pairs of files.
+-- What can be asked for: the list of a sheet; a server, with or without the name of a start text, over standard input and output
+-- and these pairs of files; or the counts of the uses in the class files of the start text of this name.
 pub data Asked : Type 0 where
   list : Asked
   serve : Option (List ℕ) → List Pair → Asked
+  count : List ℕ → Asked
 
 -- The name of a file: not empty, and no option.
 pub record IsFileName (name : List ℕ) : Type 0 where
@@ -65,14 +66,19 @@ pub record AreParts (told : Option (List ℕ)) (names : List Pair) (rest : List 
   pub pairs : flat_map pair_in parts ≡ names
   pub few : length names ≤ most_pairs
 
--- The words ask for this: `list`, or `serve` and its parts.
+-- The words after `count` name this start text, by `--start FILE` or `--start=FILE`, and there are no others.
+abbrev pub NameStart : List ℕ → List (List ℕ) → Type 0
+NameStart name rest = IsFileName name × ((rest ≡ codes "--start" ∷ name ∷ []) ⊎ (rest ≡ (codes "--start=" ++ name) ∷ []))
+
+-- The words ask for this: `list`, `serve` and its parts, or `count` and a start text.
 abbrev pub AskFor : Asked → List (List ℕ) → Type 0
 AskFor list words = words ≡ codes "list" ∷ []
 AskFor (serve told pairs) words = (rest : List (List ℕ)) × AreParts told pairs rest × (words ≡ codes "serve" ∷ rest)
+AskFor (count name) words = (rest : List (List ℕ)) × NameStart name rest × (words ≡ codes "count" ∷ rest)
 
 -- The words ask for something else than a server.
 abbrev pub AskForPlain : List (List ℕ) → Type 0
-AskForPlain words = AskFor list words
+AskForPlain words = AskFor list words ⊎ ((name : List ℕ) × AskFor (count name) words)
 
 -- Words with which something can be asked for begin with these.
 pub record CanBegin (words : List (List ℕ)) : Type 0 where
@@ -91,13 +97,16 @@ pub record IsFirstWrong (words : List (List ℕ)) (place : ℕ) : Type 0 where
 abbrev pub pairs_asked : Asked → List Pair
 pairs_asked list = []
 pairs_asked (serve told pairs) = pairs
+pairs_asked (count name) = []
 
 -- The words are those of a command, which keeps of the pairs their number.
 abbrev pub Commands : Command → List (List ℕ) → Type 0
 Commands command.List words = AskFor list words
-Commands (command.Serve told count) words = (pairs : List Pair) × (length pairs ≡ count) × AskFor (serve (option_map (λ s. s.now) told) pairs) words
+Commands (command.Serve told many) words = (pairs : List Pair) × (length pairs ≡ many) × AskFor (serve (option_map (λ s. s.now) told) pairs) words
+Commands (command.Count name) words = AskFor (count name.now) words
 
 -- So many ends are needed: standard input and output, and one for each pair of files.
 abbrev pub ends_of : Command → ℕ
 ends_of command.List = 1
-ends_of (command.Serve told count) = count + 1
+ends_of (command.Serve told many) = many + 1
+ends_of (command.Count name) = 1

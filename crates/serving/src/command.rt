@@ -4,7 +4,13 @@ ghost use Rattle.outside.specs.declared.end.End.{End};
 ghost use Rattle.serving.specs.Runs.{EndsBy, status_of};
 ghost use Rattle.serving.specs.Services.{view_of, ServesBy, HasNotBegun, AreUntouched, serving_status};
 ghost use Rattle.serving.specs.Usages.{IsUsage};
-ghost use Rattle.serving.specs.Words.{Pair, AskFor, AskForPlain, serve as served};
+ghost use Rattle.serving.specs.Counts.{counting_status};
+ghost use Rattle.serving.specs.Words.{Pair, AskFor, AskForPlain, list as listed, serve as served, count as counted};
+ghost use Rattle.counting.specs.Counted.{IsFaultOf};
+ghost use Rattle.counting.specs.Runs.{CountsBy, IsSilent};
+ghost use Rattle.counting.specs.declared.counting.Counting.{Counting};
+ghost use Rattle.counting.specs.declared.fault.CountFault.{CountFault};
+ghost use Rattle.outside.specs.declared.shelf.HeldFile.{HeldFile};
 ghost use Rattle.sheets.specs.Sheets.{IsSheet};
 ghost use Rattle.serving.specs.declared.status.Ending.{Ending};
 ghost use Rattle.serving.specs.declared.status.Serving.{Serving};
@@ -14,7 +20,8 @@ ghost use Rattle.terms.specs.declared.parts.Parts.{Parts};
 use crate::list::write_list;
 use crate::service::serve;
 use crate::status::{Ending, Status};
-use crate::words::{Command, read_command};
+use crate::words::{Command, counted_start, read_command};
+use counting::count;
 use outside::{End, ReadFault, Shelf, Sink, Source, WriteFault, read_up_to};
 use sheets::{SheetFault, read_sheet};
 use std::alloc::Global;
@@ -48,36 +55,53 @@ fn list<S: Source, K: Sink, H: Shelf>(alloc: Global, end: &mut End<S, K, H>) -> 
     }
 }
 
-/// Runs a command other than `serve` over one end: `list` reads a sheet from its source and writes its list to its sink.
-/// It waits for nobody. The codes are those of `run`.
+/// Runs a command other than `serve` over one end: `list` reads a sheet from its source and writes its list to its sink;
+/// `count` loads a start text and the class files that it names from its shelf, and writes the lines of their counts to
+/// its sink. It waits for nobody. The codes are those of `run`.
 pub fn run_plain<S: Source, K: Sink, H: Shelf>(
     alloc: Global,
     words: &[String],
     end: &mut End<S, K, H>,
 ) -> Status
     requires plain { AskForPlain (map string_bytes words.now) }
-    ensures ending { (ending : Ending) × (result ≡ status_of ending) × EndsBy ending (S.left end.old.source) (S.left end.new.source) (K.written end.old.sink) (K.written end.new.sink)
-        (S.faults end.old.source) (S.faults end.new.source) (K.faults end.old.sink) (K.faults end.new.sink) }
+    ensures ending { AskFor listed (map string_bytes words.now)
+        → ((ending : Ending) × (result ≡ status_of ending) × EndsBy ending (S.left end.old.source) (S.left end.new.source) (K.written end.old.sink) (K.written end.new.sink)
+        (S.faults end.old.source) (S.faults end.new.source) (K.faults end.old.sink) (K.faults end.new.sink)) }
+    ensures counting { (start : List ℕ) → AskFor (counted start) (map string_bytes words.now)
+        → ((way : Counting) × (result ≡ counting_status way) × CountsBy way (H.holds end.old.shelf) start (K.written end.old.sink) (K.written end.new.sink)
+        (H.faults end.old.shelf) (H.faults end.new.shelf) (K.faults end.old.sink) (K.faults end.new.sink)
+        × (IsSilent way → end.new.sink ≡ end.old.sink)) }
     ensures fits { result.code ≢ 2 }
-    ensures complete { (bytes : List ℕ) (parts : Parts) → S.left end.old.source ≡ Some bytes → IsSheet bytes parts
+    ensures complete { (bytes : List ℕ) (parts : Parts) → AskFor listed (map string_bytes words.now) → S.left end.old.source ≡ Some bytes → IsSheet bytes parts
         → ¬ (Rose (S.faults end.old.source) (S.faults end.new.source)) → ¬ (Rose (K.faults end.old.sink) (K.faults end.new.sink))
         → (result.code ≡ 0) ⊎ (result.code ≡ 6) }
-    ensures shelf { end.new.shelf ≡ end.old.shelf }
-    ensures later { (S.faults end.old.source ≤ S.faults end.new.source) × (K.faults end.old.sink ≤ K.faults end.new.sink) }
+    ensures complete_count { (files : List HeldFile) (start : List ℕ) → AskFor (counted start) (map string_bytes words.now) → H.holds end.old.shelf ≡ Some files
+        → ((fault : CountFault) → IsFaultOf files start fault → ⊥)
+        → ¬ (Rose (H.faults end.old.shelf) (H.faults end.new.shelf)) → ¬ (Rose (K.faults end.old.sink) (K.faults end.new.sink))
+        → (result.code ≡ 0) ⊎ (result.code ≡ 6) }
+    ensures source { (start : List ℕ) → AskFor (counted start) (map string_bytes words.now) → end.new.source ≡ end.old.source }
+    ensures shelf { AskFor listed (map string_bytes words.now) → end.new.shelf ≡ end.old.shelf }
+    ensures shelf_holds { H.holds end.new.shelf ≡ H.holds end.old.shelf }
+    ensures later { (S.faults end.old.source ≤ S.faults end.new.source) × (K.faults end.old.sink ≤ K.faults end.new.sink) × (H.faults end.old.shelf ≤ H.faults end.new.shelf) }
 {
-    Status::of(list(alloc, end))
+    match counted_start(words) {
+        Some(start) => Status::of_counting(count(alloc, start, end)),
+        None => Status::of(list(alloc, end)),
+    }
 }
 
 /// Does all that the program does: looks at the words and then at the number of ends, and serves what the words ask for
-/// over the ends. `list` needs one end, reads a sheet from its source and writes its list to its sink. `serve` needs one
-/// end more than it has pairs. It answers an editor at each end, each in a thread, all over one list of published
-/// changes, from the class files of a start text on, which it loads from the shelf of the first end before anything is
-/// read; it may wait. The ends stay as many, in their order. The code is 0 where all was read and written, and a session
-/// was shut down before its exit; 1 where it wasn't; 2 where the words or the ends don't fit; 3 where the input is no
-/// sheet (its line and cause) or its frames are wrong (the place and the number of the fault); 4 or 5 where the source,
-/// or the first end's shelf before the sessions, or the sink failed; 6 where memory was wanting; 7 where a session needs
-/// a byte past the first 2^40; 8 where the start text is wrong (its line and the number of the cause). Of several
-/// sessions the greatest code is answered, with the first end that has it; else the end is 0.
+/// over the ends. `list` needs one end, reads a sheet from its source and writes its list to its sink. `count` needs one
+/// end, loads the class files that a start text names from its shelf, reads nothing, and writes a line for each key that
+/// they use to its sink. `serve` needs one end more than it has pairs. It answers an editor at each end, each in a
+/// thread, all over one list of published changes, from the class files of a start text on, which it loads from the
+/// shelf of the first end before anything is read; it may wait. The ends stay as many, in their order. The code is 0
+/// where all was read and written, and a session was shut down before its exit; 1 where it wasn't; 2 where the words or
+/// the ends don't fit; 3 where the input is no sheet (its line and cause) or its frames are wrong (the place and the
+/// number of the fault); 4 or 5 where the source, or the shelf of `count` or of the first end before the sessions, or
+/// the sink failed; 6 where memory was wanting; 7 where a session needs a byte past the first 2^40; 8 where the start
+/// text is wrong (its line and the number of the cause). Of several sessions the greatest code is answered, with the
+/// first end that has it; else the end is 0.
 pub fn run<
     S: Source + Drop + Send,
     K: Sink + Drop + Send,
@@ -95,6 +119,10 @@ pub fn run<
         (start : Option (List ℕ)) (pairs : List Pair) → AskFor (served start pairs) (map string_bytes words.now) → length ends.old.items ≡ suc (length pairs)
         → ((way : Serving) × (result ≡ serving_status way) × ServesBy way start (map seen ends.old.items) (map seen ends.new.items)
         × (HasNotBegun way → AreUntouched ends.old.items ends.new.items)) }
+    ensures counting { (start : List ℕ) → AskFor (counted start) (map string_bytes words.now) → length ends.old.items ≡ 1
+        → ((way : Counting) × (result ≡ counting_status way) × ((e f : End S K H) → ends.old.items ≡ e ∷ [] → ends.new.items ≡ f ∷ []
+        → CountsBy way (H.holds e.shelf) start (K.written e.sink) (K.written f.sink) (H.faults e.shelf) (H.faults f.shelf) (K.faults e.sink) (K.faults f.sink)
+        × (IsSilent way → f.sink ≡ e.sink) × (f.source ≡ e.source))) }
     ensures kept { length ends.new.items ≡ length ends.old.items }
     ensures faults_rise { (i : ℕ) (e f : End S K H) → slice_get ends.old.items i ≡ Some e → slice_get ends.new.items i ≡ Some f
         → (S.faults e.source ≤ S.faults f.source) × (K.faults e.sink ≤ K.faults f.sink) × (H.faults e.shelf ≤ H.faults f.shelf) }
@@ -105,6 +133,10 @@ pub fn run<
     ensures complete { (e f : End S K H) (bytes : List ℕ) (parts : Parts) → ends.old.items ≡ e ∷ [] → ends.new.items ≡ f ∷ []
         → map string_bytes words.now ≡ codes "list" ∷ [] → S.left e.source ≡ Some bytes → IsSheet bytes parts
         → ¬ (Rose (S.faults e.source) (S.faults f.source)) → ¬ (Rose (K.faults e.sink) (K.faults f.sink))
+        → (result.code ≡ 0) ⊎ (result.code ≡ 6) }
+    ensures complete_count { (e f : End S K H) (files : List HeldFile) (start : List ℕ) → ends.old.items ≡ e ∷ [] → ends.new.items ≡ f ∷ []
+        → AskFor (counted start) (map string_bytes words.now) → H.holds e.shelf ≡ Some files → ((fault : CountFault) → IsFaultOf files start fault → ⊥)
+        → ¬ (Rose (H.faults e.shelf) (H.faults f.shelf)) → ¬ (Rose (K.faults e.sink) (K.faults f.sink))
         → (result.code ≡ 0) ⊎ (result.code ≡ 6) }
 {
     let command = match read_command(words) {
@@ -117,5 +149,6 @@ pub fn run<
     match command {
         Command::List => run_plain(alloc, words, &mut ends[0]),
         Command::Serve { start, pairs: _ } => Status::of_serving(serve(rt, alloc, start, ends)),
+        Command::Count { start: _ } => run_plain(alloc, words, &mut ends[0]),
     }
 }

@@ -1,6 +1,7 @@
-// What the program does: it reads a sheet, an environment written as text, and writes its list, or serves editors, each
-// in a thread. The main definitions are `EndsBy` and `ServesBy`: what was read and written, by how a run ended; `AskFor`
-// says what the words ask for. It stands on `listing` over `reconstruction`, `sheets`, `terms`, `lists`, on `sessions` and
+// What the program does: it reads a sheet, an environment written as text, and writes its list; or serves editors, each
+// in a thread; or counts the uses in the class files of a start text. The main definitions are `EndsBy` and `ServesBy`:
+// what was read and written, by how a run ended (that of a count is `CountsBy` of `counting`); `AskFor` says what the
+// words ask for. It stands on `listing` over `reconstruction`, `sheets`, `terms`, `lists`, on `sessions`, `counting` and
 // `start_text`, and on `outside`.
 #![tactic(auto)]
 

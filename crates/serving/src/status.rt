@@ -1,7 +1,9 @@
 ghost use Rattle.std.specs.Prelude.{◌≡◌};
 ghost use Rattle.serving.specs.Runs.{status_of};
+ghost use Rattle.serving.specs.Counts.{counting_status};
 ghost use Rattle.serving.specs.Services.{Tells, serving_status};
 
+use counting::Counting;
 use sessions::Ended;
 use start_text::StartFault;
 
@@ -121,6 +123,25 @@ impl Status {
             },
             Serving::ShelfFault => Status::plain(4),
             Serving::OutOfMemory => Status::plain(6),
+        }
+    }
+
+    /// The status of a run of `count`.
+    #[tactic(auto, unfolding(crate::specs::Counts::counting_status))]
+    pub fn of_counting(counting: Counting) -> Status
+        ensures { result ≡ counting_status counting }
+    {
+        match counting {
+            Counting::Whole => Status::plain(0),
+            Counting::NotStarted(line, cause) => Status {
+                code: 8,
+                end: 0,
+                place: line as u64,
+                cause,
+            },
+            Counting::ShelfFault => Status::plain(4),
+            Counting::WriteFault => Status::plain(5),
+            Counting::OutOfMemory => Status::plain(6),
         }
     }
 }

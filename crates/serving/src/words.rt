@@ -1,5 +1,5 @@
 ghost use Rattle.std.specs.Prelude.{◌≡◌, ◌≢◌, ◌∷◌, ◌++◌, ◌+◌, ◌<◌, ◌^◌, ◌↔◌, List, [], ℕ, false, true, map, string_bytes, codes, MatchOption, MatchResult, IfOk, IfErr, IsTrue};
-ghost use Rattle.serving.specs.Words.{IsFileName, IsPair, Pair, Asked, list, AskFor, Commands, IsFirstWrong, ends_of, pairs_asked};
+ghost use Rattle.serving.specs.Words.{IsFileName, IsPair, Pair, Asked, list, count, AskFor, AskForPlain, Commands, IsFirstWrong, ends_of, pairs_asked};
 ghost use Rattle.serving.specs.Scanned.{Scanned, Takes, Reads, names_in, named, RefusesWords};
 
 use json_rpc::Refused;
@@ -13,6 +13,8 @@ pub enum Command<'a> {
     /// Serve editors: from the class files that a start text names, where one is given, and over so many pairs of files
     /// beside standard input and output.
     Serve { start: Option<&'a str>, pairs: u32 },
+    /// Count the uses in the class files that a start text names.
+    Count { start: &'a str },
 }
 
 impl Command<'_> {
@@ -23,6 +25,7 @@ impl Command<'_> {
         match self {
             Command::List => 1,
             Command::Serve { start: _, pairs } => *pairs as usize + 1,
+            Command::Count { start: _ } => 1,
         }
     }
 }
@@ -239,24 +242,91 @@ fn read_serve(rest: &[String]) -> Result<Command<'_>, UsageFault>
     }
 }
 
-/// A command other than `serve`, by its first word and the words after it: `list`, and no word after it.
-fn read_plain(first: &str, rest: &[String]) -> Result<(), UsageFault>
-    requires { first.now ≢ codes "serve" }
+/// `list`, with the words after it, of which there is none.
+fn read_list(rest: &[String]) -> Result<Command<'_>, UsageFault>
     ensures { MatchResult result
-        (λ _. AskFor list (first.now ∷ map string_bytes rest.now))
-        (λ fault. IsFirstWrong (first.now ∷ map string_bytes rest.now) fault.word) }
+        (λ command. Commands command (codes "list" ∷ map string_bytes rest.now))
+        (λ fault. IsFirstWrong (codes "list" ∷ map string_bytes rest.now) fault.word) }
 {
-    if first != "list" {
-        return Err(UsageFault { word: 0 });
-    }
     if !rest.is_empty() {
         return Err(UsageFault { word: 1 });
     }
-    Ok(())
+    Ok(Command::List)
 }
 
-/// What the words after the program's name ask for: `list`, or `serve` with `--start FILE` or `--start=FILE` at most
-/// once and at most 63 pairs `IN=OUT`, in any order. The name of the start text is borrowed from its word.
+/// `count`, with the words after `--start`: the name of the start text and nothing else.
+fn read_name(rest: &[String]) -> Result<Command<'_>, UsageFault>
+    ensures { MatchResult result
+        (λ command. Commands command (codes "count" ∷ codes "--start" ∷ map string_bytes rest.now))
+        (λ fault. IsFirstWrong (codes "count" ∷ codes "--start" ∷ map string_bytes rest.now) fault.word) }
+{
+    let Some((file, after)) = rest.split_first() else {
+        return Err(UsageFault { word: 2 });
+    };
+    if !is_file_name(file.as_str()) {
+        return Err(UsageFault { word: 2 });
+    }
+    if !after.is_empty() {
+        return Err(UsageFault { word: 3 });
+    }
+    Ok(Command::Count {
+        start: file.as_str(),
+    })
+}
+
+/// `count`, with the name after `--start=` and the words after that, of which there is none.
+fn read_joined<'a>(file: &'a str, after: &[String]) -> Result<Command<'a>, UsageFault>
+    ensures { MatchResult result
+        (λ command. Commands command (codes "count" ∷ (codes "--start=" ++ file.now) ∷ map string_bytes after.now))
+        (λ fault. IsFirstWrong (codes "count" ∷ (codes "--start=" ++ file.now) ∷ map string_bytes after.now) fault.word) }
+{
+    if !is_file_name(file) {
+        return Err(UsageFault { word: 1 });
+    }
+    if !after.is_empty() {
+        return Err(UsageFault { word: 2 });
+    }
+    Ok(Command::Count { start: file })
+}
+
+/// `count`, with the words after it.
+fn read_count(rest: &[String]) -> Result<Command<'_>, UsageFault>
+    ensures { MatchResult result
+        (λ command. Commands command (codes "count" ∷ map string_bytes rest.now))
+        (λ fault. IsFirstWrong (codes "count" ∷ map string_bytes rest.now) fault.word) }
+{
+    let Some((option, after)) = rest.split_first() else {
+        return Err(UsageFault { word: 1 });
+    };
+    if option.as_str() == "--start" {
+        return read_name(after);
+    }
+    match option.as_str().strip_prefix("--start=") {
+        Some(file) => read_joined(file, after),
+        None => Err(UsageFault { word: 1 }),
+    }
+}
+
+/// A command other than `serve`, by its first word and the words after it.
+fn read_plain<'a>(first: &str, rest: &'a [String]) -> Result<Command<'a>, UsageFault>
+    requires { first.now ≢ codes "serve" }
+    ensures command { MatchResult result
+        (λ command. Commands command (first.now ∷ map string_bytes rest.now))
+        (λ fault. IsFirstWrong (first.now ∷ map string_bytes rest.now) fault.word) }
+    ensures no_pairs { IfOk result (λ _. (asked : Asked) × AskFor asked (first.now ∷ map string_bytes rest.now) × ([] ≡ pairs_asked asked)) }
+{
+    if first == "list" {
+        return read_list(rest);
+    }
+    if first == "count" {
+        return read_count(rest);
+    }
+    Err(UsageFault { word: 0 })
+}
+
+/// What the words after the program's name ask for: `list`; `serve` with `--start FILE` or `--start=FILE` at most once
+/// and at most 63 pairs `IN=OUT`, in any order; or `count` with `--start FILE` or `--start=FILE`. The name of the start
+/// text is borrowed from its word.
 pub fn read_command(words: &[String]) -> Result<Command<'_>, UsageFault>
     ensures command { MatchResult result
         (λ command. Commands command (map string_bytes words.now))
@@ -268,8 +338,7 @@ pub fn read_command(words: &[String]) -> Result<Command<'_>, UsageFault>
     if first.as_str() == "serve" {
         return read_serve(rest);
     }
-    read_plain(first.as_str(), rest)?;
-    Ok(Command::List)
+    read_plain(first.as_str(), rest)
 }
 
 /// Keeps the names of a pair, where one was found.
@@ -327,7 +396,20 @@ pub fn client_names(
         return names_of(alloc, rest);
     }
     match read_plain(first.as_str(), rest) {
-        Ok(()) => Ok(Vec::new(alloc)),
+        Ok(_) => Ok(Vec::new(alloc)),
         Err(fault) => Err(Refused::Fault(fault)),
+    }
+}
+
+/// The start text that `count` names among words that don't ask for a server; None for `list`.
+pub(crate) fn counted_start(words: &[String]) -> Option<&str>
+    requires plain { AskForPlain (map string_bytes words.now) }
+    ensures { MatchOption result (AskFor list (map string_bytes words.now)) (λ start. AskFor (count start.now) (map string_bytes words.now)) }
+{
+    match read_command(words) {
+        Ok(Command::Count { start }) => Some(start),
+        Ok(Command::List) => None,
+        Ok(Command::Serve { start: _, pairs: _ }) => None,
+        Err(_) => None,
     }
 }

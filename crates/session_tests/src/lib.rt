@@ -8,6 +8,8 @@ mod board_tests;
 #[cfg(test)]
 mod client_tests;
 #[cfg(test)]
+mod count_tests;
+#[cfg(test)]
 mod frame_tests;
 #[cfg(test)]
 mod hub_tests;

@@ -1,14 +1,15 @@
-use Rattle.std.proofs.Common.{rules, tests, ◌≡◌, ◌≢◌, ◌⊎◌, ◌∙◌, sym, refl, ap, subst, map, length, get_or, option_map, Some}
+use Rattle.std.proofs.Common.{rules, tests, ◌≡◌, ◌≢◌, inr, ◌∙◌, sym, refl, ap, subst, map, length, get_or, option_map, Some}
 use Rattle.std.specs.Prelude.{string_bytes, slice_set}
 use Rattle.outside.specs.Causes.{Rose}
 use Rattle.std.proofs.lemmas.Option.{slice_get-map}
 use Rattle.serving.specs.Services.{view_of}
 use Rattle.serving.specs.Usages.{IsUsage}
-use Rattle.serving.specs.Words.{list, serve, Commands, ends_of}
+use Rattle.serving.specs.Words.{list, serve, count, AskFor, Commands, ends_of}
 use Rattle.serving.specs.declared.status.Status.{Status}
+use Rattle.serving.specs.declared.words.Command.TheVariants as command
 use Rattle.serving.proofs.Ends.{head-is}
 use Rattle.serving.proofs.Served.{no-usage-served}
-use Rattle.serving.proofs.Usages.{wrong-words, wrong-ends, is-wrong-ends, no-usage-fits, asked-of, ends-asked, serve-start}
+use Rattle.serving.proofs.Usages.{wrong-words, wrong-ends, is-wrong-ends, no-usage-fits, asked-of, ends-asked, serve-start, not-counted, count-not-served}
 use Rattle.serving.proofs.command.run.Goals as goal
 
 pub returns-in-Err-clause-usage : goal.returns-in-Err-clause-usage
@@ -24,6 +25,12 @@ returns-in-Err-clause-serving g c = λ start pairs words many. absurd (c.in-Err.
 
 pub returns-in-Err-clause-complete : goal.returns-in-Err-clause-complete
 returns-in-Err-clause-complete g c = λ e f bytes parts before after words left sheet source sink. absurd (c.in-Err.ensures.command.nothing list words)
+
+pub returns-in-Err-clause-counting : goal.returns-in-Err-clause-counting
+returns-in-Err-clause-counting g c = λ start words one. absurd (c.in-Err.ensures.command.nothing (count start) words)
+
+pub returns-in-Err-clause-complete_count : goal.returns-in-Err-clause-complete_count
+returns-in-Err-clause-complete_count g c = λ e f files start before after words held sound shelf sink. absurd (c.in-Err.ensures.command.nothing (count start) words)
 
 pub returns-then-len-ends-clause-usage : goal.returns-then-len-ends-clause-usage
 returns-then-len-ends-clause-usage g c = λ status u.
@@ -55,6 +62,20 @@ returns-then-len-ends-clause-serving g c = λ start pairs words many.
     let other : n ≢ ends_of c.in-Ok.command = search (rules, tests) in
     absurd (other (many ∙ sym (ends-asked c.in-Ok.command ws (serve start pairs) h words)))
 
+pub returns-then-len-ends-clause-counting : goal.returns-then-len-ends-clause-counting
+returns-then-len-ends-clause-counting g c = λ start words one.
+    let ws = map string_bytes c.args.words.now in
+    let h : Commands c.in-Ok.command ws = search rules in
+    let other : length c.args.ends.now.items ≢ ends_of c.in-Ok.command = search (rules, tests) in
+    absurd (other (one ∙ sym (ends-asked c.in-Ok.command ws (count start) h words)))
+
+pub returns-then-len-ends-clause-complete_count : goal.returns-then-len-ends-clause-complete_count
+returns-then-len-ends-clause-complete_count g c = λ e f files start before after words held sound shelf sink.
+    let ws = map string_bytes c.args.words.now in
+    let h : Commands c.in-Ok.command ws = search rules in
+    let other : length c.args.ends.now.items ≢ ends_of c.in-Ok.command = search (rules, tests) in
+    absurd (other (ap length before ∙ sym (ends-asked c.in-Ok.command ws (count start) h words)))
+
 pub returns-in-List-clause-usage : goal.returns-in-List-clause-usage
 returns-in-List-clause-usage g c = λ status u.
     let ws = map string_bytes c.args.words.now in
@@ -73,7 +94,17 @@ returns-in-List-clause-complete g c = λ e f bytes parts before after words left
     let told : g.S.Source.left was.source ≡ Some bytes = ap (λ x. g.S.Source.left x.source) old ∙ left in
     let steady : ¬ (Rose (g.S.Source.faults was.source) (g.S.Source.faults is.source)) = rw (old, new) source in
     let taken : ¬ (Rose (g.K.Sink.faults was.sink) (g.K.Sink.faults is.sink)) = rw (old, new) sink in
-    c.run_plain.ensures.complete bytes parts told sheet steady taken
+    c.run_plain.ensures.complete bytes parts words told sheet steady taken
+
+pub returns-in-List-clause-counting : goal.returns-in-List-clause-counting
+returns-in-List-clause-counting g c = λ start words one.
+    let h : AskFor list (map string_bytes c.args.words.now) = search rules in
+    absurd (not-counted (map string_bytes c.args.words.now) start h words)
+
+pub returns-in-List-clause-complete_count : goal.returns-in-List-clause-complete_count
+returns-in-List-clause-complete_count g c = λ e f files start before after words held sound shelf sink.
+    let h : AskFor list (map string_bytes c.args.words.now) = search rules in
+    absurd (not-counted (map string_bytes c.args.words.now) start h words)
 
 pub returns-in-Serve-clause-usage : goal.returns-in-Serve-clause-usage
 returns-in-Serve-clause-usage g c = λ status u.
@@ -108,3 +139,75 @@ returns-in-Serve-clause-shelf_holds g c = λ i e f at_e at_f.
     let seen = view_of g.S.Source.left g.K.Sink.written g.H.Shelf.holds g.S.Source.faults g.K.Sink.faults g.H.Shelf.faults in
     let l = c.serve.ensures.lasts.each i (seen e) (seen f) (slice_get-map seen c.args.ends.now.items i ∙ ap (option_map seen) at_e) (slice_get-map seen c.serve.new.ends.items i ∙ ap (option_map seen) at_f) in
     l.held
+
+pub returns-in-Serve-clause-counting : goal.returns-in-Serve-clause-counting
+returns-in-Serve-clause-counting g c = λ start words one.
+    let ws = map string_bytes c.args.words.now in
+    let h : Commands c.in-Ok.command ws = search rules in
+    let told : Commands (command.Serve c.in-Serve.start _) ws = subst (λ x. Commands x ws) c.in-Serve.is h in
+    absurd (count-not-served ws start _ _ words told.2)
+
+pub returns-in-Serve-clause-complete_count : goal.returns-in-Serve-clause-complete_count
+returns-in-Serve-clause-complete_count g c = λ e f files start before after words held sound shelf sink.
+    let ws = map string_bytes c.args.words.now in
+    let h : Commands c.in-Ok.command ws = search rules in
+    let told : Commands (command.Serve c.in-Serve.start _) ws = subst (λ x. Commands x ws) c.in-Serve.is h in
+    absurd (count-not-served ws start _ _ words told.2)
+
+pub run_plain-requires-in-Count : goal.run_plain-requires-in-Count
+run_plain-requires-in-Count g c =
+    let h : AskFor (count c.in-Count.start.now) (map string_bytes c.args.words.now) = search rules in
+    record { plain = inr (c.in-Count.start.now, h) }
+
+pub returns-in-Count-clause-usage : goal.returns-in-Count-clause-usage
+returns-in-Count-clause-usage g c = λ status u.
+    let ws = map string_bytes c.args.words.now in
+    let n = length c.args.ends.now.items in
+    let h : Commands c.in-Ok.command ws = search rules in
+    let asked = asked-of c.in-Ok.command ws h in
+    let even : n ≡ ends_of c.in-Ok.command = search (rules, tests) in
+    absurd (no-usage-fits ws n asked.0 status asked.1 (even ∙ sym asked.2) u)
+
+pub returns-in-Count-clause-ending : goal.returns-in-Count-clause-ending
+returns-in-Count-clause-ending g c = λ words one.
+    let h : AskFor (count c.in-Count.start.now) (map string_bytes c.args.words.now) = search rules in
+    absurd (not-counted (map string_bytes c.args.words.now) _ words h)
+
+pub returns-in-Count-clause-serving : goal.returns-in-Count-clause-serving
+returns-in-Count-clause-serving g c = λ start pairs words many.
+    let h : AskFor (count c.in-Count.start.now) (map string_bytes c.args.words.now) = search rules in
+    absurd (count-not-served (map string_bytes c.args.words.now) _ start pairs h words)
+
+pub returns-in-Count-clause-counting : goal.returns-in-Count-clause-counting
+returns-in-Count-clause-counting g c = λ start words one.
+    let ran = c.run_plain-in-Count.ensures.counting start words in
+    let was = c.index_mut-in-Count.result.now in
+    let is = c.run_plain-in-Count.new.end in (
+      ran.0,
+      ran.1,
+      λ e f before after.
+          let old : was ≡ e = c.index_mut-in-Count.ensures.value ∙ ap (λ xs. get_or xs 0 was) before in
+          let new : is ≡ f = head-is is f (ap (λ xs. slice_set xs 0 is) (sym before) ∙ after) in
+          rw (← old, ← new) (ran.2, ran.3, c.run_plain-in-Count.ensures.source start words),
+    )
+
+pub returns-in-Count-clause-shelf_stays : goal.returns-in-Count-clause-shelf_stays
+returns-in-Count-clause-shelf_stays g c = λ i e f words.
+    let h : AskFor (count c.in-Count.start.now) (map string_bytes c.args.words.now) = search rules in
+    absurd (not-counted (map string_bytes c.args.words.now) _ words h)
+
+pub returns-in-Count-clause-complete : goal.returns-in-Count-clause-complete
+returns-in-Count-clause-complete g c = λ e f bytes parts before after words.
+    let h : AskFor (count c.in-Count.start.now) (map string_bytes c.args.words.now) = search rules in
+    absurd (not-counted (map string_bytes c.args.words.now) _ words h)
+
+pub returns-in-Count-clause-complete_count : goal.returns-in-Count-clause-complete_count
+returns-in-Count-clause-complete_count g c = λ e f files start before after words held sound shelf sink.
+    let was = c.index_mut-in-Count.result.now in
+    let is = c.run_plain-in-Count.new.end in
+    let old : was ≡ e = c.index_mut-in-Count.ensures.value ∙ ap (λ xs. get_or xs 0 was) before in
+    let new : is ≡ f = head-is is f (ap (λ xs. slice_set xs 0 is) (sym before) ∙ after) in
+    let holds : g.H.Shelf.holds was.shelf ≡ Some files = ap (λ x. g.H.Shelf.holds x.shelf) old ∙ held in
+    let steady : ¬ (Rose (g.H.Shelf.faults was.shelf) (g.H.Shelf.faults is.shelf)) = rw (old, new) shelf in
+    let taken : ¬ (Rose (g.K.Sink.faults was.sink) (g.K.Sink.faults is.sink)) = rw (old, new) sink in
+    c.run_plain-in-Count.ensures.complete_count files start words holds sound steady taken
