@@ -165,6 +165,8 @@
   (let* ((data (and (eq (car fault) 'jsonrpc-error) (alist-get 'jsonrpc-error-data (cddr fault))))
          (cause (plist-get data :cause)))
     (cond ((alist-get cause insynth--causes))
+          ((eql (alist-get 'jsonrpc-error-code (cdr-safe (cdr fault))) -32801)
+           "the class path has changed since, ask again")
           ((eq (car fault) 'jsonrpc-error)
            (format "refused: %s (%s, cause %s)" (alist-get 'jsonrpc-error-message (cddr fault))
                    (alist-get 'jsonrpc-error-code (cddr fault)) (or cause "none")))

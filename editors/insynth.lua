@@ -29,6 +29,7 @@ local CAUSES = {
   [5] = "the server's text of this file has no such line (:edit opens it anew)",
   [6] = "this list is closed, ask again",
 }
+local WITHDRAWN = -32801 -- the code of a page of a version that was withdrawn
 local CODES = {
   [1] = "it was closed before it was told to end",
   [2] = "the words of its call don't fit",
@@ -59,6 +60,9 @@ local function log_path()
 end
 
 local function words_of(fault)
+  if fault.code == WITHDRAWN then
+    return "the class path has changed since, ask again"
+  end
   local data = type(fault.data) == "table" and fault.data or {}
   return CAUSES[data.cause] or string.format("refused: %s (%s, cause %s)", fault.message, fault.code, data.cause or "none")
 end

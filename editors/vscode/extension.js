@@ -11,6 +11,8 @@ const CAUSES = {
   6: "this list is closed, ask again",
 };
 
+const WITHDRAWN = -32801; // the code of a page of a version that was withdrawn
+
 /** A connection to a running server. */
 class Server {
   constructor(program, words, log) {
@@ -71,7 +73,8 @@ class Server {
     const asked = this.waiting.get(id);
     this.waiting.delete(id);
     if (!asked) return;
-    if (error) asked.reject(new Error(CAUSES[error.data && error.data.cause] || `refused: ${error.message} (${error.code})`));
+    if (error && error.code === WITHDRAWN) asked.reject(new Error("the class path has changed since, ask again"));
+    else if (error) asked.reject(new Error(CAUSES[error.data && error.data.cause] || `refused: ${error.message} (${error.code})`));
     else asked.resolve(result);
   }
 
