@@ -40,7 +40,7 @@ class Client(Server):
 
     def __init__(self, child, source, sink, patience):
         self.child = Wire(child, source, sink)
-        self.held, self.number, self.patience = b"", 0, patience
+        self.held, self.number, self.patience, self.cursor = b"", 0, patience, None
 
     def begin(self):
         self.request("initialize", {"capabilities": {}})
@@ -49,6 +49,9 @@ class Client(Server):
 
     def complete(self):
         return self.request("textDocument/completion", {"textDocument": {"uri": USE}, "position": PLACE})
+
+    def open_list(self):
+        self.cursor = self.complete()[0]["result"]["insynth"]["cursor"]
 
     def command(self, name, argument):
         return self.request("workspace/executeCommand", {"command": name, "arguments": [argument]})
@@ -90,13 +93,12 @@ def at_once(found, call):
 
 
 def pages(client, until):
-    """How many pages of one item the client gets until then."""
-    cursor = client.complete()[0]["result"]["insynth"]["cursor"]
+    """How many pages of one item the client gets of its list until then."""
     count = 0
     while time.perf_counter() < until:
-        answer = client.command("insynth.page", {"cursor": cursor, "count": 1})[0]
+        answer = client.command("insynth.page", {"cursor": client.cursor, "count": 1})[0]
         if answer["result"]["insynth"]["last"]:
-            cursor = client.complete()[0]["result"]["insynth"]["cursor"]
+            client.open_list()
         count += 1
     return count
 
@@ -122,6 +124,7 @@ def measure(given, folder):
             raise SystemExit(f"clients: version {version} was published, and another one is listed")
     row("publication of one class", changes)
     row("another client's completion after it", after)
+    at_once(found[1:], Client.open_list)
     alone = pages(found[1], time.perf_counter() + given.seconds)
     taken, until = [], time.perf_counter() + given.seconds
     publisher = threading.Thread(target=published, args=(found[0], path, until, taken))
