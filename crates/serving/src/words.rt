@@ -4,6 +4,7 @@ ghost use Rattle.serving.specs.Scanned.{Scanned, Takes, Reads, names_in, named, 
 
 use json_rpc::Refused;
 use std::alloc::{AllocError, Global};
+use thiserror::Error;
 
 /// What the words of the command line ask for.
 #[derive(Clone, Copy, Debug, PartialEq, Eq)]
@@ -32,7 +33,8 @@ impl Command<'_> {
 
 /// Words that are no command: the number of the first word that can't stand there, or their count where one is
 /// missing. Words are counted from 0.
-#[derive(Clone, Copy, Debug, PartialEq, Eq)]
+#[derive(Clone, Copy, Debug, PartialEq, Eq, Error)]
+#[error("word {word} can't stand there")]
 pub struct UsageFault {
     pub word: u32,
 }
