@@ -66,7 +66,13 @@ type Row = (&'static str, u64, u64, (u8, u64, u32), &'static str);
 const ROWS: [Row; 8] = [
     ("", 0, 0, (0, 0, 0), ""),
     ("uses\n", 0, 0, (0, 0, 0), "1 java/lang/Object.<init>:()V\n"),
-    ("uses\nuses\n", 0, 0, (0, 0, 0), "2 java/lang/Object.<init>:()V\n"),
+    (
+        "uses\nuses\n",
+        0,
+        0,
+        (0, 0, 0),
+        "2 java/lang/Object.<init>:()V\n",
+    ),
     ("uses\n\nnone\n", 0, 0, (8, 3, 9), ""),
     ("uses\nstart\n", 0, 0, (8, 2, 11), ""),
     ("uses\nunknown\n", 0, 0, (8, 2, 20), ""),
@@ -90,9 +96,11 @@ fn counts_as_told<R: Threads + Wait + Sync>(
     let mut ends = vec![in alloc; end_of(alloc, text, load, write)?]?;
     let status = run(rt, alloc, words.as_slice(), &mut ends);
     match ends.pop() {
-        Some(end) => Ok(told(&status) == wanted
-            && end.sink.bytes.as_slice() == written.as_bytes()
-            && end.source.rest.len() == 6),
+        Some(end) => Ok(
+            told(&status) == wanted
+                && end.sink.bytes.as_slice() == written.as_bytes()
+                && end.source.rest.len() == 6,
+        ),
         None => Ok(false),
     }
 }
@@ -137,9 +145,17 @@ const WRONG: [(&[&str], u32); 11] = [
 #[test]
 fn words_of_count_are_read(rt: HostRuntime) -> Result<(), Fail> {
     let alloc = rt.alloc();
-    for texts in [&["count", "--start", "a=b"] as &[&str], &["count", "--start=a=b"]] {
+    for texts in [
+        &["count", "--start", "a=b"] as &[&str],
+        &["count", "--start=a=b"],
+    ] {
         let words = words_of(alloc, texts)?;
-        assert!(rt; matches!(read_command(words.as_slice()), Ok(Command::Count { start: "a=b" })));
+        assert!(rt;
+            matches!(
+                read_command(words.as_slice()),
+                Ok(Command::Count { start: "a=b" })
+            )
+        );
         assert!(rt; matches!(client_names(alloc, words.as_slice()), Ok(names) if names.is_empty()));
     }
     for (texts, wanted) in &WRONG {
