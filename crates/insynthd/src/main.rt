@@ -7,11 +7,12 @@ mod streams;
 
 use crate::streams::{Input, Output};
 use outside::{End, FileShelf, ReaderSource, WriterSink};
-use serving::{Refused, Status, client_names, run};
+use serving::{Refused, Status, UsageFault, client_names, run};
 use std::alloc::AllocError;
 use std::fs::File;
 use std::process::ExitCode;
 use std::{env, io};
+use usage::usage_text;
 
 /// The words after the program's name.
 fn words(rt: &HostRuntime) -> io::Result<Vec<String>> {
@@ -101,6 +102,19 @@ fn words_status(fault: &io::Error) -> Status {
     }
 }
 
+/// Prints which word can't stand there, and how the program is called. A text that finds no memory is left out.
+fn print_usage(rt: &HostRuntime, place: u64) {
+    let Ok(word) = u32::try_from(place) else {
+        return;
+    };
+    if let Ok(message) = (UsageFault { word }).to_string(rt.alloc()) {
+        let _printed = eprintln!(rt; "{message}");
+    }
+    if let Ok(text) = usage_text(rt.alloc()) {
+        let _printed = eprint!(rt; "{text}");
+    }
+}
+
 fn main(rt: HostRuntime) -> ExitCode {
     let status = match words(&rt) {
         Ok(words) => match ends_for(&rt, words.as_slice()) {
@@ -114,6 +128,9 @@ fn main(rt: HostRuntime) -> ExitCode {
             "insynthd: status {} end {} place {} cause {}",
             status.code, status.end, status.place, status.cause
         );
+    }
+    if status.code == 2 && status.cause == 1 {
+        print_usage(&rt, status.place);
     }
     ExitCode::from(status.code)
 }

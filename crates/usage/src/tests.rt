@@ -1,0 +1,34 @@
+use crate::usage_text;
+use std::test::*;
+
+const USAGE: &str = "Usage: insynthd <COMMAND>
+
+Commands:
+  list   Write the terms of the sheet on standard input, by weight
+  count  Write how often class files use each field, method and constructor
+  serve  Serve a client on standard input and output
+
+Write how often class files use each field, method and constructor
+
+Usage: insynthd count --start <FILE>
+
+Options:
+      --start <FILE>  Count in the class files whose paths this file names, one a line
+
+Serve a client on standard input and output
+
+Usage: insynthd serve [OPTIONS] [IN=OUT]...
+
+Arguments:
+  [IN=OUT]...  Serve a further client, which writes IN and reads OUT; at most 63
+
+Options:
+      --start <FILE>  Start with the class files whose paths this file names, one a line
+";
+
+#[test]
+fn the_usage_names_each_command_and_its_words(rt: HostRuntime) -> Result<(), Fail> {
+    let text = usage_text(rt.alloc())?;
+    assert!(rt; text.as_str() == USAGE, "{text}");
+    Ok(())
+}

@@ -1,0 +1,63 @@
+use clap::{Arg, ArgAction, Command};
+use std::alloc::{AllocError, Global};
+
+/// `list`.
+fn list_command<'a>(alloc: Global) -> Command<'a> {
+    Command::new(alloc, "list").about("Write the terms of the sheet on standard input, by weight")
+}
+
+/// `count --start FILE`.
+fn count_command<'a>(alloc: Global) -> Result<Command<'a>, AllocError> {
+    let start = Arg::new(alloc, "start")
+        .long("start")
+        .value_name("FILE")
+        .required(true)
+        .help("Count in the class files whose paths this file names, one a line");
+    Command::new(alloc, "count")
+        .about("Write how often class files use each field, method and constructor")
+        .arg(start)
+}
+
+/// `serve [--start FILE] [IN=OUT ..]`.
+fn serve_command<'a>(alloc: Global) -> Result<Command<'a>, AllocError> {
+    let start = Arg::new(alloc, "start")
+        .long("start")
+        .value_name("FILE")
+        .help("Start with the class files whose paths this file names, one a line");
+    let pairs = Arg::new(alloc, "IN=OUT").action(ArgAction::Append).help(
+        "Serve a further client, which writes IN and reads OUT; at most 63",
+    );
+    Command::new(alloc, "serve")
+        .about("Serve a client on standard input and output")
+        .arg(start)?
+        .arg(pairs)
+}
+
+/// A command by itself, with the program's name before its own and without an option that it hasn't.
+fn alone<'a>(command: Command<'a>, name: &str) -> Result<Command<'a>, AllocError> {
+    command.disable_help_flag(true).bin_name(name)
+}
+
+/// The program with its commands.
+fn program<'a>(alloc: Global) -> Result<Command<'a>, AllocError> {
+    Command::new(alloc, "insynthd")
+        .disable_help_flag(true)
+        .disable_help_subcommand(true)
+        .subcommand_required(true)
+        .subcommand(list_command(alloc))?
+        .subcommand(count_command(alloc)?)?
+        .subcommand(serve_command(alloc)?)
+}
+
+/// How the program is called: each command and what it does, and then the words of each that has some. It ends with a
+/// line feed.
+pub fn usage_text(alloc: Global) -> Result<String, AllocError> {
+    let mut text = program(alloc)?.render_help()?;
+    let count = alone(count_command(alloc)?, "insynthd count")?.render_help()?;
+    let serve = alone(serve_command(alloc)?, "insynthd serve")?.render_help()?;
+    text.push_str("\n")?;
+    text.push_str(count.as_str())?;
+    text.push_str("\n")?;
+    text.push_str(serve.as_str())?;
+    Ok(text)
+}
