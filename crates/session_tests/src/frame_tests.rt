@@ -16,9 +16,9 @@ const INITIALIZE_TO_30: (usize, &str) = (
     r#"{"jsonrpc":"2.0","id":1,"method":"initialize","params":{"initializationOptions":{"limit":30}}}"#,
 );
 
-const SHUTDOWN: (usize, &str) = (44, r#"{"jsonrpc":"2.0","id":2,"method":"shutdown"}"#);
+pub(crate) const SHUTDOWN: (usize, &str) = (44, r#"{"jsonrpc":"2.0","id":2,"method":"shutdown"}"#);
 
-const EXIT: (usize, &str) = (33, r#"{"jsonrpc":"2.0","method":"exit"}"#);
+pub(crate) const EXIT: (usize, &str) = (33, r#"{"jsonrpc":"2.0","method":"exit"}"#);
 
 const EARLY: (usize, &str) = (
     149,
@@ -119,7 +119,7 @@ pub(crate) const CAPABILITIES: (usize, &str) = (
 
 const NULL: (usize, &str) = (38, r#"{"id":3,"jsonrpc":"2.0","result":null}"#);
 
-const STOPPED: (usize, &str) = (38, r#"{"id":2,"jsonrpc":"2.0","result":null}"#);
+pub(crate) const STOPPED: (usize, &str) = (38, r#"{"id":2,"jsonrpc":"2.0","result":null}"#);
 
 const NO_JSON: (usize, &str) = (
     75,

@@ -12,6 +12,8 @@ mod count_tests;
 #[cfg(test)]
 mod frame_tests;
 #[cfg(test)]
+mod gated_tests;
+#[cfg(test)]
 mod hub_tests;
 #[cfg(test)]
 mod method_tests;

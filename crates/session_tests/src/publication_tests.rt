@@ -148,6 +148,15 @@ const PAGES_TOLD: [(&str, &str); 7] = [
     ),
 ];
 
+pub(crate) const USE_THRICE: &str =
+    r#"{"jsonrpc":"2.0","id":2,"method":"workspace/executeCommand","params":{"command":"insynth.publish","arguments":[{"counts":[["java/io/FileReader.<init>:(Ljava/lang/String;)V",3]]}]}}"#;
+
+pub(crate) const AFTER_USES: &str =
+    r#"{"jsonrpc":"2.0","id":3,"method":"textDocument/completion","params":{"textDocument":{"uri":"file:///Demo.java"},"position":{"line":3,"character":15}}}"#;
+
+pub(crate) const EIGHT: &str =
+    r#"{"id":3,"jsonrpc":"2.0","result":{"insynth":{"cursor":1,"from":0,"grown":8,"last":true,"version":2},"isIncomplete":false,"items":[{"detail":"426","label":"new FileReader(name)","sortText":"0000000000","textEdit":{"newText":"new FileReader(name)","range":{"end":{"character":15,"line":3},"start":{"character":15,"line":3}}}},{"detail":"621","label":"new FileReader(\"\")","sortText":"0000000001","textEdit":{"newText":"new FileReader(\"\")","range":{"end":{"character":15,"line":3},"start":{"character":15,"line":3}}}},{"detail":"1436","label":"new BufferedReader(new FileReader(name))","sortText":"0000000002","textEdit":{"newText":"new BufferedReader(new FileReader(name))","range":{"end":{"character":15,"line":3},"start":{"character":15,"line":3}}}},{"detail":"1631","label":"new BufferedReader(new FileReader(\"\"))","sortText":"0000000003","textEdit":{"newText":"new BufferedReader(new FileReader(\"\"))","range":{"end":{"character":15,"line":3},"start":{"character":15,"line":3}}}},{"detail":"2446","label":"new BufferedReader(new BufferedReader(new FileReader(name)))","sortText":"0000000004","textEdit":{"newText":"new BufferedReader(new BufferedReader(new FileReader(name)))","range":{"end":{"character":15,"line":3},"start":{"character":15,"line":3}}}},{"detail":"2641","label":"new BufferedReader(new BufferedReader(new FileReader(\"\")))","sortText":"0000000005","textEdit":{"newText":"new BufferedReader(new BufferedReader(new FileReader(\"\")))","range":{"end":{"character":15,"line":3},"start":{"character":15,"line":3}}}},{"detail":"3456","label":"new BufferedReader(new BufferedReader(new BufferedReader(new FileReader(name))))","sortText":"0000000006","textEdit":{"newText":"new BufferedReader(new BufferedReader(new BufferedReader(new FileReader(name))))","range":{"end":{"character":15,"line":3},"start":{"character":15,"line":3}}}},{"detail":"3651","label":"new BufferedReader(new BufferedReader(new BufferedReader(new FileReader(\"\"))))","sortText":"0000000007","textEdit":{"newText":"new BufferedReader(new BufferedReader(new BufferedReader(new FileReader(\"\"))))","range":{"end":{"character":15,"line":3},"start":{"character":15,"line":3}}}}]}}"#;
+
 /// A list after a count of uses was published.
 const USES_TOLD: [(&str, &str); 4] = [
     (
@@ -159,13 +168,10 @@ const USES_TOLD: [(&str, &str); 4] = [
         "",
     ),
     (
-        r#"{"jsonrpc":"2.0","id":2,"method":"workspace/executeCommand","params":{"command":"insynth.publish","arguments":[{"counts":[["java/io/FileReader.<init>:(Ljava/lang/String;)V",3]]}]}}"#,
+        USE_THRICE,
         r#"{"id":2,"jsonrpc":"2.0","result":{"version":2}}"#,
     ),
-    (
-        r#"{"jsonrpc":"2.0","id":3,"method":"textDocument/completion","params":{"textDocument":{"uri":"file:///Demo.java"},"position":{"line":3,"character":15}}}"#,
-        r#"{"id":3,"jsonrpc":"2.0","result":{"insynth":{"cursor":1,"from":0,"grown":8,"last":true,"version":2},"isIncomplete":false,"items":[{"detail":"426","label":"new FileReader(name)","sortText":"0000000000","textEdit":{"newText":"new FileReader(name)","range":{"end":{"character":15,"line":3},"start":{"character":15,"line":3}}}},{"detail":"621","label":"new FileReader(\"\")","sortText":"0000000001","textEdit":{"newText":"new FileReader(\"\")","range":{"end":{"character":15,"line":3},"start":{"character":15,"line":3}}}},{"detail":"1436","label":"new BufferedReader(new FileReader(name))","sortText":"0000000002","textEdit":{"newText":"new BufferedReader(new FileReader(name))","range":{"end":{"character":15,"line":3},"start":{"character":15,"line":3}}}},{"detail":"1631","label":"new BufferedReader(new FileReader(\"\"))","sortText":"0000000003","textEdit":{"newText":"new BufferedReader(new FileReader(\"\"))","range":{"end":{"character":15,"line":3},"start":{"character":15,"line":3}}}},{"detail":"2446","label":"new BufferedReader(new BufferedReader(new FileReader(name)))","sortText":"0000000004","textEdit":{"newText":"new BufferedReader(new BufferedReader(new FileReader(name)))","range":{"end":{"character":15,"line":3},"start":{"character":15,"line":3}}}},{"detail":"2641","label":"new BufferedReader(new BufferedReader(new FileReader(\"\")))","sortText":"0000000005","textEdit":{"newText":"new BufferedReader(new BufferedReader(new FileReader(\"\")))","range":{"end":{"character":15,"line":3},"start":{"character":15,"line":3}}}},{"detail":"3456","label":"new BufferedReader(new BufferedReader(new BufferedReader(new FileReader(name))))","sortText":"0000000006","textEdit":{"newText":"new BufferedReader(new BufferedReader(new BufferedReader(new FileReader(name))))","range":{"end":{"character":15,"line":3},"start":{"character":15,"line":3}}}},{"detail":"3651","label":"new BufferedReader(new BufferedReader(new BufferedReader(new FileReader(\"\"))))","sortText":"0000000007","textEdit":{"newText":"new BufferedReader(new BufferedReader(new BufferedReader(new FileReader(\"\"))))","range":{"end":{"character":15,"line":3},"start":{"character":15,"line":3}}}}]}}"#,
-    ),
+    (AFTER_USES, EIGHT),
 ];
 
 /// The second load fails, and later ones don't.
@@ -184,7 +190,7 @@ const READ_FAULT_TOLD: [(&str, &str); 3] = [
     ),
 ];
 
-fn file(alloc: Global, name: &str, bytes: &[u8]) -> Result<HeldFile, AllocError> {
+pub(crate) fn file(alloc: Global, name: &str, bytes: &[u8]) -> Result<HeldFile, AllocError> {
     Ok(HeldFile {
         name: Text::from_str(alloc, name)?,
         bytes: Items::from_slice(alloc, bytes)?,

@@ -1,6 +1,6 @@
 use lists::Items;
 use outside::{End, FaultPlan, MemSink, MemSource, SteadyShelf, SteadySink, SteadySource};
-use serving::{Status, run};
+use serving::{Command, Status, read_command, run, run_plain};
 use std::alloc::{AllocError, Global};
 use std::sync::Wait;
 use std::thread::Threads;
@@ -173,5 +173,41 @@ fn words_and_ends_are_looked_at(rt: HostRuntime) -> Result<(), AllocError> {
             assert!(rt; end.source.rest.len() == 7 && end.sink.taken == 0);
         }
     }
+    Ok(())
+}
+
+/// The status of a command other than `serve`, which is run without a handle.
+fn plain_status(
+    alloc: Global,
+    words: &[String],
+    end: &mut End<MemSource<'_>, MemSink, SteadyShelf>,
+) -> Option<Status> {
+    match read_command(words) {
+        Ok(Command::List) => Some(run_plain(alloc, words, end)),
+        _ => None,
+    }
+}
+
+#[test]
+fn a_sheet_is_listed_without_a_handle(rt: HostRuntime) -> Result<(), AllocError> {
+    let alloc = rt.alloc();
+    let sheet =
+        "insynth sheet 1\ntype int\ntype long\nsub int long\ndecl 5 int name x\ndecl 20 int call f long\ngoal long\nlimit 75";
+    let mut end = End {
+        source: MemSource::new(sheet.as_bytes(), FaultPlan::none(alloc)),
+        sink: MemSink::new(alloc, FaultPlan::none(alloc)),
+        shelf: SteadyShelf {
+            files: Items::new(alloc),
+        },
+    };
+    let words = vec![in alloc; String::from_str(alloc, "list")?]?;
+    assert_eq!(rt;
+        plain_status(alloc, words.as_slice(), &mut end),
+        Some(status(0, 0, 0))
+    );
+    assert_eq!(rt;
+        written(end).as_slice(),
+        b"15 x\n45 f(x)\n75 f(f(x))\n".as_slice()
+    );
     Ok(())
 }

@@ -1,4 +1,7 @@
-use crate::frame_tests::{CAPABILITIES, INITIALIZE, framed};
+use crate::frame_tests::{CAPABILITIES, EXIT, INITIALIZE, SHUTDOWN, STOPPED, framed};
+use crate::gated_tests::started_shelf;
+use crate::version_tests::{AFTER_READER, DEMO};
+use crate::word_tests::words_of;
 use lists::{Items, Text};
 use outside::{End, FaultPlan, HeldFile, MemShelf, MemSink, MemSource};
 use serving::{Status, run};
@@ -7,17 +10,11 @@ use std::sync::Wait;
 use std::test::Fail;
 use std::thread::Threads;
 
-/// A publication of nothing, and `shutdown` and `exit`.
+/// A publication of nothing.
 const NOTHING: (usize, &str) = (
     124,
     r#"{"jsonrpc":"2.0","id":3,"method":"workspace/executeCommand","params":{"command":"insynth.publish","arguments":[{"put":[]}]}}"#,
 );
-
-const SHUTDOWN: (usize, &str) = (44, r#"{"jsonrpc":"2.0","id":2,"method":"shutdown"}"#);
-
-const EXIT: (usize, &str) = (33, r#"{"jsonrpc":"2.0","method":"exit"}"#);
-
-const STOPPED: (usize, &str) = (38, r#"{"id":2,"jsonrpc":"2.0","result":null}"#);
 
 type MemEnd<'a> = End<MemSource<'a>, MemSink, MemShelf>;
 
@@ -155,6 +152,121 @@ fn each_publication_has_its_own_version(rt: HostRuntime) -> Result<(), Fail> {
             }
         }
         assert_eq!(rt; found, 1);
+    }
+    Ok(())
+}
+
+// The words alone, and sessions without any input.
+#[test]
+fn a_server_of_two_ends_may_have_nothing_to_do(rt: HostRuntime) -> Result<(), Fail> {
+    let alloc = rt.alloc();
+    let table: [(&[&str], Status); 3] = [
+        (&["serve", "in=out"], status(1, 0)),
+        (
+            &["serve", "x"],
+            Status {
+                code: 2,
+                end: 0,
+                place: 1,
+                cause: 1,
+            },
+        ),
+        (
+            &["serve", "in=out", "--start", "nowhere"],
+            Status {
+                code: 8,
+                end: 0,
+                place: 0,
+                cause: 9,
+            },
+        ),
+    ];
+    for (texts, wanted) in table {
+        let words = words_of(alloc, texts)?;
+        let mut ends = Vec::new(alloc);
+        for _ in 0..2 {
+            ends.push(end_of(alloc, b"", 0, 0)?)?;
+        }
+        assert_eq!(rt; run(&rt, alloc, words.as_slice(), &mut ends), wanted);
+        assert!(rt; ends.iter().all(|end| end.sink.bytes.is_empty()));
+    }
+    Ok(())
+}
+
+/// The number that a text begins with.
+fn number_at(text: &str) -> u32 {
+    let mut number: u32 = 0;
+    for byte in text.as_bytes() {
+        if !byte.is_ascii_digit() {
+            return number;
+        }
+        number = number
+            .saturating_mul(10)
+            .saturating_add(u32::from(*byte - b'0'));
+    }
+    number
+}
+
+/// The versions that replies tell, in their order.
+fn versions_in(alloc: Global, replies: &str) -> Result<Vec<u32>, AllocError> {
+    let mut versions = Vec::new(alloc);
+    let mut rest = replies;
+    for _ in 0..replies.len() {
+        let Some((_, after)) = rest.split_once("\"version\":") else {
+            return Ok(versions);
+        };
+        versions.push(number_at(after))?;
+        rest = after;
+    }
+    Ok(versions)
+}
+
+/// Whether these are the versions of so many rounds, each of a receipt and of a list: a receipt is newer than all before
+/// it, and a list is no older.
+fn are_rounds(versions: &[u32], rounds: usize) -> bool {
+    let mut newest = 1;
+    for (i, version) in versions.iter().enumerate() {
+        let is_receipt = i % 2 == 0;
+        if *version < newest || (is_receipt && *version == newest) {
+            return false;
+        }
+        newest = *version;
+    }
+    versions.len() / 2 == rounds && versions.len() % 2 == 0
+}
+
+// Four clients at once, each of which publishes and completes three times.
+#[test]
+fn no_list_is_older_than_a_receipt_before_it(rt: HostRuntime) -> Result<(), Fail> {
+    let alloc = rt.alloc();
+    let input = framed(
+        alloc,
+        &[
+            INITIALIZE,
+            DEMO,
+            NOTHING,
+            AFTER_READER,
+            NOTHING,
+            AFTER_READER,
+            NOTHING,
+            AFTER_READER,
+            SHUTDOWN,
+            EXIT,
+        ],
+    )?;
+    let mut ends = Vec::new(alloc);
+    for _ in 0..4 {
+        let mut end = end_of(alloc, input.as_bytes(), 0, 0)?;
+        end.shelf = started_shelf(alloc)?;
+        ends.push(end)?;
+    }
+    assert_eq!(rt;
+        served(&rt, alloc, "--start=start", &mut ends)?,
+        status(0, 0)
+    );
+    for end in &ends {
+        let replies = str::from_utf8(end.sink.bytes.as_slice()).unwrap_or("");
+        assert!(rt; are_rounds(versions_in(alloc, replies)?.as_slice(), 3));
     }
     Ok(())
 }

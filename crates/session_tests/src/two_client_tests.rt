@@ -15,15 +15,18 @@ use std::sync::Wait;
 use std::test::Fail;
 use version_board::{Naming, Opened, Pass, Snapshot, start_board};
 
-const PUT_A: (usize, &str) = (
+pub(crate) const PUT_A: (usize, &str) = (
     141,
     r#"{"jsonrpc":"2.0","id":3,"method":"workspace/executeCommand","params":{"command":"insynth.publish","arguments":[{"put":["file:///A.class"]}]}}"#,
 );
 
-const VERSION_2: (usize, &str) = (47, r#"{"id":3,"jsonrpc":"2.0","result":{"version":2}}"#);
+pub(crate) const VERSION_2: (usize, &str) = (
+    47,
+    r#"{"id":3,"jsonrpc":"2.0","result":{"version":2}}"#,
+);
 
 /// The list over the three readers, in the version 2.
-const SIX_IN_VERSION_2: (usize, &str) = (
+pub(crate) const SIX_IN_VERSION_2: (usize, &str) = (
     1542,
     r#"{"id":2,"jsonrpc":"2.0","result":{"insynth":{"cursor":1,"from":0,"grown":6,"last":true,"version":2},"isIncomplete":false,"items":[{"detail":"1015","label":"new FileReader(name)","sortText":"0000000000","textEdit":{"newText":"new FileReader(name)","range":{"end":{"character":15,"line":3},"start":{"character":15,"line":3}}}},{"detail":"1210","label":"new FileReader(\"\")","sortText":"0000000001","textEdit":{"newText":"new FileReader(\"\")","range":{"end":{"character":15,"line":3},"start":{"character":15,"line":3}}}},{"detail":"2025","label":"new BufferedReader(new FileReader(name))","sortText":"0000000002","textEdit":{"newText":"new BufferedReader(new FileReader(name))","range":{"end":{"character":15,"line":3},"start":{"character":15,"line":3}}}},{"detail":"2220","label":"new BufferedReader(new FileReader(\"\"))","sortText":"0000000003","textEdit":{"newText":"new BufferedReader(new FileReader(\"\"))","range":{"end":{"character":15,"line":3},"start":{"character":15,"line":3}}}},{"detail":"3035","label":"new BufferedReader(new BufferedReader(new FileReader(name)))","sortText":"0000000004","textEdit":{"newText":"new BufferedReader(new BufferedReader(new FileReader(name)))","range":{"end":{"character":15,"line":3},"start":{"character":15,"line":3}}}},{"detail":"3230","label":"new BufferedReader(new BufferedReader(new FileReader(\"\")))","sortText":"0000000005","textEdit":{"newText":"new BufferedReader(new BufferedReader(new FileReader(\"\")))","range":{"end":{"character":15,"line":3},"start":{"character":15,"line":3}}}}]}}"#,
 );
