@@ -10,6 +10,4 @@ mod item_tests;
 #[cfg(test)]
 mod offer_tests;
 #[cfg(test)]
-mod read_back_tests;
-#[cfg(test)]
 mod scope_tests;
