@@ -1,0 +1,4 @@
+mod Holes
+mod Pages
+mod Texts
+mod Told
