@@ -145,10 +145,10 @@ fn each_publication_has_its_own_version(rt: HostRuntime) -> Result<(), Fail> {
             "{opening}Content-Length: {}\r\n\r\n{version}{closing}",
             version.len()
         )?;
-        let mut found = 0;
+        let mut found: usize = 0;
         for end in &ends {
             if end.sink.bytes.as_slice() == told.as_bytes() {
-                found += 1;
+                found = found.saturating_add(1);
             }
         }
         assert_eq!(rt; found, 1);
