@@ -5,6 +5,7 @@ use Rattle.java_bodies.specs.declared.site.HoleSite.{HoleSite}
 use Rattle.known_classes.specs.Known.{HasEachOnce}
 use Rattle.decl_index.specs.History.{State}
 use Rattle.terms.specs.declared.parts.Parts.{Parts}
+use Rattle.terms.specs.Faults.{greatest_depth}
 use Rattle.scopes.specs.Holes.{IsHoleIn}
 use Rattle.scopes.specs.Environments.{IsEnvironmentAt}
 use Rattle.hole_texts.specs.Texts.{HasTexts}
@@ -21,6 +22,6 @@ pub record IsOfHole (g : Parts) : Type 0 where
   pub hole : IsHoleIn unit site
   pub utf8 : IsUtf8 hole.text
   pub limits : (1 ≤ limit) × (limit ≤ 10000)
-  pub shallow : depth ≤ 1
+  pub shallow : depth ≤ greatest_depth
   pub is_environment : IsEnvironmentAt state unit site limit depth g
   pub texts : HasTexts g

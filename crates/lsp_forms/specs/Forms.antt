@@ -2,6 +2,7 @@
 use Rattle.std.specs.Prelude.{ℕ, List, codes, Option, Some, None, Result, Ok, Err}
 use Rattle.serde_json.specs.Data.{Data, Num, null, boolean, number, string, array, object, Items, no_items, item}
 use Rattle.serde_json.specs.Find.{get}
+use Rattle.terms.specs.Faults.{greatest_depth}
 use Rattle.lsp_forms.specs.Params.{member_of, text_of, number_of, whole, each, fault}
 use Rattle.lsp_forms.specs.declared.forms.ParamFault.{ParamFault}
 use Rattle.lsp_forms.specs.declared.forms.Initialize.{Initialize}
@@ -131,7 +132,7 @@ unfoldable pub options_from : Option (Option Num) → Option (Option Num) → Op
 options_from None depth count = Err (fault 1)
 options_from (Some limit) None count = Err (fault 1)
 options_from (Some limit) (Some depth) None = Err (fault 1)
-options_from (Some limit) (Some depth) (Some count) = options_in (whole_or limit 1 10000 4000) (whole_or depth 0 1 1) (whole_or count 1 1000 20)
+options_from (Some limit) (Some depth) (Some count) = options_in (whole_or limit 1 10000 4000) (whole_or depth 0 greatest_depth 1) (whole_or count 1 1000 20)
 
 -- `initializationOptions`. An empty array counts as an object without members: an editor whose tables are empty writes it so.
 unfoldable pub initialize_from : Option Data → Result Initialize ParamFault

@@ -2,6 +2,7 @@ ghost use Rattle.std.specs.Prelude.{◌≡◌, ◌≤◌, Ok, Err, IfOk, IfErr, 
 ghost use Rattle.serde_json.specs.Find.{get};
 ghost use Rattle.serde_json.specs.Data.{array};
 ghost use Rattle.serde_json.specs.View.{items_view, view, number_view};
+ghost use Rattle.terms.specs.Faults.{greatest_depth};
 ghost use Rattle.lsp_forms.specs.Params.{FaultedAs};
 ghost use Rattle.lsp_forms.specs.Forms.{initialize_from, initialize_of, optional, options_from, options_in, whole_or};
 
@@ -9,6 +10,7 @@ use crate::forms::{Initialize, ParamFault};
 use crate::params::{MISSING, OUT_OF_RANGE, refused, whole};
 use json_rpc::Refused;
 use serde_json::{Number, Value};
+use terms::GREATEST_DEPTH;
 
 const LIMIT: u64 = 4000;
 
@@ -48,13 +50,13 @@ fn options_in(
     depth: Option<&Number>,
     count: Option<&Number>,
 ) -> Result<Initialize, Refused<ParamFault>>
-    ensures form { IfOk result (λ form. options_in (whole_or (option_map (λ n. number_view n.now) limit.entry) 1 10000 4000) (whole_or (option_map (λ n. number_view n.now) depth.entry) 0 1 1) (whole_or (option_map (λ n. number_view n.now) count.entry) 1 1000 20) ≡ Ok form) }
-    ensures refusal { IfErr result (λ e. FaultedAs (options_in (whole_or (option_map (λ n. number_view n.now) limit.entry) 1 10000 4000) (whole_or (option_map (λ n. number_view n.now) depth.entry) 0 1 1) (whole_or (option_map (λ n. number_view n.now) count.entry) 1 1000 20)) e) }
+    ensures form { IfOk result (λ form. options_in (whole_or (option_map (λ n. number_view n.now) limit.entry) 1 10000 4000) (whole_or (option_map (λ n. number_view n.now) depth.entry) 0 greatest_depth 1) (whole_or (option_map (λ n. number_view n.now) count.entry) 1 1000 20) ≡ Ok form) }
+    ensures refusal { IfErr result (λ e. FaultedAs (options_in (whole_or (option_map (λ n. number_view n.now) limit.entry) 1 10000 4000) (whole_or (option_map (λ n. number_view n.now) depth.entry) 0 greatest_depth 1) (whole_or (option_map (λ n. number_view n.now) count.entry) 1 1000 20)) e) }
 {
     let Some(limit) = whole_or(limit, 1, 10_000, LIMIT) else {
         return Err(refused(OUT_OF_RANGE));
     };
-    let Some(depth) = whole_or(depth, 0, 1, DEPTH) else {
+    let Some(depth) = whole_or(depth, 0, GREATEST_DEPTH as u64, DEPTH) else {
         return Err(refused(OUT_OF_RANGE));
     };
     let Some(count) = whole_or(count, 1, 1000, COUNT) else {

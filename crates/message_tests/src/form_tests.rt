@@ -79,7 +79,7 @@ const ROWS: [(Method, &str, u32, u32); 68] = [
     ),
     (
         Method::Initialize,
-        "{\"initializationOptions\":{\"depth\":2}}",
+        "{\"initializationOptions\":{\"depth\":4}}",
         2,
         0,
     ),

@@ -4,7 +4,7 @@ use Rattle.std.specs.List.{list_all}
 use Rattle.std.proofs.lemmas.Bool.{and_parts, ltb-true}
 use Rattle.std.proofs.lemmas.Option.{slice_get_within}
 use Rattle.terms.specs.Typing.{most_rows}
-use Rattle.terms.specs.Faults.{or_then, unless, is_arg_known, decl_fault, decls_fault, pairs_fault, order_fault, limit_fault, depth_fault, goal_fault, first_env_fault, IsValid}
+use Rattle.terms.specs.Faults.{or_then, unless, is_arg_known, decl_fault, decls_fault, pairs_fault, order_fault, limit_fault, greatest_depth, depth_fault, goal_fault, first_env_fault, IsValid}
 use Rattle.terms.specs.declared.fault.EnvFault.{EnvFault}
 use Rattle.terms.specs.declared.fault.EnvFault.TheVariants.{TypeRange, Weight, Limit, Depth}
 use Rattle.terms.specs.declared.parts.Decl.{Decl}
@@ -62,7 +62,7 @@ ranges g h =
     let after_order = second_none (order_fault (length g.types) g.pairs) _ after_pairs in
     record {
       limit = omega (arith, ltb-true g.limit 10001 (and_parts _ _ (met _ (Limit g.limit) (first_none (limit_fault g) _ h))).1);
-      depth = omega (arith, ltb-true g.depth 2 (met _ (Depth g.depth) (first_none (depth_fault g) _ after_limit)));
+      depth = omega (arith, ltb-true g.depth (greatest_depth + 1) (met _ (Depth g.depth) (first_none (depth_fault g) _ after_limit)));
       goal = ltb-true g.goal (length g.types) (met _ (TypeRange (length g.decls)) (second_none (decls_fault (length g.types) 0 g.decls) (goal_fault g) after_order));
       decls = at_each (length g.types) 0 g.decls (first_none (decls_fault (length g.types) 0 g.decls) (goal_fault g) after_order);
     }

@@ -12,7 +12,7 @@ use Rattle.terms.specs.declared.parts.Form.{Form}
 use Rattle.terms.specs.declared.parts.Form.TheVariants as form
 use Rattle.terms.specs.declared.fault.EnvFault.{EnvFault}
 use Rattle.terms.specs.declared.fault.EnvFault.TheVariants.{TypeRange}
-use Rattle.terms.specs.Faults.{or_then, unless, is_arg_known, are_plain, is_well_formed, decl_fault, decls_fault, pairs_fault, order_fault, limit_fault, depth_fault, first_env_fault, IsValid}
+use Rattle.terms.specs.Faults.{or_then, unless, is_arg_known, are_plain, is_well_formed, decl_fault, decls_fault, pairs_fault, order_fault, limit_fault, greatest_depth, depth_fault, first_env_fault, IsValid}
 use Rattle.offers.specs.Scenes.{Scene, edited, package_here, package_of, of_class, denoted, sorted}
 use Rattle.offers.specs.declared.member.Kind.{Kind}
 use Rattle.offers.specs.declared.member.Kind.TheVariants as kind
@@ -189,13 +189,13 @@ limit-right v ts ds limit depth a b =
     let y : nat_lt limit 10001 ≡ true = search (rules, tests, arith) in
     rw (x, y) refl
 
-depth-right : (v : Scene) (ts : List Erased) (ds : List Decl) (limit depth : ℕ) → depth < 2 → depth_fault (parts_by v ts ds limit depth) ≡ None
-depth-right v ts ds limit depth a = let x : nat_lt depth 2 ≡ true = search (rules, tests, arith) in rw x refl
+depth-right : (v : Scene) (ts : List Erased) (ds : List Decl) (limit depth : ℕ) → depth ≤ greatest_depth → depth_fault (parts_by v ts ds limit depth) ≡ None
+depth-right v ts ds limit depth a = let x : nat_lt depth (greatest_depth + 1) ≡ true = search (rules, tests, arith) in rw x refl
 
 then-none : (a b : Option EnvFault) → a ≡ None → b ≡ None → or_then a b ≡ None
 then-none a b e f = rw (e, f) refl
 
-all-right : (v : Scene) (ts : List Erased) (ms : List Member) (fs : List Face) (limit depth : ℕ) → IsOrdered v → AreWeights v.weights → AreNumbered v ts ms fs → 0 < limit → limit < 10001 → depth < 2 → IsValid (parts_by v ts (decls_of v ts ms fs) limit depth)
+all-right : (v : Scene) (ts : List Erased) (ms : List Member) (fs : List Face) (limit depth : ℕ) → IsOrdered v → AreWeights v.weights → AreNumbered v ts ms fs → 0 < limit → limit < 10001 → depth ≤ greatest_depth → IsValid (parts_by v ts (decls_of v ts ms fs) limit depth)
 unfolding first_env_fault goal-of
 all-right v ts ms fs limit depth o w h a b d =
     let n = length ts in
@@ -207,6 +207,6 @@ all-right v ts ms fs limit depth o w h a b d =
     (then-none _ _ (subst (λ k. decls_fault k 0 (decls_of v ts ms fs) ≡ None) (sym (length-map ts _)) (no-faults n 0 (decls_of v ts ms fs) (decls-fit v ts ms fs w h)))
     (subst (λ k. unless (nat_lt (number_in ts (denoted v v.site.wanted)) k) (goal-of (decls_of v ts ms fs)) ≡ None) (sym (length-map ts _)) (rw (number-lt ts (denoted v v.site.wanted) h.goal) refl))))))
 
-pub environment-right : (v : Scene) (limit depth : ℕ) → IsOrdered v → AreWeights v.weights → 0 < limit → limit < 10001 → depth < 2 → IsValid (environment_of v limit depth)
+pub environment-right : (v : Scene) (limit depth : ℕ) → IsOrdered v → AreWeights v.weights → 0 < limit → limit < 10001 → depth ≤ greatest_depth → IsValid (environment_of v limit depth)
 unfolding environment_of
 environment-right v limit depth o w a b d = all-right v (types_of v (after_three v) (faces v)) (after_three v) (faces v) limit depth o w (numbered v (after_three v) (faces v)) a b d

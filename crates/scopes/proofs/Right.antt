@@ -4,7 +4,7 @@ use Rattle.java_units.specs.declared.types.Unit as unit
 use Rattle.java_bodies.specs.declared.site.HoleSite.{HoleSite}
 use Rattle.decl_index.specs.History.{State}
 use Rattle.terms.specs.declared.parts.Parts.{Parts}
-use Rattle.terms.specs.Faults.{IsValid}
+use Rattle.terms.specs.Faults.{IsValid, greatest_depth}
 use Rattle.offers.specs.Scenes.{Scene}
 use Rattle.offers.specs.Offers.{IsSceneAt}
 use Rattle.offers.specs.Weighing.{AreWeights, usual}
@@ -22,7 +22,7 @@ usual-fit = record {
   far = (omega arith, omega arith);
 }
 
-pub right : (state : State) (u : unit.Unit) (site : HoleSite) (v : Scene) (limit depth : ℕ) (parts : Parts) → IsSceneAt state u site v → 1 ≤ limit → limit ≤ 10000 → depth ≤ 1 → parts ≡ environment_of v limit depth → IsValid parts
+pub right : (state : State) (u : unit.Unit) (site : HoleSite) (v : Scene) (limit depth : ℕ) (parts : Parts) → IsSceneAt state u site v → 1 ≤ limit → limit ≤ 10000 → depth ≤ greatest_depth → parts ≡ environment_of v limit depth → IsValid parts
 right state u site v limit depth parts s a b d e = subst IsValid (sym e) (environment-right v limit depth (ordered v s.order) (subst AreWeights (sym s.weights) usual-fit) (omega arith) (omega arith) (omega arith))
 
 pub at_hole : (state : State) (u : unit.Unit) (site : HoleSite) (v : Scene) (limit depth : ℕ) (parts env : Parts) → IsSceneAt state u site v → parts ≡ environment_of v limit depth → env ≡ parts → IsEnvironmentAt state u site limit depth env

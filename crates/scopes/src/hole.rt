@@ -7,6 +7,7 @@ ghost use Rattle.offers.specs.Views.{scene};
 ghost use Rattle.offers.specs.Weighing.{AreWeights};
 ghost use Rattle.scopes.specs.Declarations.{decls_of};
 ghost use Rattle.scopes.specs.Environments.{IsSeen, IsEnvironmentAt, parts_by, environment_of};
+ghost use Rattle.terms.specs.Faults.{greatest_depth};
 
 use crate::binder::binder;
 use crate::declarations::{add_faces, add_members, site_decls};
@@ -151,7 +152,7 @@ pub fn environment(
 ) -> Result<Env, AllocError>
     requires site { IsSiteOf unit.now site.now }
     requires limit { (1 ≤ limit) × (limit ≤ 10000) }
-    requires depth { depth ≤ 1 }
+    requires depth { depth ≤ greatest_depth }
     ensures exact { IfOk result (IsEnvironmentAt index.now unit.now site.now limit depth) }
 {
     let own = own_summaries(alloc, index, unit)?;

@@ -1,9 +1,9 @@
-ghost use Rattle.std.specs.Prelude.{◌≡◌, ◌<◌, ℕ, true};
+ghost use Rattle.std.specs.Prelude.{◌≡◌, ◌<◌, ◌≤◌, ℕ, true};
 ghost use Rattle.std.specs.List.{list_any};
 ghost use Rattle.type_names.specs.declared.kinds.Erased.{Erased};
 ghost use Rattle.type_names.specs.Descriptors.{field};
 ghost use Rattle.terms.specs.Typing.{is_pair};
-ghost use Rattle.terms.specs.Faults.{IsValid};
+ghost use Rattle.terms.specs.Faults.{IsValid, greatest_depth};
 ghost use Rattle.java_units.specs.declared.types.Unit.{Unit};
 ghost use Rattle.java_bodies.specs.declared.site.HoleSite.{HoleSite};
 ghost use Rattle.offers.specs.Sites.{IsSiteOf};
@@ -19,7 +19,7 @@ ghost use Rattle.offers.specs.Weighing.{AreWeights};
 /// The environment of each hole is valid.
 pub fn valid()
     ensures order { (v : Scene) → IsOrder v → IsOrdered v }
-    ensures valid { (v : Scene) (limit depth : ℕ) → IsOrdered v → AreWeights v.weights → 0 < limit → limit < 10001 → depth < 2 → IsValid (environment_of v limit depth) }
+    ensures valid { (v : Scene) (limit depth : ℕ) → IsOrdered v → AreWeights v.weights → 0 < limit → limit < 10001 → depth ≤ greatest_depth → IsValid (environment_of v limit depth) }
     ensures pairs { (v : Scene) (limit depth : ℕ) (a b : Erased) → list_any (same_type a) (environment_types v) ≡ true → list_any (same_type b) (environment_types v) ≡ true → is_pair (environment_of v limit depth).pairs (number_in (environment_types v) a) (number_in (environment_types v) b) ≡ v.below a b }
     ensures types { (v : Scene) → Rises field (environment_types v) }
 {}

@@ -48,7 +48,7 @@ const FAULTS: [(&str, u32, u32); 51] = [
         8,
         16,
     ),
-    ("type int\ngoal int\ndepth 2", 4, 17),
+    ("type int\ngoal int\ndepth 4", 4, 17),
     (
         "type int\ndecl 5 int name x\nsub int int\ngoal int\ndecl 4 int name y\nlimit 0",
         7,
@@ -141,7 +141,7 @@ const FLAWS: [(&str, u32, u32); 12] = [
     ("type int", 6, 0),
     ("binder q", 7, 0),
     ("limit 0", 15, 1),
-    ("depth 2", 17, 2),
+    ("depth 4", 17, 2),
     ("sub int int", 12, 3),
     ("sub int long", 13, 3),
     ("sub long A", 16, 4),

@@ -291,7 +291,7 @@ const FAULTS: [(Sheet, EnvFault); 12] = [
     (
         Sheet {
             limit: 0,
-            depth: 2,
+            depth: 4,
             ..COERCIONS
         },
         EnvFault::Limit(0),
@@ -305,10 +305,10 @@ const FAULTS: [(Sheet, EnvFault); 12] = [
     ),
     (
         Sheet {
-            depth: 2,
+            depth: 4,
             ..COERCIONS
         },
-        EnvFault::Depth(2),
+        EnvFault::Depth(4),
     ),
     (
         Sheet {

@@ -70,7 +70,7 @@ const CALLS: &str = "type int\ndecl 5 int name x\ndecl 20 int call f int\ngoal i
 // Sheets without their first line, and what is written for them.
 #[test]
 fn sheets_are_listed(rt: HostRuntime) -> Result<(), AllocError> {
-    let table: [(&str, &str); 9] = [
+    let table: [(&str, &str); 10] = [
         ("type int\ntype A\ndecl 5 int name x\ngoal A", ""),
         (
             "type int\ndecl 5 int name b\ndecl 5 int name a\ngoal int",
@@ -84,6 +84,10 @@ fn sheets_are_listed(rt: HostRuntime) -> Result<(), AllocError> {
         (
             "type int\ntype I\ndecl 5 int name x\ndecl 10 I lambda I int -> int\ngoal I\nlimit 20\ndepth 1",
             "12 (I) (p0) -> p0\n16 (I) (p0) -> x\n",
+        ),
+        (
+            "type int\ntype I\ntype J\ndecl 10 I lambda I int -> int\ndecl 10 J lambda J int -> I\ngoal J\nlimit 30\ndepth 2",
+            "23 (J) (p0) -> (I) (p1) -> p0\n23 (J) (p0) -> (I) (p1) -> p1\n",
         ),
         (
             "type A\ntype B\nsub B A\ndecl 5 B name b\ncrowded 25 A method m A\ngoal A\nlimit 70",

@@ -4,6 +4,7 @@ use Rattle.std.specs.Prelude.{if◌then◌else◌, codes, bytes_eq}
 use Rattle.std.proofs.lemmas.Bool.{leb-true, and_parts}
 use Rattle.serde_json.specs.Data.{Data, Num, unsigned, negative, float, Items, no_items, item, null, boolean, number, string, array, object}
 use Rattle.serde_json.specs.Find.{get, as_str}
+use Rattle.terms.specs.Faults.{greatest_depth}
 use Rattle.lsp_forms.specs.declared.forms.ParamFault.{ParamFault}
 use Rattle.lsp_forms.specs.declared.forms.Initialize.{Initialize}
 use Rattle.lsp_forms.specs.declared.forms.Command.{Command}
@@ -36,7 +37,7 @@ whole_or_in (Some n) low high usual a b x e = whole_in n low high x e
 abbrev Within : ℕ → ℕ → Option ℕ → Type 0
 Within low high o = (x : ℕ) → o ≡ Some x → (low ≤ x) × (x ≤ high)
 
-options_ranged : (limit depth count : Option ℕ) (o : Initialize) → Within 1 10000 limit → Within 0 1 depth → Within 1 1000 count → options_in limit depth count ≡ Ok o → AreInRange o
+options_ranged : (limit depth count : Option ℕ) (o : Initialize) → Within 1 10000 limit → Within 0 greatest_depth depth → Within 1 1000 count → options_in limit depth count ≡ Ok o → AreInRange o
 unfolding options_in
 options_ranged None d c o pl pd pc e = absurd cc
 options_ranged (Some l) None c o pl pd pc e = absurd cc
@@ -51,7 +52,7 @@ from_ranged None d c o e = absurd cc
 from_ranged (Some l) None c o e = absurd cc
 from_ranged (Some l) (Some d) None o e = absurd cc
 from_ranged (Some l) (Some d) (Some c) o e =
-    options_ranged (whole_or l 1 10000 4000) (whole_or d 0 1 1) (whole_or c 1 1000 20) o (whole_or_in l 1 10000 4000 (omega arith) (omega arith)) (whole_or_in d 0 1 1 (omega arith) (omega arith)) (whole_or_in c 1 1000 20 (omega arith) (omega arith)) e
+    options_ranged (whole_or l 1 10000 4000) (whole_or d 0 greatest_depth 1) (whole_or c 1 1000 20) o (whole_or_in l 1 10000 4000 (omega arith) (omega arith)) (whole_or_in d 0 greatest_depth 1 (omega arith) (omega arith)) (whole_or_in c 1 1000 20 (omega arith) (omega arith)) e
 
 abbrev usual : Result Initialize ParamFault
 usual = Ok (record { limit = 4000; depth = 1; count = 20 })

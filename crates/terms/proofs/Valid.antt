@@ -3,7 +3,7 @@ use Rattle.std.proofs.Common.{◌≡◌, ◌≢◌, inl, inr, ℕ, zero, suc, �
 use Rattle.std.specs.List.{list_all}
 use Rattle.std.proofs.lemmas.Bool.{ltb-true, and_parts, eq-eqb, eqb-true, or_cases, both_ways}
 use Rattle.terms.specs.Typing.{is_pair, is_below}
-use Rattle.terms.specs.Faults.{or_then, unless, first_below, limit_fault, depth_fault, pairs_fault, order_fault, decl_fault, decls_fault, goal_fault, first_env_fault, is_arg_known, is_well_formed, is_gap, IsValid}
+use Rattle.terms.specs.Faults.{or_then, unless, first_below, limit_fault, greatest_depth, depth_fault, pairs_fault, order_fault, decl_fault, decls_fault, goal_fault, first_env_fault, is_arg_known, is_well_formed, is_gap, IsValid}
 use Rattle.terms.specs.declared.fault.EnvFault.{EnvFault}
 use Rattle.terms.specs.declared.fault.EnvFault.TheVariants.{TypeRange, Weight, Limit, NotTransitive, Depth}
 use Rattle.terms.specs.declared.fault.EnvFault.TheVariants as fault
@@ -37,9 +37,9 @@ valid-limit g valid =
     let tests = and_parts (nat_lt 0 g.limit) (nat_lt g.limit 10001) (unless-none (nat_lt 0 g.limit && nat_lt g.limit 10001) (Limit g.limit) (passes g valid).limit) in
     (ltb-true 0 g.limit tests.0, omega (arith, ltb-true g.limit 10001 tests.1))
 
--- the depth is 0 or 1
-pub valid-depth : (g : Parts) → IsValid g → g.depth ≤ 1
-valid-depth g valid = omega (arith, ltb-true g.depth 2 (unless-none (nat_lt g.depth 2) (Depth g.depth) (passes g valid).depth))
+-- the depth is at most the greatest
+pub valid-depth : (g : Parts) → IsValid g → g.depth ≤ greatest_depth
+valid-depth g valid = omega (arith, ltb-true g.depth (greatest_depth + 1) (unless-none (nat_lt g.depth (greatest_depth + 1)) (Depth g.depth) (passes g valid).depth))
 
 -- the goal is a type
 pub valid-goal : (g : Parts) → IsValid g → g.goal < length g.types

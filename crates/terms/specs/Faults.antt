@@ -33,7 +33,7 @@ limit_fault g = unless (nat_lt 0 g.limit && nat_lt g.limit 10001) (Limit g.limit
 
 -- lambdas of an environment nest at most this deep
 abbrev pub greatest_depth : ℕ
-greatest_depth = 1
+greatest_depth = 3
 
 -- a fault, unless the depth is at most the greatest
 abbrev pub depth_fault : Parts → Option EnvFault

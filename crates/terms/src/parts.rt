@@ -5,7 +5,7 @@ use lists::{Copies, Items, Text, copy_all};
 use std::alloc::{AllocError, Global};
 
 /// How deep lambdas of an environment nest at most.
-pub const GREATEST_DEPTH: u32 = 1;
+pub const GREATEST_DEPTH: u32 = 3;
 
 /// What a declaration wants at a place.
 #[derive(Debug, Drop)]
