@@ -7,6 +7,7 @@
 
 mod end;
 mod files;
+mod gated;
 mod gathering;
 mod memory;
 mod plan;
@@ -19,6 +20,7 @@ mod streams;
 
 pub use end::End;
 pub use files::FileShelf;
+pub use gated::{FlaggedSink, GatedSource};
 pub use gathering::{Gathering, WriteFault};
 pub use memory::{MemShelf, MemSink, MemSource};
 pub use plan::FaultPlan;

@@ -1,103 +1,15 @@
-ghost use Rattle.std.specs.Prelude.{◌≡◌, Some, None};
-ghost use Rattle.outside.specs.Causes.{HasCause};
-
 use crate::frame_tests::{CAPABILITIES, EXIT, INITIALIZE, SHUTDOWN, STOPPED, framed};
 use crate::publication_tests::{AFTER_USES, EIGHT, USE_THRICE, file, shelf};
 use crate::two_client_tests::{PUT_A, SIX_IN_VERSION_2, VERSION_2};
 use crate::version_tests::{AFTER_READER, BY_THREE, DEMO, NEXT_THREE, OTHER_THREE, SIX, THREE};
 use crate::word_tests::words_of;
-use outside::{End, Failed, FaultPlan, MemShelf, MemSink, Sink, Source};
+use outside::{End, FaultPlan, FlaggedSink, GatedSource, MemShelf, MemSink};
 use serving::run;
 use std::alloc::{AllocError, Global};
 use std::sync::Wait;
-use std::sync::atomic::{AtomicU64, Ordering};
+use std::sync::atomic::AtomicU64;
 use std::test::Fail;
-use std::thread::{Threads, yield_now};
-
-/// So often a source looks whether its turn has come.
-const LOOKS: u64 = 20_000_000;
-
-/// Whether a count becomes so great.
-fn reaches(count: &AtomicU64, wanted: u64) -> bool {
-    for _ in 0..LOOKS {
-        if count.load(Ordering::SeqCst) >= wanted {
-            return true;
-        }
-        yield_now();
-    }
-    false
-}
-
-/// A source that gives its bytes in turns, each once another end was written so many bytes. It fails where that takes too
-/// long.
-#[derive(Drop)]
-struct GatedSource<'a> {
-    turns: &'a [(u64, String)],
-    rest: &'a [u8],
-    written: &'a AtomicU64,
-    faults: u64,
-}
-
-impl GatedSource<'_> {
-    /// Waits for the next turn, where there is one.
-    fn next_turn(&mut self) -> Result<(), Failed>
-        ensures cause { HasCause self.old.faults self.new.faults result }
-    {
-        let Some((turn, later)) = self.turns.split_first() else {
-            return Ok(());
-        };
-        if !reaches(self.written, turn.0) {
-            self.faults = self.faults.saturating_add(1);
-            return Err(Failed);
-        }
-        self.rest = turn.1.as_bytes();
-        self.turns = later;
-        Ok(())
-    }
-}
-
-impl Source for GatedSource<'_> {
-    ghost left = { λ _. None };
-
-    ghost faults = { λ s. s.faults };
-
-    fn faults(&self) -> u64 {
-        self.faults
-    }
-
-    fn read(&mut self, buf: &mut [u8]) -> Result<usize, Failed> {
-        if self.rest.is_empty() {
-            self.next_turn()?;
-        }
-        let count = buf.len().min(self.rest.len());
-        buf[..count].copy_from_slice(&self.rest[..count]);
-        self.rest = &self.rest[count..];
-        Ok(count)
-    }
-}
-
-/// A sink that keeps what is written, and tells other threads how many bytes it was.
-#[derive(Drop)]
-struct FlaggedSink<'a> {
-    sink: MemSink,
-    count: &'a AtomicU64,
-}
-
-impl Sink for FlaggedSink<'_> {
-    ghost written = { λ s. Some s.sink.bytes.items };
-
-    ghost faults = { λ s. s.sink.plan.faults };
-
-    fn faults(&self) -> u64 {
-        self.sink.plan.faults
-    }
-
-    fn write(&mut self, piece: &[u8]) -> Result<usize, Failed> {
-        let count = self.sink.write(piece)?;
-        self.count.fetch_add(count as u64, Ordering::SeqCst);
-        Ok(count)
-    }
-}
+use std::thread::Threads;
 
 /// The start text of the three readers and their class files (JVMS 4.1), whose methods have no code.
 const STARTED: [(&str, &[u8]); 4] = [
@@ -152,7 +64,7 @@ fn turns_of(
     Ok(made)
 }
 
-type GatedEnd<'a> = End<GatedSource<'a>, FlaggedSink<'a>, MemShelf>;
+type GatedEnd<'a> = End<GatedSource<'a>, FlaggedSink<'a, MemSink>, MemShelf>;
 
 /// An end that counts what it is written, and waits for what the other end is written.
 fn gated<'a>(
@@ -170,7 +82,7 @@ fn gated<'a>(
         },
         sink: FlaggedSink {
             sink: MemSink::new(alloc, FaultPlan::none(alloc)),
-            count,
+            taken: count,
         },
         shelf: started_shelf(alloc)?,
     })
