@@ -94,3 +94,89 @@ fn calls_of_one_weight_are_listed_alike(rt: HostRuntime) -> Result<(), EnvFault>
     assert!(rt; have_one_list(rt.alloc(), &shown, &wanted)?);
     Ok(())
 }
+
+/// Whether both searches give this list for a goal of the functional interfaces `I` of an `int`, `J` of an `I` and `K` of
+/// a `J` (types 1, 2 and 3), each made by a lambda of an `int`.
+fn nested_lists(
+    alloc: Global,
+    goal: u32,
+    depth: u32,
+    wanted: &[(u32, &str)],
+) -> Result<bool, EnvFault> {
+    let shown = Shown {
+        types: 4,
+        pairs: &[],
+        lines: &[
+            lambda("I", 10, 1, &[0], &[0]),
+            lambda("J", 10, 2, &[1], &[0]),
+            lambda("K", 10, 3, &[2], &[0]),
+        ],
+        goal,
+        limit: 34,
+        depth,
+    };
+    have_one_list(alloc, &shown, wanted)
+}
+
+#[test]
+fn lambdas_in_lambdas_are_listed_alike(rt: HostRuntime) -> Result<(), EnvFault> {
+    let two = [
+        (23, "(J) (p0) -> (I) (p1) -> p0"),
+        (23, "(J) (p0) -> (I) (p1) -> p1"),
+    ];
+    let three = [
+        (34, "(K) (p0) -> (J) (p1) -> (I) (p2) -> p0"),
+        (34, "(K) (p0) -> (J) (p1) -> (I) (p2) -> p1"),
+        (34, "(K) (p0) -> (J) (p1) -> (I) (p2) -> p2"),
+    ];
+    assert!(rt; nested_lists(rt.alloc(), 2, 2, &two)?);
+    assert!(rt; nested_lists(rt.alloc(), 3, 3, &three)?);
+    assert!(rt; nested_lists(rt.alloc(), 3, 2, &[])?);
+    Ok(())
+}
+
+// An interface whose lambda takes itself and gives itself.
+#[test]
+fn lambdas_of_their_own_type_are_listed_alike(rt: HostRuntime) -> Result<(), EnvFault> {
+    let shown = Shown {
+        types: 1,
+        pairs: &[],
+        lines: &[lambda("J", 10, 0, &[0], &[0])],
+        goal: 0,
+        limit: 33,
+        depth: 3,
+    };
+    let wanted = [
+        (12, "(J) (p0) -> p0"),
+        (23, "(J) (p0) -> (J) (p1) -> p0"),
+        (23, "(J) (p0) -> (J) (p1) -> p1"),
+    ];
+    assert!(rt; have_one_list(rt.alloc(), &shown, &wanted)?);
+    Ok(())
+}
+
+#[test]
+fn variables_of_both_lambdas_are_listed_alike(rt: HostRuntime) -> Result<(), EnvFault> {
+    let shown = Shown {
+        types: 3,
+        pairs: &[],
+        lines: &[
+            call("g", 5, 0, &[0, 0]),
+            lambda("I", 10, 1, &[0], &[0]),
+            lambda("J", 10, 2, &[1], &[0]),
+        ],
+        goal: 2,
+        limit: 29,
+        depth: 2,
+    };
+    let wanted = [
+        (23, "(J) (p0) -> (I) (p1) -> p0"),
+        (23, "(J) (p0) -> (I) (p1) -> p1"),
+        (29, "(J) (p0) -> (I) (p1) -> g(p0, p0)"),
+        (29, "(J) (p0) -> (I) (p1) -> g(p0, p1)"),
+        (29, "(J) (p0) -> (I) (p1) -> g(p1, p0)"),
+        (29, "(J) (p0) -> (I) (p1) -> g(p1, p1)"),
+    ];
+    assert!(rt; have_one_list(rt.alloc(), &shown, &wanted)?);
+    Ok(())
+}
