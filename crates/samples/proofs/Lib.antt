@@ -1,4 +1,5 @@
 mod Holes
+mod OneText
 mod Pages
 mod Texts
 mod Told

@@ -5,12 +5,18 @@
 #![tactic(auto)]
 
 mod classes;
+mod command;
 mod goal;
 mod hole;
+mod laws;
 mod page;
 mod sample;
+mod sampling;
 
+pub use command::tell_sample;
+pub use laws::one_text;
 pub use sample::{sample_lines, write_sample};
+pub use sampling::Sampling;
 
 #[cfg(test)]
 mod tests;
