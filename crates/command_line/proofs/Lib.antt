@@ -1,0 +1,6 @@
+pub mod Parts
+pub mod Commands
+mod Counts
+mod Samples
+mod Numerals
+pub mod Asked

@@ -1,0 +1,2 @@
+-- How a status is told.
+pub mod Texts
