@@ -1,27 +1,21 @@
 // The program: it makes ends of standard input and output, of the files of the pairs among its words and of the files
 // of the machine, lets `run` do the work, and exits with its code. What it prints on standard error is not proved. It
-// stands on `serving` and `outside`.
+// stands on `serving` and `outside`, and on `command_line`, `statuses` and `usage` for what it prints.
 #![tactic(auto)]
 
+mod arguments;
 mod streams;
 
+use crate::arguments::{Unread, words_of};
 use crate::streams::{Input, Output};
+use command_line::{Refused, UsageFault, client_names, read_command};
 use outside::{End, FileShelf, ReaderSource, WriterSink};
-use serving::{Refused, Status, UsageFault, client_names, run};
+use serving::run;
+use statuses::{NO_MEMORY, Status, reason_of};
 use std::alloc::AllocError;
 use std::fs::File;
 use std::process::ExitCode;
-use std::{env, io};
 use usage::usage_text;
-
-/// The words after the program's name.
-fn words(rt: &HostRuntime) -> io::Result<Vec<String>> {
-    let mut all = Vec::new(rt.alloc());
-    for word in env::args(rt)?.skip(1) {
-        all.push(word)?;
-    }
-    Ok(all)
-}
 
 /// One end of the program.
 type StreamEnd<'r> = End<ReaderSource<Input>, WriterSink<Output>, FileShelf<'r, HostRuntime>>;
@@ -78,30 +72,6 @@ fn ends_for<'r>(rt: &'r HostRuntime, words: &[String]) -> Result<Vec<StreamEnd<'
     Ok(ends)
 }
 
-/// The status of a run that found no memory to begin.
-const NO_MEMORY: Status = Status {
-    code: 6,
-    end: 0,
-    place: 0,
-    cause: 0,
-};
-
-/// The status of words that aren't all texts.
-const NO_WORDS: Status = Status {
-    code: 2,
-    end: 0,
-    place: 0,
-    cause: 1,
-};
-
-/// The status of words that couldn't be taken.
-fn words_status(fault: &io::Error) -> Status {
-    match fault.kind() {
-        io::ErrorKind::OutOfMemory => NO_MEMORY,
-        _ => NO_WORDS,
-    }
-}
-
 /// Prints which word can't stand there, and how the program is called. A text that finds no memory is left out.
 fn print_usage(rt: &HostRuntime, place: u64) {
     let Ok(word) = u32::try_from(place) else {
@@ -115,22 +85,54 @@ fn print_usage(rt: &HostRuntime, place: u64) {
     }
 }
 
-fn main(rt: HostRuntime) -> ExitCode {
-    let status = match words(&rt) {
-        Ok(words) => match ends_for(&rt, words.as_slice()) {
-            Ok(mut ends) => run(&rt, rt.alloc(), words.as_slice(), &mut ends),
-            Err(_) => NO_MEMORY,
-        },
-        Err(fault) => words_status(&fault),
-    };
+/// Prints the line of a status.
+fn print_status(rt: &HostRuntime, status: &Status) {
     if status.code != 0 {
-        let _printed = eprintln!(rt;
-            "insynthd: status {} end {} place {} cause {}",
-            status.code, status.end, status.place, status.cause
-        );
+        let _printed = eprintln!(rt; "insynthd: {status}");
     }
     if status.code == 2 && status.cause == 1 {
-        print_usage(&rt, status.place);
+        print_usage(rt, status.place);
     }
+}
+
+/// Prints a status, and where and why in words.
+fn print_ending(rt: &HostRuntime, words: &[String], status: &Status) {
+    print_status(rt, status);
+    if let Ok(command) = read_command(words) {
+        if let Some(reason) = reason_of(&command, status) {
+            let _printed = eprintln!(rt; "insynthd: {reason}");
+        }
+    }
+}
+
+/// Prints why the words weren't read, and answers the status.
+fn print_unread(rt: &HostRuntime, fault: Unread) -> Status {
+    match fault {
+        Unread::NotText(word) => {
+            let status = Status::usage(word as u64, 1);
+            print_status(rt, &status);
+            status
+        }
+        Unread::OutOfMemory => {
+            let status = Status::plain(6);
+            print_status(rt, &status);
+            let _printed = eprintln!(rt; "insynthd: {NO_MEMORY}");
+            status
+        }
+    }
+}
+
+fn main(rt: HostRuntime) -> ExitCode {
+    let status = match words_of(&rt) {
+        Ok(words) => {
+            let status = match ends_for(&rt, words.as_slice()) {
+                Ok(mut ends) => run(&rt, rt.alloc(), words.as_slice(), &mut ends),
+                Err(_) => Status::plain(6),
+            };
+            print_ending(&rt, words.as_slice(), &status);
+            status
+        }
+        Err(fault) => print_unread(&rt, fault),
+    };
     ExitCode::from(status.code)
 }

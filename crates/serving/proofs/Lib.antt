@@ -1,8 +1,7 @@
 mod Begun
 mod Crossing
-mod Parts
-mod Commands
 mod Counts
+mod Samplings
 mod Versions
 mod Starting
 mod Ends

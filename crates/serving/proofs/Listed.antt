@@ -15,7 +15,7 @@ use Rattle.terms.specs.Expr.{Expr}
 use Rattle.terms.specs.Listing.{IsWhole}
 use Rattle.terms.specs.declared.parts.Parts.{Parts}
 use Rattle.terms.proofs.Lists.{one_whole}
-use Rattle.serving.proofs.Parts.{flat-join}
+use Rattle.std.proofs.lemmas.Grind.{flat_map-append}
 use Rattle.serving.specs.Runs.{line_text, list_text, item_text, items_text, HasGiven, HasWritten}
 
 -- what holds anyhow
@@ -63,7 +63,7 @@ flat-one f x = append-nil (f x)
 
 -- the lines of the first items, and of one more
 pub items-more : (is : List Item) (i : Item) (all : List ℕ) → all ++ items_text is ++ item_text i ≡ all ++ items_text (is ++ i ∷ [])
-items-more is i all = append_assoc all (items_text is) (item_text i) ∙ ap (λ t. all ++ t) (ap (λ t. items_text is ++ t) (sym (flat-one item_text i)) ∙ sym (flat-join item_text is (i ∷ [])))
+items-more is i all = append_assoc all (items_text is) (item_text i) ∙ ap (λ t. all ++ t) (ap (λ t. items_text is ++ t) (sym (flat-one item_text i)) ∙ sym (flat_map-append item_text is (i ∷ [])))
 
 items-rec : (g : Parts) (is : List Item) → AllByRecursion (IsItem g) is → items_text is ≡ list_text g (terms_of is)
 items-rec g [] r = refl
@@ -92,7 +92,7 @@ given-more g from count len w0 w1 w2 h0 h1 h2 page given items slice l put =
     let long : length (terms_of page) ≡ len = length-map page term_of ∙ l in
     let lines : (all : List ℕ) → all ++ list_text g given.given ++ items_text page ≡ all ++ list_text g (given.given ++ terms_of page) = λ all.
     append_assoc all (list_text g given.given) (items_text page)
-    ∙ ap (λ t. all ++ t) (ap (λ t. list_text g given.given ++ t) (items-are g page items) ∙ sym (flat-join (line_text g) given.given (terms_of page))) in
+    ∙ ap (λ t. all ++ t) (ap (λ t. list_text g given.given ++ t) (items-are g page items) ∙ sym (flat_map-append (line_text g) given.given (terms_of page))) in
     record {
       given = given.given ++ terms_of page;
       prefix = λ list whole.
@@ -106,7 +106,7 @@ given-more g from count len w0 w1 w2 h0 h1 h2 page given items slice l put =
 prefix-whole : (start w : Option (List ℕ)) (g : Parts) (all : List ℕ) (es rest list : List Expr) → es ++ rest ≡ list → WrotePrefix start w (all ++ list_text g es) → WrotePrefix start w (all ++ list_text g list)
 prefix-whole start w g all es rest list e f =
     let lines : all ++ list_text g es ++ list_text g rest ≡ all ++ list_text g list =
-    append_assoc all (list_text g es) (list_text g rest) ∙ ap (λ t. all ++ t) (sym (flat-join (line_text g) es rest) ∙ ap (list_text g) e) in
+    append_assoc all (list_text g es) (list_text g rest) ∙ ap (λ t. all ++ t) (sym (flat_map-append (line_text g) es rest) ∙ ap (list_text g) e) in
     subst (λ t. WrotePrefix start w t) lines (prefix-more start w (all ++ list_text g es) (list_text g rest) f)
 
 -- where it stops between two pages a prefix of the list was written
@@ -123,7 +123,7 @@ page-prefix g from count w0 w1 w2 h0 h1 page given items slice put list whole st
     let es = given.given ++ terms_of page in
     let lines : all ++ list_text g given.given ++ items_text page ≡ all ++ list_text g es =
     append_assoc all (list_text g given.given) (items_text page)
-    ∙ ap (λ t. all ++ t) (ap (λ t. list_text g given.given ++ t) (items-are g page items) ∙ sym (flat-join (line_text g) given.given (terms_of page))) in
+    ∙ ap (λ t. all ++ t) (ap (λ t. list_text g given.given ++ t) (items-are g page items) ∙ sym (flat_map-append (line_text g) given.given (terms_of page))) in
     let rest = drop count (drop from list) in
     let split : es ++ rest ≡ list =
     append_assoc given.given (terms_of page) rest
@@ -150,7 +150,7 @@ pub items-prefix : (start w : Option (List ℕ)) (is : List Item) (n : ℕ) (all
 items-prefix start w is n all f =
     let lines : all ++ items_text (take n is) ++ items_text (drop n is) ≡ all ++ items_text is =
     append_assoc all (items_text (take n is)) (items_text (drop n is))
-    ∙ ap (λ t. all ++ t) (sym (flat-join item_text (take n is) (drop n is)) ∙ ap items_text (take-append-drop n is)) in
+    ∙ ap (λ t. all ++ t) (sym (flat_map-append item_text (take n is) (drop n is)) ∙ ap items_text (take-append-drop n is)) in
     subst (λ t. WrotePrefix start w t) lines (prefix-more start w (all ++ items_text (take n is)) (items_text (drop n is)) f)
 
 -- the page of a listing: how long it is, and that it lies within what is found

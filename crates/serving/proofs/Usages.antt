@@ -1,31 +1,9 @@
 -- Words and ends that don't fit are told by one status.
-use Rattle.std.proofs.Common.{◌≡◌, ◌≢◌, inl, inr, ⊎_elim, ℕ, suc, ◌+◌, ◌-◌, ◌≤◌, ◌<◌, List, [], ◌∷◌, ◌++◌, take, drop, Option, refl, sym, ap, subst, ◌∙◌, arith, append_assoc}
-use Rattle.std.specs.Prelude.{codes, length, option_map}
-use Rattle.std.proofs.Math.Seq.{take-add}
-use Rattle.std.proofs.lemmas.Bool.{cases_order}
-use denote.Ref.{Bor}
-use Rattle.serving.specs.declared.words.Command.{Command}
-use Rattle.serving.specs.declared.words.Command.TheVariants as command
-use Rattle.serving.specs.Words.{Pair, Asked, list, serve, count, AreParts, AskFor, AskForPlain, CanBegin, IsFirstWrong, NameStart, Commands, ends_of}
-use Rattle.serving.proofs.Parts.{one-server}
-use Rattle.serving.proofs.Commands.{letter}
-use Rattle.serving.specs.Usages.{IsUsage, ends_for}
-use Rattle.serving.specs.declared.status.Status.{Status}
-
--- what begins words that ask for something does so without its last words
-begins-less : (xs ys : List (List ℕ)) → CanBegin (xs ++ ys) → CanBegin xs
-begins-less xs ys b = record { more = ys ++ b.more; asked = b.asked; ask = subst (AskFor b.asked) (append_assoc xs ys b.more) b.ask }
-
-begins-to : (ws : List (List ℕ)) (m n : ℕ) → m ≤ n → CanBegin (take n ws) → CanBegin (take m ws)
-begins-to ws m n l b =
-    let split : take n ws ≡ take m ws ++ take (n - m) (drop m ws) = ap (λ k. take k ws) (omega (arith, l)) ∙ take-add m (n - m) ws in
-    begins-less (take m ws) (take (n - m) (drop m ws)) (subst CanBegin split b)
-
-no-less : (ws : List (List ℕ)) (p q : ℕ) → IsFirstWrong ws p → IsFirstWrong ws q → p < q → ⊥
-no-less ws p q a b l = a.wrong (omega (arith, l, b.within)) (begins-to ws (p + 1) q (omega (arith, l)) b.begins)
-
-same-place : (ws : List (List ℕ)) (p q : ℕ) → IsFirstWrong ws p → IsFirstWrong ws q → p ≡ q
-same-place ws p q a b = ⊎_elim (λ e. e) (λ o. ⊎_elim (λ l. absurd (no-less ws p q a b l)) (λ l. absurd (no-less ws q p b a l)) o) (cases_order p q)
+use Rattle.std.proofs.Common.{◌≡◌, ◌≢◌, inl, inr, ℕ, List, refl, sym, ap, ◌∙◌}
+use Rattle.command_line.specs.Words.{Asked, AskFor, IsFirstWrong, ends_for}
+use Rattle.command_line.proofs.Asked.{same-place, one-ends}
+use Rattle.serving.specs.Usages.{IsUsage}
+use Rattle.statuses.specs.declared.status.Status.{Status}
 
 -- the words are wrong
 pub wrong-words : (ws : List (List ℕ)) (n place : ℕ) (status : Status) → IsFirstWrong ws place → IsUsage ws n status → record { code = 2; end = 0; place = place; cause = 1 } ≡ status
@@ -40,86 +18,7 @@ wrong-ends ws n asked status ask (inr u) = sym u.3
 pub is-wrong-ends : (ws : List (List ℕ)) (n : ℕ) (asked : Asked) → AskFor asked ws → n ≢ ends_for asked → IsUsage ws n (record { code = 2; end = 0; place = n; cause = 2 })
 is-wrong-ends ws n asked ask other = inr (asked, ask, other, refl)
 
--- words ask for one thing
-pub not-served : (ws : List (List ℕ)) (start : Option (List ℕ)) (pairs : List Pair) → ws ≡ codes "list" ∷ [] → AskFor (serve start pairs) ws → ⊥
-not-served ws start pairs e a = let f : codes "list" ∷ [] ≡ codes "serve" ∷ a.0 = sym e ∙ a.2 in cc
-
-pub one-asked : (ws : List (List ℕ)) (s t : Option (List ℕ)) (pairs all : List Pair) → AskFor (serve s pairs) ws → AskFor (serve t all) ws → (s ≡ t) × (pairs ≡ all)
-one-asked ws s t pairs all a b =
-    let same : b.0 ≡ a.0 = cc in
-    one-server s t pairs all a.0 a.1 (subst (AreParts t all) same b.1)
-
--- by their first letter
-abbrev letter-of : Asked → ℕ
-letter-of list = 108
-letter-of (serve start pairs) = 115
-letter-of (count name) = 99
-
-first-letter : (ws : List (List ℕ)) (asked : Asked) → AskFor asked ws → letter ws ≡ letter-of asked
-first-letter ws list a = ap letter a
-first-letter ws (serve start pairs) a = ap letter a.2
-first-letter ws (count name) a = ap letter a.2
-
-pub not-counted : (ws : List (List ℕ)) (name : List ℕ) → AskFor list ws → AskFor (count name) ws → ⊥
-not-counted ws name a b = omega (arith, first-letter ws list a, first-letter ws (count name) b)
-
-pub count-not-served : (ws : List (List ℕ)) (name : List ℕ) (start : Option (List ℕ)) (pairs : List Pair) → AskFor (count name) ws → AskFor (serve start pairs) ws → ⊥
-count-not-served ws name start pairs a b = omega (arith, first-letter ws (count name) a, first-letter ws (serve start pairs) b)
-
--- `count` names one start text
-name-once : (m n : List ℕ) (rest : List (List ℕ)) → NameStart m rest → NameStart n rest → m ≡ n
-name-once m n rest (f, inl a) (g, inl b) = let same : codes "--start" ∷ m ∷ [] ≡ codes "--start" ∷ n ∷ [] = sym a ∙ b in cc
-name-once m n rest (f, inl a) (g, inr b) = absurd (let same : codes "--start" ∷ m ∷ [] ≡ (codes "--start=" ++ n) ∷ [] = sym a ∙ b in cc)
-name-once m n rest (f, inr a) (g, inl b) = absurd (let same : (codes "--start=" ++ m) ∷ [] ≡ codes "--start" ∷ n ∷ [] = sym a ∙ b in cc)
-name-once m n rest (f, inr a) (g, inr b) = let same : (codes "--start=" ++ m) ∷ [] ≡ (codes "--start=" ++ n) ∷ [] = sym a ∙ b in cc
-
-pub one-counted : (ws : List (List ℕ)) (m n : List ℕ) → AskFor (count m) ws → AskFor (count n) ws → m ≡ n
-one-counted ws m n a b =
-    let whole : codes "count" ∷ b.0 ≡ codes "count" ∷ a.0 = sym b.2 ∙ a.2 in
-    let same : b.0 ≡ a.0 = cc in
-    name-once m n a.0 a.1 (subst (NameStart n) same b.1)
-
-one-ends : (ws : List (List ℕ)) (a b : Asked) → AskFor a ws → AskFor b ws → ends_for a ≡ ends_for b
-one-ends ws list list h k = refl
-one-ends ws list (serve t all) h k = absurd (not-served ws t all h k)
-one-ends ws list (count n) h k = refl
-one-ends ws (count m) list h k = refl
-one-ends ws (count m) (count n) h k = refl
-one-ends ws (count m) (serve t all) h k = absurd (count-not-served ws m t all h k)
-one-ends ws (serve s pairs) (count n) h k = absurd (count-not-served ws n s pairs k h)
-one-ends ws (serve s pairs) list h k = absurd (not-served ws s pairs k h)
-one-ends ws (serve s pairs) (serve t all) h k = ap (λ ps. suc (length ps)) (one-asked ws s t pairs all h k).1
-
 -- the words and the ends fit
 pub no-usage-fits : (ws : List (List ℕ)) (n : ℕ) (asked : Asked) (status : Status) → AskFor asked ws → n ≡ ends_for asked → IsUsage ws n status → ⊥
 no-usage-fits ws n asked status ask fits (inl u) = u.1.nothing asked ask
 no-usage-fits ws n asked status ask fits (inr u) = u.2 (fits ∙ one-ends ws asked u.0 ask u.1)
-
--- a command and what it was asked by
-pub asked-of : (command : Command) (ws : List (List ℕ)) → Commands command ws → (asked : Asked) × AskFor asked ws × (ends_for asked ≡ ends_of command)
-asked-of command.List ws h = (list, h, refl)
-asked-of (command.Count name) ws h = (count name.now, h, refl)
-asked-of (command.Serve told many) ws h = (serve (option_map (λ s. s.now) told) h.0, h.2, omega (arith, h.1))
-
-pub ends-asked : (command : Command) (ws : List (List ℕ)) (asked : Asked) → Commands command ws → AskFor asked ws → ends_of command ≡ ends_for asked
-ends-asked command ws asked h k = let a = asked-of command ws h in sym a.2 ∙ one-ends ws a.0 asked a.1 k
-
--- a server has few ends
-pub few-ends : (ws : List (List ℕ)) (start : Option (List ℕ)) (pairs : List Pair) (n : ℕ) → AskFor (serve start pairs) ws → n ≡ suc (length pairs) → (0 < n) × (n ≤ 64)
-few-ends ws start pairs n a e = (omega (arith, e), omega (arith, e, a.1.few))
-
-pub serve-start : (asked : Command) (told : Option (Bor (List ℕ))) (many : ℕ) (ws : List (List ℕ)) (start : Option (List ℕ)) (pairs : List Pair) → asked ≡ command.Serve told many → Commands asked ws → AskFor (serve start pairs) ws → option_map (λ s. s.now) told ≡ start
-serve-start asked told many ws start pairs is h k = let told_by : Commands (command.Serve told many) ws = subst (λ x. Commands x ws) is h in (one-asked ws (option_map (λ s. s.now) told) start told_by.0 pairs told_by.2 k).0
-
--- words that don't ask for a server
-pub plain-list : (ws : List (List ℕ)) → AskForPlain ws → ((name : List ℕ) → AskFor (count name) ws → ⊥) → AskFor list ws
-plain-list ws (inl a) other = a
-plain-list ws (inr c) other = absurd (other c.0 c.1)
-
-pub plain-not-served : (ws : List (List ℕ)) (start : Option (List ℕ)) (pairs : List Pair) → AskForPlain ws → AskFor (serve start pairs) ws → ⊥
-plain-not-served ws start pairs (inl a) h = not-served ws start pairs a h
-plain-not-served ws start pairs (inr c) h = count-not-served ws c.0 start pairs c.1 h
-
-pub plain-not-wrong : (ws : List (List ℕ)) (place : ℕ) → AskForPlain ws → IsFirstWrong ws place → ⊥
-plain-not-wrong ws place (inl a) wrong = wrong.nothing list a
-plain-not-wrong ws place (inr c) wrong = wrong.nothing (count c.0) c.1

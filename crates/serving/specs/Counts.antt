@@ -1,5 +1,5 @@
 -- The status that a run of `count` answers.
-use Rattle.serving.specs.declared.status.Status.{Status}
+use Rattle.statuses.specs.declared.status.Status.{Status}
 use Rattle.counting.specs.declared.counting.Counting.{Counting}
 use Rattle.counting.specs.declared.counting.Counting.TheVariants.{Whole, NotStarted, ShelfFault, WriteFault, OutOfMemory}
 

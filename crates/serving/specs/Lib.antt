@@ -1,9 +1,8 @@
 -- What a run reads, writes and answers.
 pub mod Runs
-pub mod Words
-pub mod Scanned
 pub mod Usages
 pub mod Services
 pub mod Counts
+pub mod Samplings
 pub mod Seats
 pub mod Crossing

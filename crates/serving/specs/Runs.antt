@@ -11,7 +11,7 @@ use Rattle.terms.specs.Text.{text_of}
 use Rattle.terms.specs.Listing.{IsFront, IsWhole}
 use Rattle.terms.specs.declared.parts.Parts.{Parts}
 use Rattle.sheets.specs.Sheets.{IsSheet, sheet_fault}
-use Rattle.serving.specs.declared.status.Status.{Status}
+use Rattle.statuses.specs.declared.status.Status.{Status}
 use Rattle.serving.specs.declared.status.Ending.{Ending}
 use Rattle.serving.specs.declared.status.Ending.TheVariants.{Whole, NotSheet, ReadFault, WriteFault, OutOfMemory}
 

@@ -18,7 +18,7 @@ use Rattle.answers.specs.Histories.{IsPrefix}
 use Rattle.sessions.specs.declared.ending.Ended.{Ended}
 use Rattle.sessions.specs.Worlds.{WorldState}
 use Rattle.sessions.specs.Served.{ServesWith}
-use Rattle.serving.specs.declared.status.Status.{Status}
+use Rattle.statuses.specs.declared.status.Status.{Status}
 use Rattle.serving.specs.declared.status.Serving.{Serving}
 use Rattle.serving.specs.declared.status.Serving.TheVariants.{Sessions, NotStarted, ShelfFault, OutOfMemory}
 

@@ -5,25 +5,30 @@ ghost use Rattle.serving.specs.Runs.{EndsBy, status_of};
 ghost use Rattle.serving.specs.Services.{view_of, ServesBy, HasNotBegun, AreUntouched, serving_status};
 ghost use Rattle.serving.specs.Usages.{IsUsage};
 ghost use Rattle.serving.specs.Counts.{counting_status};
-ghost use Rattle.serving.specs.Words.{Pair, AskFor, AskForPlain, list as listed, serve as served, count as counted};
+ghost use Rattle.serving.specs.Samplings.{sampling_status};
+ghost use Rattle.command_line.specs.Words.{Pair, AskFor, AskForPlain, list as listed, serve as served, count as counted, sample as sampled};
 ghost use Rattle.counting.specs.Counted.{IsFaultOf};
 ghost use Rattle.counting.specs.Runs.{CountsBy, IsSilent};
 ghost use Rattle.counting.specs.declared.counting.Counting.{Counting};
 ghost use Rattle.counting.specs.declared.fault.CountFault.{CountFault};
+ghost use Rattle.samples.specs.Runs.{SamplesBy, IsSilent as IsMute};
+ghost use Rattle.samples.specs.declared.sampling.Sampling.{Sampling};
 ghost use Rattle.outside.specs.declared.shelf.HeldFile.{HeldFile};
 ghost use Rattle.sheets.specs.Sheets.{IsSheet};
 ghost use Rattle.serving.specs.declared.status.Ending.{Ending};
 ghost use Rattle.serving.specs.declared.status.Serving.{Serving};
-ghost use Rattle.serving.specs.declared.status.Status.{Status};
+ghost use Rattle.statuses.specs.declared.status.Status.{Status};
 ghost use Rattle.terms.specs.declared.parts.Parts.{Parts};
 
 use crate::list::write_list;
 use crate::service::serve;
-use crate::status::{Ending, Status};
-use crate::words::{Command, counted_start, read_command};
+use crate::status::{Ending, of_counting, of_listing, of_sampling, of_serving};
+use command_line::{Command, Plain, plain_command, read_command};
 use counting::count;
 use outside::{End, ReadFault, Shelf, Sink, Source, WriteFault, read_up_to};
+use samples::tell_sample;
 use sheets::{SheetFault, read_sheet};
+use statuses::Status;
 use std::alloc::Global;
 use std::sync::Wait;
 use std::thread::Threads;
@@ -57,7 +62,7 @@ fn list<S: Source, K: Sink, H: Shelf>(alloc: Global, end: &mut End<S, K, H>) -> 
 
 /// Runs a command other than `serve` over one end: `list` reads a sheet from its source and writes its list to its sink;
 /// `count` loads a start text and the class files that it names from its shelf, and writes the lines of their counts to
-/// its sink. It waits for nobody. The codes are those of `run`.
+/// its sink; `sample` writes the six lines of a sample to its sink. It waits for nobody. The codes are those of `run`.
 pub fn run_plain<S: Source, K: Sink, H: Shelf>(
     alloc: Global,
     words: &[String],
@@ -71,6 +76,9 @@ pub fn run_plain<S: Source, K: Sink, H: Shelf>(
         → ((way : Counting) × (result ≡ counting_status way) × CountsBy way (H.holds end.old.shelf) start (K.written end.old.sink) (K.written end.new.sink)
         (H.faults end.old.shelf) (H.faults end.new.shelf) (K.faults end.old.sink) (K.faults end.new.sink)
         × (IsSilent way → end.new.sink ≡ end.old.sink)) }
+    ensures sampling { (n : ℕ) → AskFor (sampled n) (map string_bytes words.now)
+        → ((way : Sampling) × (result ≡ sampling_status way) × SamplesBy way n (K.written end.old.sink) (K.written end.new.sink)
+        (K.faults end.old.sink) (K.faults end.new.sink) × (IsMute way → end.new.sink ≡ end.old.sink)) }
     ensures fits { result.code ≢ 2 }
     ensures complete { (bytes : List ℕ) (parts : Parts) → AskFor listed (map string_bytes words.now) → S.left end.old.source ≡ Some bytes → IsSheet bytes parts
         → ¬ (Rose (S.faults end.old.source) (S.faults end.new.source)) → ¬ (Rose (K.faults end.old.sink) (K.faults end.new.sink))
@@ -79,29 +87,33 @@ pub fn run_plain<S: Source, K: Sink, H: Shelf>(
         → ((fault : CountFault) → IsFaultOf files start fault → ⊥)
         → ¬ (Rose (H.faults end.old.shelf) (H.faults end.new.shelf)) → ¬ (Rose (K.faults end.old.sink) (K.faults end.new.sink))
         → (result.code ≡ 0) ⊎ (result.code ≡ 6) }
+    ensures complete_sample { (n : ℕ) → AskFor (sampled n) (map string_bytes words.now) → ¬ (Rose (K.faults end.old.sink) (K.faults end.new.sink))
+        → (result.code ≡ 0) ⊎ (result.code ≡ 6) }
     ensures source { (start : List ℕ) → AskFor (counted start) (map string_bytes words.now) → end.new.source ≡ end.old.source }
+    ensures unread { (n : ℕ) → AskFor (sampled n) (map string_bytes words.now) → (end.new.source ≡ end.old.source) × (end.new.shelf ≡ end.old.shelf) }
     ensures shelf { AskFor listed (map string_bytes words.now) → end.new.shelf ≡ end.old.shelf }
     ensures shelf_holds { H.holds end.new.shelf ≡ H.holds end.old.shelf }
     ensures later { (S.faults end.old.source ≤ S.faults end.new.source) × (K.faults end.old.sink ≤ K.faults end.new.sink) × (H.faults end.old.shelf ≤ H.faults end.new.shelf) }
 {
-    match counted_start(words) {
-        Some(start) => Status::of_counting(count(alloc, start, end)),
-        None => Status::of(list(alloc, end)),
+    match plain_command(words) {
+        Plain::List => of_listing(list(alloc, end)),
+        Plain::Count { start } => of_counting(count(alloc, start, end)),
+        Plain::Sample { number } => of_sampling(tell_sample(alloc, number, end)),
     }
 }
 
 /// Does all that the program does: looks at the words and then at the number of ends, and serves what the words ask for
 /// over the ends. `list` needs one end, reads a sheet from its source and writes its list to its sink. `count` needs one
 /// end, loads the class files that a start text names from its shelf, reads nothing, and writes a line for each key that
-/// they use to its sink. `serve` needs one end more than it has pairs. It answers an editor at each end, each in a
-/// thread, all over one list of published changes, from the class files of a start text on, which it loads from the
-/// shelf of the first end before anything is read; it may wait. The ends stay as many, in their order. The code is 0
-/// where all was read and written, and a session was shut down before its exit; 1 where it wasn't; 2 where the words or
-/// the ends don't fit; 3 where the input is no sheet (its line and cause) or its frames are wrong (the place and the
-/// number of the fault); 4 or 5 where the source, or the shelf of `count` or of the first end before the sessions, or
-/// the sink failed; 6 where memory was wanting; 7 where a session needs a byte past the first 2^40; 8 where the start
-/// text is wrong (its line and the number of the cause). Of several sessions the greatest code is answered, with the
-/// first end that has it; else the end is 0.
+/// they use to its sink. `sample` needs one end, reads and loads nothing, and writes six lines. `serve` needs one end
+/// more than it has pairs. It answers an editor at each end, each in a thread, all over one list of published changes,
+/// from the class files of a start text on, which it loads from the shelf of the first end before anything is read; it
+/// may wait. The ends stay as many, in their order. The code is 0 where all was read and written, and a session was shut
+/// down before its exit; 1 where it wasn't; 2 where the words or the ends don't fit; 3 where the input is no sheet (its
+/// line and cause) or its frames are wrong (the place and the number of the fault); 4 or 5 where the source, or the
+/// shelf of `count` or of the first end before the sessions, or the sink failed; 6 where memory was wanting; 7 where a
+/// session needs a byte past the first 2^40; 8 where the start text is wrong (its line and the number of the cause). Of
+/// several sessions the greatest code is answered, with the first end that has it; else the end is 0.
 pub fn run<
     S: Source + Drop + Send,
     K: Sink + Drop + Send,
@@ -123,6 +135,10 @@ pub fn run<
         → ((way : Counting) × (result ≡ counting_status way) × ((e f : End S K H) → ends.old.items ≡ e ∷ [] → ends.new.items ≡ f ∷ []
         → CountsBy way (H.holds e.shelf) start (K.written e.sink) (K.written f.sink) (H.faults e.shelf) (H.faults f.shelf) (K.faults e.sink) (K.faults f.sink)
         × (IsSilent way → f.sink ≡ e.sink) × (f.source ≡ e.source))) }
+    ensures sampling { (n : ℕ) → AskFor (sampled n) (map string_bytes words.now) → length ends.old.items ≡ 1
+        → ((way : Sampling) × (result ≡ sampling_status way) × ((e f : End S K H) → ends.old.items ≡ e ∷ [] → ends.new.items ≡ f ∷ []
+        → SamplesBy way n (K.written e.sink) (K.written f.sink) (K.faults e.sink) (K.faults f.sink)
+        × (IsMute way → f.sink ≡ e.sink) × (f.source ≡ e.source) × (f.shelf ≡ e.shelf))) }
     ensures kept { length ends.new.items ≡ length ends.old.items }
     ensures faults_rise { (i : ℕ) (e f : End S K H) → slice_get ends.old.items i ≡ Some e → slice_get ends.new.items i ≡ Some f
         → (S.faults e.source ≤ S.faults f.source) × (K.faults e.sink ≤ K.faults f.sink) × (H.faults e.shelf ≤ H.faults f.shelf) }
@@ -138,6 +154,9 @@ pub fn run<
         → AskFor (counted start) (map string_bytes words.now) → H.holds e.shelf ≡ Some files → ((fault : CountFault) → IsFaultOf files start fault → ⊥)
         → ¬ (Rose (H.faults e.shelf) (H.faults f.shelf)) → ¬ (Rose (K.faults e.sink) (K.faults f.sink))
         → (result.code ≡ 0) ⊎ (result.code ≡ 6) }
+    ensures complete_sample { (e f : End S K H) (n : ℕ) → ends.old.items ≡ e ∷ [] → ends.new.items ≡ f ∷ []
+        → AskFor (sampled n) (map string_bytes words.now) → ¬ (Rose (K.faults e.sink) (K.faults f.sink))
+        → (result.code ≡ 0) ⊎ (result.code ≡ 6) }
 {
     let command = match read_command(words) {
         Ok(command) => command,
@@ -148,7 +167,8 @@ pub fn run<
     }
     match command {
         Command::List => run_plain(alloc, words, &mut ends[0]),
-        Command::Serve { start, pairs: _ } => Status::of_serving(serve(rt, alloc, start, ends)),
+        Command::Serve { start, pairs: _ } => of_serving(serve(rt, alloc, start, ends)),
         Command::Count { start: _ } => run_plain(alloc, words, &mut ends[0]),
+        Command::Sample { number: _ } => run_plain(alloc, words, &mut ends[0]),
     }
 }

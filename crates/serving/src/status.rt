@@ -1,20 +1,14 @@
 ghost use Rattle.std.specs.Prelude.{◌≡◌};
 ghost use Rattle.serving.specs.Runs.{status_of};
 ghost use Rattle.serving.specs.Counts.{counting_status};
+ghost use Rattle.serving.specs.Samplings.{sampling_status};
 ghost use Rattle.serving.specs.Services.{Tells, serving_status};
 
 use counting::Counting;
+use samples::Sampling;
 use sessions::Ended;
 use start_text::StartFault;
-
-/// What the program answers: its exit code, and where and why. `end` is the number of the end, from 0.
-#[derive(Clone, Copy, Debug, PartialEq, Eq)]
-pub struct Status {
-    pub code: u8,
-    pub end: u32,
-    pub place: u64,
-    pub cause: u32,
-}
+use statuses::Status;
 
 /// How a run of `list` over one end ended.
 #[derive(Clone, Copy, Debug, PartialEq, Eq)]
@@ -59,89 +53,65 @@ impl Serving {
     }
 }
 
-impl Status {
-    /// A code alone.
-    fn plain(code: u8) -> Status
-        ensures { result ≡ record { code = code; end = 0; place = 0; cause = 0 } }
-    {
-        Status {
-            code,
+/// The status of an ending of `list`.
+#[tactic(auto, unfolding(crate::specs::Runs::status_of))]
+pub fn of_listing(ending: Ending) -> Status
+    ensures { result ≡ status_of ending }
+{
+    match ending {
+        Ending::Whole => Status::plain(0),
+        Ending::NotSheet(line, cause) => Status {
+            code: 3,
             end: 0,
-            place: 0,
-            cause: 0,
-        }
-    }
-
-    /// Words or ends that don't fit: where, and whether it is the words (1) or the ends (2).
-    pub fn usage(place: u64, cause: u32) -> Status
-        ensures { result ≡ record { code = 2; end = 0; place = place; cause = cause } }
-    {
-        Status {
-            code: 2,
-            end: 0,
-            place,
+            place: line as u64,
             cause,
-        }
+        },
+        Ending::ReadFault => Status::plain(4),
+        Ending::WriteFault => Status::plain(5),
+        Ending::OutOfMemory => Status::plain(6),
     }
+}
 
-    /// The status of an ending.
-    #[tactic(auto, unfolding(crate::specs::Runs::status_of))]
-    pub fn of(ending: Ending) -> Status
-        ensures { result ≡ status_of ending }
-    {
-        match ending {
-            Ending::Whole => Status::plain(0),
-            Ending::NotSheet(line, cause) => Status {
-                code: 3,
-                end: 0,
-                place: line as u64,
-                cause,
-            },
-            Ending::ReadFault => Status::plain(4),
-            Ending::WriteFault => Status::plain(5),
-            Ending::OutOfMemory => Status::plain(6),
-        }
+/// The status of a run of `serve`.
+#[tactic(auto, unfolding(crate::specs::Services::serving_status))]
+pub fn of_serving(serving: Serving) -> Status
+    ensures { result ≡ serving_status serving }
+{
+    match serving {
+        Serving::Sessions(end, ended) => Status {
+            code: ended.code,
+            end,
+            place: ended.place,
+            cause: ended.cause,
+        },
+        Serving::NotStarted(line, cause) => Status::wrong_start(line, cause),
+        Serving::ShelfFault => Status::plain(4),
+        Serving::OutOfMemory => Status::plain(6),
     }
+}
 
-    /// The status of a run of `serve`.
-    #[tactic(auto, unfolding(crate::specs::Services::serving_status))]
-    pub fn of_serving(serving: Serving) -> Status
-        ensures { result ≡ serving_status serving }
-    {
-        match serving {
-            Serving::Sessions(end, ended) => Status {
-                code: ended.code,
-                end,
-                place: ended.place,
-                cause: ended.cause,
-            },
-            Serving::NotStarted(line, cause) => Status {
-                code: 8,
-                end: 0,
-                place: line as u64,
-                cause,
-            },
-            Serving::ShelfFault => Status::plain(4),
-            Serving::OutOfMemory => Status::plain(6),
-        }
+/// The status of a run of `count`.
+#[tactic(auto, unfolding(crate::specs::Counts::counting_status))]
+pub fn of_counting(counting: Counting) -> Status
+    ensures { result ≡ counting_status counting }
+{
+    match counting {
+        Counting::Whole => Status::plain(0),
+        Counting::NotStarted(line, cause) => Status::wrong_start(line, cause),
+        Counting::ShelfFault => Status::plain(4),
+        Counting::WriteFault => Status::plain(5),
+        Counting::OutOfMemory => Status::plain(6),
     }
+}
 
-    /// The status of a run of `count`.
-    #[tactic(auto, unfolding(crate::specs::Counts::counting_status))]
-    pub fn of_counting(counting: Counting) -> Status
-        ensures { result ≡ counting_status counting }
-    {
-        match counting {
-            Counting::Whole => Status::plain(0),
-            Counting::NotStarted(line, cause) => Status {
-                code: 8,
-                end: 0,
-                place: line as u64,
-                cause,
-            },
-            Counting::ShelfFault => Status::plain(4),
-            Counting::WriteFault => Status::plain(5),
-            Counting::OutOfMemory => Status::plain(6),
-        }
+/// The status of a run of `sample`.
+#[tactic(auto, unfolding(crate::specs::Samplings::sampling_status))]
+pub fn of_sampling(sampling: Sampling) -> Status
+    ensures { result ≡ sampling_status sampling }
+{
+    match sampling {
+        Sampling::Whole => Status::plain(0),
+        Sampling::WriteFault => Status::plain(5),
+        Sampling::OutOfMemory => Status::plain(6),
     }
 }

@@ -1,9 +1,9 @@
+use crate::words::words_of;
 use lists::{Items, Text};
 use outside::{End, FaultPlan, HeldFile, MemShelf, MemSink, MemSource};
-use serving::{Command, Refused, Status, client_names, read_command, run};
+use serving::{Status, run};
 use std::alloc::{AllocError, Global};
 use std::sync::Wait;
-use std::test::Fail;
 use std::thread::Threads;
 
 /// `public class A extends java/lang/Object` with a constructor of six bytes of code, from 123 on, that calls that of
@@ -49,14 +49,6 @@ fn end_of(
         sink: MemSink::new(alloc, FaultPlan::new(Items::from_slice(alloc, &[write])?)),
         shelf: MemShelf::new(files, FaultPlan::new(Items::from_slice(alloc, &[load])?)),
     })
-}
-
-fn words_of(alloc: Global, texts: &[&str]) -> Result<Vec<String>, AllocError> {
-    let mut words = Vec::new(alloc);
-    for text in texts {
-        words.push(String::from_str(alloc, text)?)?;
-    }
-    Ok(words)
 }
 
 /// A start text, the load and the write that fail, the code, place and cause of the run over one end, and what it
@@ -124,50 +116,5 @@ fn a_count_needs_one_end(rt: HostRuntime) -> Result<(), AllocError> {
     let mut ends = vec![in alloc; end_of(alloc, "", 0, 0)?, two]?;
     let status = run(&rt, alloc, words.as_slice(), &mut ends);
     assert_eq!(rt; told(&status), (2, 2, 2));
-    Ok(())
-}
-
-/// Words of `count` that name no start text, and the number of the first that can't stand there.
-const WRONG: [(&[&str], u32); 11] = [
-    (&["coun"], 0),
-    (&["count"], 1),
-    (&["count", "x"], 1),
-    (&["count", "a=b"], 1),
-    (&["count", "--start="], 1),
-    (&["count", "--start=-x"], 1),
-    (&["count", "--start"], 2),
-    (&["count", "--start", ""], 2),
-    (&["count", "--start", "-x"], 2),
-    (&["count", "--start=F", "--start=F"], 2),
-    (&["count", "--start", "F", "G"], 3),
-];
-
-#[test]
-fn words_of_count_are_read(rt: HostRuntime) -> Result<(), Fail> {
-    let alloc = rt.alloc();
-    for texts in [
-        &["count", "--start", "a=b"] as &[&str],
-        &["count", "--start=a=b"],
-    ] {
-        let words = words_of(alloc, texts)?;
-        assert!(rt;
-            matches!(
-                read_command(words.as_slice()),
-                Ok(Command::Count { start: "a=b" })
-            )
-        );
-        assert!(rt; matches!(client_names(alloc, words.as_slice()), Ok(names) if names.is_empty()));
-    }
-    for (texts, wanted) in &WRONG {
-        let words = words_of(alloc, texts)?;
-        match read_command(words.as_slice()) {
-            Ok(_) => assert!(rt; false),
-            Err(fault) => assert_eq!(rt; fault.word, *wanted),
-        }
-        match client_names(alloc, words.as_slice()) {
-            Err(Refused::Fault(fault)) => assert_eq!(rt; fault.word, *wanted),
-            _ => assert!(rt; false),
-        }
-    }
     Ok(())
 }

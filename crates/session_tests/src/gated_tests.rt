@@ -2,7 +2,7 @@ use crate::frame_tests::{CAPABILITIES, EXIT, INITIALIZE, SHUTDOWN, STOPPED, fram
 use crate::publication_tests::{AFTER_USES, EIGHT, USE_THRICE, file, shelf};
 use crate::two_client_tests::{PUT_A, SIX_IN_VERSION_2, VERSION_2};
 use crate::version_tests::{AFTER_READER, BY_THREE, DEMO, NEXT_THREE, OTHER_THREE, SIX, THREE};
-use crate::word_tests::words_of;
+use crate::words::words_of;
 use outside::{End, FaultPlan, FlaggedSink, GatedSource, MemShelf, MemSink};
 use serving::run;
 use std::alloc::{AllocError, Global};

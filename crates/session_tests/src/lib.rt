@@ -24,6 +24,8 @@ mod publication_tests;
 #[cfg(test)]
 mod run_tests;
 #[cfg(test)]
+mod sample_tests;
+#[cfg(test)]
 mod serve_tests;
 #[cfg(test)]
 mod several_tests;
@@ -40,4 +42,4 @@ mod two_client_tests;
 #[cfg(test)]
 mod version_tests;
 #[cfg(test)]
-mod word_tests;
+mod words;

@@ -1,3 +1,4 @@
+use crate::words::words_of;
 use lists::{Items, Text};
 use outside::{End, FaultPlan, HeldFile, MemShelf, MemSink, MemSource};
 use serving::{Status, run};
@@ -57,14 +58,6 @@ fn shelf_of(alloc: Global, failing: u64) -> Result<MemShelf, AllocError> {
 /// The call of this number fails, none where it is 0.
 fn plan_of(alloc: Global, failing: u64) -> Result<FaultPlan, AllocError> {
     Ok(FaultPlan::new(Items::from_slice(alloc, &[failing])?))
-}
-
-fn words_of(alloc: Global, texts: &[&str]) -> Result<Vec<String>, AllocError> {
-    let mut words = Vec::new(alloc);
-    for text in texts {
-        words.push(String::from_str(alloc, text)?)?;
-    }
-    Ok(words)
 }
 
 /// Runs the words over one end.

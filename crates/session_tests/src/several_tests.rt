@@ -1,7 +1,7 @@
 use crate::frame_tests::{CAPABILITIES, EXIT, INITIALIZE, SHUTDOWN, STOPPED, framed};
 use crate::gated_tests::started_shelf;
 use crate::version_tests::{AFTER_READER, DEMO};
-use crate::word_tests::words_of;
+use crate::words::words_of;
 use lists::{Items, Text};
 use outside::{End, FaultPlan, HeldFile, MemShelf, MemSink, MemSource};
 use serving::{Status, run};

@@ -4,9 +4,10 @@ use std::test::*;
 const USAGE: &str = "Usage: insynthd <COMMAND>
 
 Commands:
-  list   Write the terms of the sheet on standard input, by weight
-  count  Write how often class files use each field, method and constructor
-  serve  Serve a client on standard input and output
+  list    Write the terms of the sheet on standard input, by weight
+  count   Write how often class files use each field, method and constructor
+  sample  Write what is found among 200 made classes, in six lines
+  serve   Serve a client on standard input and output
 
 Write how often class files use each field, method and constructor
 
@@ -14,6 +15,13 @@ Usage: insynthd count --start <FILE>
 
 Options:
       --start <FILE>  Count in the class files whose paths this file names, one a line
+
+Write what is found among 200 made classes, in six lines
+
+Usage: insynthd sample <N>
+
+Arguments:
+  <N>  Make the classes of this number, which is at most 1000000
 
 Serve a client on standard input and output
 

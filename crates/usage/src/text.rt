@@ -18,6 +18,16 @@ fn count_command<'a>(alloc: Global) -> Result<Command<'a>, AllocError> {
         .arg(start)
 }
 
+/// `sample N`.
+fn sample_command<'a>(alloc: Global) -> Result<Command<'a>, AllocError> {
+    let number = Arg::new(alloc, "N").required(true).help(
+        "Make the classes of this number, which is at most 1000000",
+    );
+    Command::new(alloc, "sample")
+        .about("Write what is found among 200 made classes, in six lines")
+        .arg(number)
+}
+
 /// `serve [--start FILE] [IN=OUT ..]`.
 fn serve_command<'a>(alloc: Global) -> Result<Command<'a>, AllocError> {
     let start = Arg::new(alloc, "start")
@@ -46,6 +56,7 @@ fn program<'a>(alloc: Global) -> Result<Command<'a>, AllocError> {
         .subcommand_required(true)
         .subcommand(list_command(alloc))?
         .subcommand(count_command(alloc)?)?
+        .subcommand(sample_command(alloc)?)?
         .subcommand(serve_command(alloc)?)
 }
 
@@ -54,10 +65,11 @@ fn program<'a>(alloc: Global) -> Result<Command<'a>, AllocError> {
 pub fn usage_text(alloc: Global) -> Result<String, AllocError> {
     let mut text = program(alloc)?.render_help()?;
     let count = alone(count_command(alloc)?, "insynthd count")?.render_help()?;
+    let sample = alone(sample_command(alloc)?, "insynthd sample")?.render_help()?;
     let serve = alone(serve_command(alloc)?, "insynthd serve")?.render_help()?;
-    text.push_str("\n")?;
-    text.push_str(count.as_str())?;
-    text.push_str("\n")?;
-    text.push_str(serve.as_str())?;
+    for command in [&count, &sample, &serve] {
+        text.push_str("\n")?;
+        text.push_str(command.as_str())?;
+    }
     Ok(text)
 }

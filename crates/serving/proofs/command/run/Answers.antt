@@ -1,15 +1,16 @@
-use Rattle.std.proofs.Common.{rules, tests, ◌≡◌, ◌≢◌, inr, ◌∙◌, sym, refl, ap, subst, map, length, get_or, option_map, Some}
+use Rattle.std.proofs.Common.{rules, tests, ◌≡◌, ◌≢◌, inl, inr, ◌∙◌, sym, refl, ap, subst, map, length, get_or, option_map, Some}
 use Rattle.std.specs.Prelude.{string_bytes, slice_set}
 use Rattle.outside.specs.Causes.{Rose}
 use Rattle.std.proofs.lemmas.Option.{slice_get-map}
 use Rattle.serving.specs.Services.{view_of}
 use Rattle.serving.specs.Usages.{IsUsage}
-use Rattle.serving.specs.Words.{list, serve, count, AskFor, Commands, ends_of}
-use Rattle.serving.specs.declared.status.Status.{Status}
-use Rattle.serving.specs.declared.words.Command.TheVariants as command
+use Rattle.command_line.specs.Words.{list, serve, count, sample, AskFor, Commands, ends_of}
+use Rattle.command_line.proofs.Asked.{asked-of, ends-asked, serve-start, not-counted, count-not-served, not-sampled, count-not-sampled, sample-not-served}
+use Rattle.statuses.specs.declared.status.Status.{Status}
+use Rattle.command_line.specs.declared.command.Command.TheVariants as command
 use Rattle.serving.proofs.Ends.{head-is}
 use Rattle.serving.proofs.Served.{no-usage-served}
-use Rattle.serving.proofs.Usages.{wrong-words, wrong-ends, is-wrong-ends, no-usage-fits, asked-of, ends-asked, serve-start, not-counted, count-not-served}
+use Rattle.serving.proofs.Usages.{wrong-words, wrong-ends, is-wrong-ends, no-usage-fits}
 use Rattle.serving.proofs.command.run.Goals as goal
 
 pub returns-in-Err-clause-usage : goal.returns-in-Err-clause-usage
@@ -31,6 +32,12 @@ returns-in-Err-clause-counting g c = λ start words one. absurd (c.in-Err.ensure
 
 pub returns-in-Err-clause-complete_count : goal.returns-in-Err-clause-complete_count
 returns-in-Err-clause-complete_count g c = λ e f files start before after words held sound shelf sink. absurd (c.in-Err.ensures.command.nothing (count start) words)
+
+pub returns-in-Err-clause-sampling : goal.returns-in-Err-clause-sampling
+returns-in-Err-clause-sampling g c = λ n words one. absurd (c.in-Err.ensures.command.nothing (sample n) words)
+
+pub returns-in-Err-clause-complete_sample : goal.returns-in-Err-clause-complete_sample
+returns-in-Err-clause-complete_sample g c = λ e f n before after words sink. absurd (c.in-Err.ensures.command.nothing (sample n) words)
 
 pub returns-then-len-ends-clause-usage : goal.returns-then-len-ends-clause-usage
 returns-then-len-ends-clause-usage g c = λ status u.
@@ -76,6 +83,20 @@ returns-then-len-ends-clause-complete_count g c = λ e f files start before afte
     let other : length c.args.ends.now.items ≢ ends_of c.in-Ok.command = search (rules, tests) in
     absurd (other (ap length before ∙ sym (ends-asked c.in-Ok.command ws (count start) h words)))
 
+pub returns-then-len-ends-clause-sampling : goal.returns-then-len-ends-clause-sampling
+returns-then-len-ends-clause-sampling g c = λ n words one.
+    let ws = map string_bytes c.args.words.now in
+    let h : Commands c.in-Ok.command ws = search rules in
+    let other : length c.args.ends.now.items ≢ ends_of c.in-Ok.command = search (rules, tests) in
+    absurd (other (one ∙ sym (ends-asked c.in-Ok.command ws (sample n) h words)))
+
+pub returns-then-len-ends-clause-complete_sample : goal.returns-then-len-ends-clause-complete_sample
+returns-then-len-ends-clause-complete_sample g c = λ e f n before after words sink.
+    let ws = map string_bytes c.args.words.now in
+    let h : Commands c.in-Ok.command ws = search rules in
+    let other : length c.args.ends.now.items ≢ ends_of c.in-Ok.command = search (rules, tests) in
+    absurd (other (ap length before ∙ sym (ends-asked c.in-Ok.command ws (sample n) h words)))
+
 pub returns-in-List-clause-usage : goal.returns-in-List-clause-usage
 returns-in-List-clause-usage g c = λ status u.
     let ws = map string_bytes c.args.words.now in
@@ -105,6 +126,16 @@ pub returns-in-List-clause-complete_count : goal.returns-in-List-clause-complete
 returns-in-List-clause-complete_count g c = λ e f files start before after words held sound shelf sink.
     let h : AskFor list (map string_bytes c.args.words.now) = search rules in
     absurd (not-counted (map string_bytes c.args.words.now) start h words)
+
+pub returns-in-List-clause-sampling : goal.returns-in-List-clause-sampling
+returns-in-List-clause-sampling g c = λ n words one.
+    let h : AskFor list (map string_bytes c.args.words.now) = search rules in
+    absurd (not-sampled (map string_bytes c.args.words.now) n h words)
+
+pub returns-in-List-clause-complete_sample : goal.returns-in-List-clause-complete_sample
+returns-in-List-clause-complete_sample g c = λ e f n before after words sink.
+    let h : AskFor list (map string_bytes c.args.words.now) = search rules in
+    absurd (not-sampled (map string_bytes c.args.words.now) n h words)
 
 pub returns-in-Serve-clause-usage : goal.returns-in-Serve-clause-usage
 returns-in-Serve-clause-usage g c = λ status u.
@@ -154,10 +185,24 @@ returns-in-Serve-clause-complete_count g c = λ e f files start before after wor
     let told : Commands (command.Serve c.in-Serve.start _) ws = subst (λ x. Commands x ws) c.in-Serve.is h in
     absurd (count-not-served ws start _ _ words told.2)
 
+pub returns-in-Serve-clause-sampling : goal.returns-in-Serve-clause-sampling
+returns-in-Serve-clause-sampling g c = λ n words one.
+    let ws = map string_bytes c.args.words.now in
+    let h : Commands c.in-Ok.command ws = search rules in
+    let told : Commands (command.Serve c.in-Serve.start _) ws = subst (λ x. Commands x ws) c.in-Serve.is h in
+    absurd (sample-not-served ws n _ _ words told.2)
+
+pub returns-in-Serve-clause-complete_sample : goal.returns-in-Serve-clause-complete_sample
+returns-in-Serve-clause-complete_sample g c = λ e f n before after words sink.
+    let ws = map string_bytes c.args.words.now in
+    let h : Commands c.in-Ok.command ws = search rules in
+    let told : Commands (command.Serve c.in-Serve.start _) ws = subst (λ x. Commands x ws) c.in-Serve.is h in
+    absurd (sample-not-served ws n _ _ words told.2)
+
 pub run_plain-requires-in-Count : goal.run_plain-requires-in-Count
 run_plain-requires-in-Count g c =
     let h : AskFor (count c.in-Count.start.now) (map string_bytes c.args.words.now) = search rules in
-    record { plain = inr (c.in-Count.start.now, h) }
+    record { plain = inr (inl (c.in-Count.start.now, h)) }
 
 pub returns-in-Count-clause-usage : goal.returns-in-Count-clause-usage
 returns-in-Count-clause-usage g c = λ status u.
@@ -211,3 +256,80 @@ returns-in-Count-clause-complete_count g c = λ e f files start before after wor
     let steady : ¬ (Rose (g.H.Shelf.faults was.shelf) (g.H.Shelf.faults is.shelf)) = rw (old, new) shelf in
     let taken : ¬ (Rose (g.K.Sink.faults was.sink) (g.K.Sink.faults is.sink)) = rw (old, new) sink in
     c.run_plain-in-Count.ensures.complete_count files start words holds sound steady taken
+
+pub returns-in-Count-clause-sampling : goal.returns-in-Count-clause-sampling
+returns-in-Count-clause-sampling g c = λ n words one.
+    let h : AskFor (count c.in-Count.start.now) (map string_bytes c.args.words.now) = search rules in
+    absurd (count-not-sampled (map string_bytes c.args.words.now) _ n h words)
+
+pub returns-in-Count-clause-complete_sample : goal.returns-in-Count-clause-complete_sample
+returns-in-Count-clause-complete_sample g c = λ e f n before after words sink.
+    let h : AskFor (count c.in-Count.start.now) (map string_bytes c.args.words.now) = search rules in
+    absurd (count-not-sampled (map string_bytes c.args.words.now) _ n h words)
+
+pub run_plain-requires-in-Sample : goal.run_plain-requires-in-Sample
+run_plain-requires-in-Sample g c =
+    let h : AskFor (sample c.in-Sample.number) (map string_bytes c.args.words.now) = search rules in
+    record { plain = inr (inr (c.in-Sample.number, h)) }
+
+pub returns-in-Sample-clause-usage : goal.returns-in-Sample-clause-usage
+returns-in-Sample-clause-usage g c = λ status u.
+    let ws = map string_bytes c.args.words.now in
+    let n = length c.args.ends.now.items in
+    let h : Commands c.in-Ok.command ws = search rules in
+    let asked = asked-of c.in-Ok.command ws h in
+    let even : n ≡ ends_of c.in-Ok.command = search (rules, tests) in
+    absurd (no-usage-fits ws n asked.0 status asked.1 (even ∙ sym asked.2) u)
+
+pub returns-in-Sample-clause-ending : goal.returns-in-Sample-clause-ending
+returns-in-Sample-clause-ending g c = λ words one.
+    let h : AskFor (sample c.in-Sample.number) (map string_bytes c.args.words.now) = search rules in
+    absurd (not-sampled (map string_bytes c.args.words.now) _ words h)
+
+pub returns-in-Sample-clause-serving : goal.returns-in-Sample-clause-serving
+returns-in-Sample-clause-serving g c = λ start pairs words many.
+    let h : AskFor (sample c.in-Sample.number) (map string_bytes c.args.words.now) = search rules in
+    absurd (sample-not-served (map string_bytes c.args.words.now) _ start pairs h words)
+
+pub returns-in-Sample-clause-counting : goal.returns-in-Sample-clause-counting
+returns-in-Sample-clause-counting g c = λ start words one.
+    let h : AskFor (sample c.in-Sample.number) (map string_bytes c.args.words.now) = search rules in
+    absurd (count-not-sampled (map string_bytes c.args.words.now) start _ words h)
+
+pub returns-in-Sample-clause-sampling : goal.returns-in-Sample-clause-sampling
+returns-in-Sample-clause-sampling g c = λ n words one.
+    let ran = c.run_plain-in-Sample.ensures.sampling n words in
+    let unread = c.run_plain-in-Sample.ensures.unread n words in
+    let was = c.index_mut-in-Sample.result.now in
+    let is = c.run_plain-in-Sample.new.end in (
+      ran.0,
+      ran.1,
+      λ e f before after.
+          let old : was ≡ e = c.index_mut-in-Sample.ensures.value ∙ ap (λ xs. get_or xs 0 was) before in
+          let new : is ≡ f = head-is is f (ap (λ xs. slice_set xs 0 is) (sym before) ∙ after) in
+          rw (← old, ← new) (ran.2, ran.3, unread.0, unread.1),
+    )
+
+pub returns-in-Sample-clause-shelf_stays : goal.returns-in-Sample-clause-shelf_stays
+returns-in-Sample-clause-shelf_stays g c = λ i e f words.
+    let h : AskFor (sample c.in-Sample.number) (map string_bytes c.args.words.now) = search rules in
+    absurd (not-sampled (map string_bytes c.args.words.now) _ words h)
+
+pub returns-in-Sample-clause-complete : goal.returns-in-Sample-clause-complete
+returns-in-Sample-clause-complete g c = λ e f bytes parts before after words.
+    let h : AskFor (sample c.in-Sample.number) (map string_bytes c.args.words.now) = search rules in
+    absurd (not-sampled (map string_bytes c.args.words.now) _ words h)
+
+pub returns-in-Sample-clause-complete_count : goal.returns-in-Sample-clause-complete_count
+returns-in-Sample-clause-complete_count g c = λ e f files start before after words.
+    let h : AskFor (sample c.in-Sample.number) (map string_bytes c.args.words.now) = search rules in
+    absurd (count-not-sampled (map string_bytes c.args.words.now) start _ words h)
+
+pub returns-in-Sample-clause-complete_sample : goal.returns-in-Sample-clause-complete_sample
+returns-in-Sample-clause-complete_sample g c = λ e f n before after words sink.
+    let was = c.index_mut-in-Sample.result.now in
+    let is = c.run_plain-in-Sample.new.end in
+    let old : was ≡ e = c.index_mut-in-Sample.ensures.value ∙ ap (λ xs. get_or xs 0 was) before in
+    let new : is ≡ f = head-is is f (ap (λ xs. slice_set xs 0 is) (sym before) ∙ after) in
+    let taken : ¬ (Rose (g.K.Sink.faults was.sink) (g.K.Sink.faults is.sink)) = rw (old, new) sink in
+    c.run_plain-in-Sample.ensures.complete_sample n words taken

@@ -1,9 +1,0 @@
-use Rattle.std.proofs.Common.{rules, tests, ◌≡◌, ◌≢◌, ◌∷◌, ◌++◌, ◌<◌, ◌≤◌, ℕ, List, [], length, map, take, true, false, None, Some, sym, ap, subst, ◌∙◌, arith}
-use Rattle.serving.proofs.Commands.{stuck-start, took-start}
-use Rattle.serving.proofs.words.Scan.take_start.Goals as goal
-
-pub returns-then-is_some : goal.returns-then-is_some
-returns-then-is_some c = λ words pairs s. stuck-start words c.args.self.now pairs c.requires.plain (search rules) s
-
-pub returns : goal.returns
-returns c = λ words pairs s. took-start words c.args.self.now pairs c.requires.plain (search rules) s

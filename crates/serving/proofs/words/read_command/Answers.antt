@@ -1,8 +1,0 @@
-use Rattle.std.proofs.Common.{rules, ◌≡◌, length}
-use Rattle.serving.proofs.Commands.{none-mapped, words-missing}
-use Rattle.serving.proofs.words.read_command.Goals as goal
-
-pub returns-in_default : goal.returns-in_default
-returns-in_default c =
-    let none : length c.args.words.now ≡ 0 = search rules in
-    record { command = rw (none-mapped c.args.words.now none) words-missing }
