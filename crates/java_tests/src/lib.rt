@@ -6,6 +6,8 @@
 #[cfg(test)]
 mod body_tests;
 #[cfg(test)]
+mod front_tests;
+#[cfg(test)]
 mod identifier_tests;
 #[cfg(test)]
 mod known_tests;

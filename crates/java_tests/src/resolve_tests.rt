@@ -61,7 +61,7 @@ fn write_arg(alloc: Global, arg: &TermArg, out: &mut String) -> Result<(), Alloc
 }
 
 /// What a text resolves to, or its fault.
-fn answer(alloc: Global, env: &Env, text: &str) -> Result<Result<Term, TextFault>, AllocError> {
+pub fn answer(alloc: Global, env: &Env, text: &str) -> Result<Result<Term, TextFault>, AllocError> {
     if !may_resolve(alloc, env)? {
         return Err(AllocError);
     }
