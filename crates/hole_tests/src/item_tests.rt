@@ -11,12 +11,12 @@ use terms::Env;
 /// Texts whose classes are published one after the other, a text with a hole, the line and UTF-16 unit of the hole,
 /// the greatest weight, and the weights and texts of all items.
 #[derive(Clone, Copy)]
-struct Row<'a> {
-    library: &'a [&'a str],
-    text: &'a str,
-    at: (u32, u32),
-    limit: u32,
-    items: &'a [(u32, &'a str)],
+pub struct Row<'a> {
+    pub library: &'a [&'a str],
+    pub text: &'a str,
+    pub at: (u32, u32),
+    pub limit: u32,
+    pub items: &'a [(u32, &'a str)],
 }
 
 /// The end of a text of one line: a unit past a line's end means its end.
@@ -32,7 +32,7 @@ fn document(alloc: Global, text: &str) -> Result<Document, Fail> {
 }
 
 /// The environment at the hole of a row.
-fn env_of(alloc: Global, index: &Index, row: &Row<'_>) -> Result<Env, Fail> {
+pub fn env_of(alloc: Global, index: &Index, row: &Row<'_>) -> Result<Env, Fail> {
     let document = document(alloc, row.text)?;
     let Some(place) = document.offset(row.at.0, row.at.1) else {
         return Err(Fail::from("a line"));
@@ -70,7 +70,7 @@ fn is_listed(alloc: Global, row: &Row<'_>) -> Result<bool, Fail> {
     Ok(lists(alloc, env, row.items)?)
 }
 
-const OVERLOADS: Row<'static> = Row {
+pub const OVERLOADS: Row<'static> = Row {
     library: &[
         "package q; public class T { public static int m(Object o) {} public static int m(String s) {} }",
     ],
@@ -86,7 +86,7 @@ fn overloads_are_told_apart_by_a_cast(rt: HostRuntime) -> Result<(), Fail> {
     Ok(())
 }
 
-const OVERRIDING: Row<'static> = Row {
+pub const OVERRIDING: Row<'static> = Row {
     library: &[
         "package q; public class A { public int m() {} }",
         "package q; public class B extends A { public int m() {} }",
@@ -103,7 +103,7 @@ fn an_overridden_method_is_called_once(rt: HostRuntime) -> Result<(), Fail> {
     Ok(())
 }
 
-const TWO_PROMISES: Row<'static> = Row {
+pub const TWO_PROMISES: Row<'static> = Row {
     library: &[
         "package q; public interface I { int m(); } ",
         "package q; public interface J { int m(); } ",
@@ -135,7 +135,7 @@ fn a_hidden_field_is_named_by_this(rt: HostRuntime) -> Result<(), Fail> {
     Ok(())
 }
 
-const READERS: Row<'static> = Row {
+pub const READERS: Row<'static> = Row {
     library: &[
         "package java.io; public abstract class Reader {}",
         "package java.io; public class FileReader extends Reader { public FileReader(String name) {} }",

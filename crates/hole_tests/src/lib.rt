@@ -10,4 +10,6 @@ mod item_tests;
 #[cfg(test)]
 mod offer_tests;
 #[cfg(test)]
+mod read_back_tests;
+#[cfg(test)]
 mod scope_tests;
