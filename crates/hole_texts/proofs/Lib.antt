@@ -1,4 +1,5 @@
 -- The laws of the texts of a hole's environment.
+pub mod Each
 pub mod Pairs
 pub mod Picks
 pub mod Paths

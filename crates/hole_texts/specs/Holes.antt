@@ -10,6 +10,11 @@ use Rattle.scopes.specs.Holes.{IsHoleIn}
 use Rattle.scopes.specs.Environments.{IsEnvironmentAt}
 use Rattle.hole_texts.specs.Texts.{HasTexts}
 
+-- The site is that of a hole of a text in UTF-8 with this unit.
+pub record IsTextHole (u : unit.Unit) (site : HoleSite) : Type 0 where
+  pub hole : IsHoleIn u site
+  pub utf8 : IsUtf8 hole.text
+
 -- An environment that is made for a hole of a text in UTF-8, over published classes of which each stands once, as in
 -- the state of each history.
 pub record IsOfHole (g : Parts) : Type 0 where
