@@ -29,6 +29,17 @@ and-false : (b : Bool) → (b && false) ≡ false
 and-false true = refl
 and-false false = refl
 
+and-true : (b : Bool) → (b && true) ≡ b
+and-true true = refl
+and-true false = refl
+
+-- two tests, of which the second is asked first
+pub none-of : (a b r : Bool) → r ≡ b → r ≡ false → false ≡ (a && b)
+none-of a b r e f = sym (ap (λ t. a && t) (sym e ∙ f) ∙ and-false a)
+
+pub one-of : (a b r out : Bool) → r ≡ b → r ≡ true → out ≡ a → out ≡ (a && b)
+one-of a b r out e t o = o ∙ sym (ap (λ x. a && x) (sym e ∙ t) ∙ and-true a)
+
 pub first-true : (a b : Bool) → (a && b) ≡ true → a ≡ true
 first-true true b e = refl
 first-true false b e = absurd (let h = e in cc)

@@ -1,14 +1,17 @@
 -- A member is crowded by one of its rivals, which stand among the members of its name.
-use Rattle.std.proofs.Common.{rules, ◌≡◌, ◌∙◌, ap, sym, subst, refl, ℕ, zero, suc, ◌<◌, length, Option, Some, Bool, true, false, ◌&&◌, ◌||◌, ◌==◌, cond, List, [], ◌∷◌, map, bytes_eq}
+use Rattle.std.proofs.Common.{rules, ◌≡◌, ◌∙◌, ap, sym, subst, refl, ℕ, zero, suc, ◌<◌, length, Some, Bool, true, false, ◌&&◌, ◌||◌, ◌==◌, cond, List, [], ◌∷◌, map, get_or, bytes_eq}
 use Rattle.std.specs.Prelude.{slice_get}
 use Rattle.std.specs.List.{list_any, filter}
-use Rattle.std.proofs.lemmas.Option.{slice_get_within}
+use Rattle.std.proofs.lemmas.Option.{slice_get_within, get_or_from_slice_get}
 use Rattle.type_names.specs.declared.kinds.Erased.{Erased}
+use Rattle.type_names.specs.declared.kinds.Base.TheVariants.{Int}
 use Rattle.offers.specs.declared.member.Member.{Member}
 use Rattle.offers.specs.declared.placed.Placed.{Placed}
 use Rattle.offers.specs.Scenes.{Scene, of_class, at_or_below}
 use Rattle.offers.specs.Candidates.{same_kind, is_private}
-use Rattle.offers.specs.Omissions.{is_kin, is_other, meet, crowds, is_crowded}
+use Rattle.offers.specs.Omissions.{is_kin, meet, crowds, is_crowded}
+use Rattle.offers.specs.Functional.{of_base}
+use Rattle.offers.specs.Types.{is_below_at}
 use Rattle.offers.specs.Grouping.{IsRow, at_place}
 use Rattle.offers.specs.Rivals.{is_rival, types_under, has_under, is_met}
 use Rattle.offers.proofs.Lists.{first-true, second-true}
@@ -47,12 +50,24 @@ crowded-by v ts ms m owner under out e f g h =
 pub crowded-same : (v : Scene) (old new : Placed) (ms ns : List Member) (m : Member) (out : Bool) → new ≡ old → ns ≡ ms → out ≡ is_crowded v new.types ns m → out ≡ is_crowded v old.types ms m
 crowded-same v old new ms ns m out e f h = h ∙ ap (λ (p : Placed). is_crowded v p.types ns m) e ∙ ap (λ (z : List Member). is_crowded v old.types z m) f
 
+-- the type of what stands at a place
+pub typed-at : {A : Type 0} (f : A → Erased) (xs : List A) (ts : List Erased) (i : ℕ) (x : A) → ts ≡ map f xs → slice_get xs i ≡ Some x → slice_get ts i ≡ Some (f x)
+typed-at f xs ts i x e s = ap (λ (us : List Erased). slice_get us i) e ∙ mapped-at f xs i x s
+
+pub typed-within : {A : Type 0} (f : A → Erased) (xs : List A) (ts : List Erased) (i : ℕ) (x : A) → ts ≡ map f xs → slice_get xs i ≡ Some x → i < length ts
+typed-within f xs ts i x e s = slice_get_within ts i (f x) (typed-at f xs ts i x e s)
+
 -- the owner of a member at a place
 pub owner-at : (ms : List Member) (ts : List Erased) (i : ℕ) (n : Member) → ts ≡ map (λ (m : Member). of_class m.owner) ms → slice_get ms i ≡ Some n → slice_get ts i ≡ Some (of_class n.owner)
-owner-at ms ts i n e s = ap (λ (us : List Erased). slice_get us i) e ∙ mapped-at (λ (m : Member). of_class m.owner) ms i n s
+owner-at ms ts i n e s = typed-at (λ (m : Member). of_class m.owner) ms ts i n e s
 
 pub owner-within : (ms : List Member) (ts : List Erased) (i : ℕ) (n : Member) → ts ≡ map (λ (m : Member). of_class m.owner) ms → slice_get ms i ≡ Some n → i < length ts
-owner-within ms ts i n e s = slice_get_within ts i (of_class n.owner) (owner-at ms ts i n e s)
+owner-within ms ts i n e s = typed-within (λ (m : Member). of_class m.owner) ms ts i n e s
+
+pub below-at : (v : Scene) (ms : List Member) (ts : List Erased) (i j : ℕ) (m n : Member) (out : Bool) → ts ≡ map (λ (m : Member). of_class m.owner) ms → slice_get ms i ≡ Some m → slice_get ms j ≡ Some n → out ≡ is_below_at v ts i j → out ≡ v.below (of_class m.owner) (of_class n.owner)
+below-at v ms ts i j m n out e s t h =
+    h ∙ ap (λ (a : Erased). v.below a (get_or ts j (of_base Int))) (get_or_from_slice_get ts i (of_class m.owner) (of_base Int) (owner-at ms ts i m e s))
+    ∙ ap (v.below (of_class m.owner)) (get_or_from_slice_get ts j (of_class n.owner) (of_base Int) (owner-at ms ts j n e t))
 
 same_name : (m n : Member) → bytes_eq m.name n.name ≡ true → n.name ≡ m.name
 same_name m n e = let q : m.name ≡ n.name = search rules in sym q

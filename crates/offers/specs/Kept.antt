@@ -1,13 +1,15 @@
--- What is kept while members are asked whether they are crowded.
+-- What is kept while members are asked whether they are crowded, and classes for the interfaces above them.
 use Rattle.std.specs.Prelude.{◌≡◌, List, map}
 use Rattle.type_names.specs.declared.kinds.Erased.{Erased}
 use Rattle.offers.specs.declared.crowds.OwnedMembers.{OwnedMembers}
 use Rattle.offers.specs.declared.crowds.BelowOwner.{BelowOwner}
 use Rattle.offers.specs.declared.crowds.Crowding.{Crowding}
+use Rattle.offers.specs.declared.interfaces.KnownInterfaces.{KnownInterfaces}
 use Rattle.offers.specs.Scenes.{of_class}
 use Rattle.offers.specs.Views.{Outlook, scene}
 use Rattle.offers.specs.Placing.{IsPlaced}
 use Rattle.offers.specs.Rivals.{types_under}
+use Rattle.offers.specs.Missing.{interfaces}
 
 -- The owners are those of the members, each with its place.
 pub record AreOwned (o : Outlook) (all : OwnedMembers) : Type 0 where
@@ -25,3 +27,9 @@ pub record IsCrowding (o : Outlook) (c : Crowding) : Type 0 where
   pub types : IsPlaced o c.types
   pub members : AreOwned o c.members
   pub kept : IsKept o c.types.types c.below
+
+-- The classes are the known interfaces, each with the place of its type.
+pub record AreInterfaces (o : Outlook) (all : KnownInterfaces) : Type 0 where
+  pub classes : all.classes ≡ interfaces (scene o)
+  pub kinds : all.kinds.types ≡ map (λ c. of_class c.name) all.classes
+  pub placed : IsPlaced o all.kinds

@@ -125,33 +125,42 @@ fn is_candidate(view: &View<'_>, class: &ClassSummary, member: &Member) -> bool
         || class.name.as_str() == view.edited().as_str()
 }
 
-/// All members of a class: fields first, and then methods and constructors.
-fn members(alloc: Global, class: &ClassSummary) -> Result<Items<Member>, AllocError>
-    ensures { IfOk result (λ all. all ≡ map (field_of class.now) class.now.fields ++ map (method_of class.now) class.now.methods) }
+/// Adds the fields of a class.
+fn add_fields(alloc: Global, class: &ClassSummary, all: &mut Vec<Member>) -> Result<(), AllocError>
+    ensures { OnOk result (all.new.items ≡ all.old.items ++ map (field_of class.now) class.now.fields) }
 {
-    let mut all = fields(alloc, class)?;
-    all.append(methods(alloc, class)?)?;
-    Ok(all)
-}
-
-fn fields(alloc: Global, class: &ClassSummary) -> Result<Items<Member>, AllocError>
-    ensures { IfOk result (λ all. all ≡ map (field_of class.now) class.now.fields) }
-{
-    let mut all = Items::new(alloc);
     for field in class.fields.as_slice() {
         all.push(field_of(alloc, class, field)?)?;
     }
-    Ok(all)
+    Ok(())
 }
 
-fn methods(alloc: Global, class: &ClassSummary) -> Result<Items<Member>, AllocError>
-    ensures { IfOk result (λ all. all ≡ map (method_of class.now) class.now.methods) }
+/// Adds the methods and constructors of a class.
+fn add_methods(alloc: Global, class: &ClassSummary, all: &mut Vec<Member>) -> Result<(), AllocError>
+    ensures { OnOk result (all.new.items ≡ all.old.items ++ map (method_of class.now) class.now.methods) }
 {
-    let mut all = Items::new(alloc);
     for method in class.methods.as_slice() {
         all.push(method_of(alloc, class, method)?)?;
     }
+    Ok(())
+}
+
+/// All members of a class: fields first, and then methods and constructors.
+fn members(alloc: Global, class: &ClassSummary) -> Result<Vec<Member>, AllocError>
+    ensures { IfOk result (λ all. all.items ≡ map (field_of class.now) class.now.fields ++ map (method_of class.now) class.now.methods) }
+{
+    let mut all = Vec::new(alloc);
+    add_fields(alloc, class, &mut all)?;
+    add_methods(alloc, class, &mut all)?;
     Ok(all)
+}
+
+/// Those of these members that are candidates.
+fn usable(view: &View<'_>, class: &ClassSummary, mut members: Vec<Member>) -> Vec<Member>
+    ensures { result.items ≡ filter (is_candidate (scene view.now) class.now) members.items }
+{
+    members.retain(|member| is_candidate(view, class, member));
+    members
 }
 
 /// The candidates of a class.
@@ -160,28 +169,9 @@ pub(crate) fn candidates(
     alloc: Global,
     view: &View<'_>,
     class: &ClassSummary,
-) -> Result<Items<Member>, AllocError>
-    ensures { IfOk result (λ all. all ≡ candidates (scene view.now) class.now) }
+) -> Result<Vec<Member>, AllocError>
+    ensures { IfOk result (λ all. all.items ≡ candidates (scene view.now) class.now) }
 {
     let all = members(alloc, class)?;
-    let kept = usable(alloc, view, class, all.as_slice())?;
-    Ok(kept)
-}
-
-/// Copies of those of these members that are candidates.
-fn usable(
-    alloc: Global,
-    view: &View<'_>,
-    class: &ClassSummary,
-    members: &[Member],
-) -> Result<Items<Member>, AllocError>
-    ensures { IfOk result (λ kept. kept ≡ filter (is_candidate (scene view.now) class.now) members.now) }
-{
-    let mut kept = Items::new(alloc);
-    for member in members {
-        if is_candidate(view, class, member) {
-            kept.push(member.copy(alloc)?)?;
-        }
-    }
-    Ok(kept)
+    Ok(usable(view, class, all))
 }

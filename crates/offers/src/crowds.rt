@@ -66,6 +66,30 @@ impl<'a> OwnedMembers<'a> {
         Ok(OwnedMembers { members, owners })
     }
 
+    /// The members by their names.
+    pub fn by_name(&self) -> &MembersByName<'a>
+        ensures { result.now ≡ self.now.members }
+    {
+        &self.members
+    }
+
+    /// Whether the owner of the member at one place is a strict subtype of that of the one at another.
+    pub fn is_owner_below(
+        &self,
+        view: &View<'_>,
+        member: &Member,
+        at: usize,
+        other: &Member,
+        place: usize,
+    ) -> bool
+        requires owned { AreOwned view.now self.now }
+        requires here { slice_get self.now.members at ≡ Some member.now }
+        requires there { slice_get self.now.members place ≡ Some other.now }
+        ensures { result ≡ (scene view.now).below (of_class member.now.owner) (of_class other.now.owner) }
+    {
+        self.owners.is_below(view, at, place)
+    }
+
     /// Whether one of these types is at or below the owner of the member at a place.
     fn is_owner_met(&self, view: &View<'_>, under: &Placed, other: &Member, place: usize) -> bool
         requires owned { AreOwned view.now self.now }

@@ -2,12 +2,13 @@ ghost use Rattle.std.specs.Prelude.{◌≡◌, ◌++◌, [], IfOk, OnOk};
 ghost use Rattle.offers.specs.Scenes.{of_class};
 ghost use Rattle.offers.specs.Reach.{offered};
 ghost use Rattle.offers.specs.Functional.{is_interface, faces_above, is_whole, is_giver, is_given, is_of_object, is_promise, promises, group, one_method, method_in, face_of, faces_by, faces};
-ghost use Rattle.offers.specs.Missing.{missing, interfaces};
+ghost use Rattle.offers.specs.Kept.{AreInterfaces};
+ghost use Rattle.offers.specs.Missing.{missing};
 ghost use Rattle.offers.specs.Views.{scene};
 
 use crate::calls::{are_same_calls, has_body, is_of_object};
 use crate::candidates::has_result;
-use crate::interfaces::{faces_above, interfaces, is_below, is_interface, is_whole, missing};
+use crate::interfaces::{KnownInterfaces, faces_above, is_below, is_interface, is_whole, missing};
 use crate::member::Face;
 use crate::reach::{ABSTRACT, has_flag};
 use crate::spelling::class_spelling;
@@ -26,11 +27,11 @@ fn is_giver(
 ) -> Result<bool, AllocError>
     ensures { IfOk result (λ yes. yes ≡ is_giver (scene view.now) owner.now method.now other.now) }
 {
-    let below = is_below(alloc, view, &other.name, &owner.name)?;
-    if !below {
+    if !has_body(method, other.methods.as_slice()) {
         return Ok(false);
     }
-    Ok(has_body(method, other.methods.as_slice()))
+    let below = is_below(alloc, view, &other.name, &owner.name)?;
+    Ok(below)
 }
 
 /// Whether one of these interfaces is.
@@ -127,18 +128,17 @@ fn one_method(alloc: Global, methods: &[MethodSummary]) -> Result<Option<MethodS
     }
 }
 
-/// The one method of a functional interface. `names` are those of the missing classes, `known`
-/// the known interfaces.
+/// The one method of a functional interface. `names` are those of the missing classes.
 #[tactic(auto, unfolding(crate::specs::Functional::method_in))]
 fn method_in(
     alloc: Global,
     view: &View<'_>,
     names: &[Text],
-    known: &[ClassSummary],
+    known: &KnownInterfaces,
     class: &ClassSummary,
 ) -> Result<Option<MethodSummary>, AllocError>
     requires names { names.now ≡ missing (scene view.now) }
-    requires known { known.now ≡ interfaces (scene view.now) }
+    requires known { AreInterfaces view.now known.now }
     ensures { IfOk result (λ one. one ≡ method_in (scene view.now) class.now) }
 {
     if !is_interface(class) {
@@ -177,12 +177,12 @@ fn add_lambda(
     alloc: Global,
     view: &View<'_>,
     names: &[Text],
-    known: &[ClassSummary],
+    known: &KnownInterfaces,
     class: &ClassSummary,
     all: &mut Items<Face>,
 ) -> Result<(), AllocError>
     requires names { names.now ≡ missing (scene view.now) }
-    requires known { known.now ≡ interfaces (scene view.now) }
+    requires known { AreInterfaces view.now known.now }
     ensures { OnOk result (all.new ≡ all.old ++ faces_by class.now.name (method_in (scene view.now) class.now)) }
 {
     let Some(method) = method_in(alloc, view, names, known, class)? else {
@@ -203,14 +203,14 @@ pub fn faces(
     ensures { IfOk result (λ all. all ≡ faces (scene view.now)) }
 {
     let names = missing(alloc, view)?;
-    let known = interfaces(alloc, view)?;
+    let known = KnownInterfaces::new(alloc, view)?;
     let mut all = Items::new(alloc);
     for class in classes {
         add_lambda(
             alloc,
             view,
             names.as_slice(),
-            known.as_slice(),
+            &known,
             class,
             &mut all,
         )?;

@@ -1,35 +1,25 @@
-ghost use Rattle.std.specs.Prelude.{◌≡◌, ◌++◌, ◌∷◌, [], if◌then◌else◌, IfOk, OnOk};
+ghost use Rattle.std.specs.Prelude.{◌≡◌, ◌++◌, ◌∷◌, [], ◌&&◌, map, slice_get, Some, if◌then◌else◌, IfOk, OnOk};
 ghost use Rattle.std.specs.List.{filter};
 ghost use Rattle.offers.specs.Scenes.{of_class, at_or_below};
 ghost use Rattle.offers.specs.Functional.{is_interface, is_face, faces_above, is_whole};
+ghost use Rattle.subtyping.specs.Asked.{class_place};
+ghost use Rattle.offers.specs.Kept.{AreInterfaces};
 ghost use Rattle.offers.specs.Missing.{is_missing, missing, is_apart, interfaces};
 ghost use Rattle.offers.specs.Views.{scene};
 
+use crate::placed::Placed;
 use crate::reach::{INTERFACE, has_flag};
-use crate::types::same_type;
 use crate::view::{View, of_class};
 use known_classes::ClassSummary;
 use lists::{Copies, Items, Text};
 use std::alloc::{AllocError, Global};
-use type_names::OBJECT;
+use type_names::{Erased, OBJECT};
 
 /// Whether a class is an interface.
 pub(crate) fn is_interface(class: &ClassSummary) -> bool
     ensures { result ≡ is_interface class.now }
 {
     has_flag(class.flags, INTERFACE)
-}
-
-/// Whether a class is another, or below it.
-fn at_or_below(alloc: Global, view: &View<'_>, a: &Text, b: &Text) -> Result<bool, AllocError>
-    ensures { IfOk result (λ yes. yes ≡ at_or_below (scene view.now) (of_class a.now) (of_class b.now)) }
-{
-    let low = of_class(alloc, a)?;
-    let high = of_class(alloc, b)?;
-    if same_type(&low, &high) {
-        return Ok(true);
-    }
-    Ok(view.is_below(&low, &high))
 }
 
 /// Whether a class is below another.
@@ -44,39 +34,6 @@ pub(crate) fn is_below(
     let low = of_class(alloc, a)?;
     let high = of_class(alloc, b)?;
     Ok(view.is_below(&low, &high))
-}
-
-/// Whether a class is an interface at or above another class.
-fn is_face(
-    alloc: Global,
-    view: &View<'_>,
-    class: &ClassSummary,
-    other: &ClassSummary,
-) -> Result<bool, AllocError>
-    ensures { IfOk result (λ yes. yes ≡ is_face (scene view.now) class.now other.now) }
-{
-    if !is_interface(other) {
-        return Ok(false);
-    }
-    let at = at_or_below(alloc, view, &class.name, &other.name)?;
-    Ok(at)
-}
-
-/// Adds a copy of an interface at or above a class.
-fn add_face(
-    alloc: Global,
-    view: &View<'_>,
-    class: &ClassSummary,
-    other: &ClassSummary,
-    all: &mut Items<ClassSummary>,
-) -> Result<(), AllocError>
-    ensures { OnOk result (all.new ≡ all.old ++ (if is_face (scene view.now) class.now other.now then other.now ∷ [] else [])) }
-{
-    let is_one = is_face(alloc, view, class, other)?;
-    if is_one {
-        all.push(other.copy(alloc)?)?;
-    }
-    Ok(())
 }
 
 /// Adds a copy of a class that is an interface.
@@ -94,7 +51,7 @@ fn add_interface(
 }
 
 /// Copies of the known interfaces.
-pub(crate) fn interfaces(alloc: Global, view: &View<'_>) -> Result<Items<ClassSummary>, AllocError>
+fn interfaces(alloc: Global, view: &View<'_>) -> Result<Items<ClassSummary>, AllocError>
     ensures { IfOk result (λ all. all ≡ interfaces (scene view.now)) }
 {
     let mut all = Items::new(alloc);
@@ -104,33 +61,102 @@ pub(crate) fn interfaces(alloc: Global, view: &View<'_>) -> Result<Items<ClassSu
     Ok(all)
 }
 
-/// Copies of those of these classes that are interfaces at or above a class.
-fn faces_in(
-    alloc: Global,
-    view: &View<'_>,
-    class: &ClassSummary,
-    others: &[ClassSummary],
-) -> Result<Items<ClassSummary>, AllocError>
-    ensures { IfOk result (λ all. all ≡ filter (is_face (scene view.now) class.now) others.now) }
+/// The types of classes.
+fn kinds_of(alloc: Global, classes: &[ClassSummary]) -> Result<Items<Erased>, AllocError>
+    ensures { IfOk result (λ all. all ≡ map (λ c. of_class c.name) classes.now) }
 {
     let mut all = Items::new(alloc);
-    for other in others {
-        add_face(alloc, view, class, other, &mut all)?;
+    for class in classes {
+        all.push(of_class(alloc, &class.name)?)?;
     }
     Ok(all)
+}
+
+/// The known interfaces, with the places of their types among the ancestors.
+#[derive(Drop)]
+pub(crate) struct KnownInterfaces {
+    classes: Items<ClassSummary>,
+    kinds: Placed,
+}
+
+impl KnownInterfaces {
+    /// The known interfaces with their places.
+    pub fn new(alloc: Global, view: &View<'_>) -> Result<KnownInterfaces, AllocError>
+        ensures { IfOk result (AreInterfaces view.now) }
+    {
+        let classes = interfaces(alloc, view)?;
+        let kinds = kinds_of(alloc, classes.as_slice())?;
+        let kinds = Placed::new(alloc, view, kinds)?;
+        Ok(KnownInterfaces { classes, kinds })
+    }
+
+    /// Whether the class at a place is a type or above it.
+    fn is_kind_over(
+        &self,
+        view: &View<'_>,
+        low: &Erased,
+        place: Option<usize>,
+        other: &ClassSummary,
+        at: usize,
+    ) -> bool
+        requires kept { AreInterfaces view.now self.now }
+        requires place { place ≡ class_place view.now.ancestry.names low.now.base }
+        requires there { slice_get self.now.classes at ≡ Some other.now }
+        ensures { result ≡ at_or_below (scene view.now) low.now (of_class other.now.name) }
+    {
+        self.kinds.is_over(view, low, place, at)
+    }
+
+    /// Whether it is, and an interface.
+    fn is_over(
+        &self,
+        view: &View<'_>,
+        low: &Erased,
+        place: Option<usize>,
+        other: &ClassSummary,
+        at: usize,
+    ) -> bool
+        requires kept { AreInterfaces view.now self.now }
+        requires place { place ≡ class_place view.now.ancestry.names low.now.base }
+        requires there { slice_get self.now.classes at ≡ Some other.now }
+        ensures { result ≡ (is_interface other.now && at_or_below (scene view.now) low.now (of_class other.now.name)) }
+    {
+        is_interface(other) && self.is_kind_over(view, low, place, other, at)
+    }
+
+    /// Copies of those at or above a class.
+    fn above(
+        &self,
+        alloc: Global,
+        view: &View<'_>,
+        class: &ClassSummary,
+    ) -> Result<Items<ClassSummary>, AllocError>
+        requires { AreInterfaces view.now self.now }
+        ensures { IfOk result (λ all. all ≡ filter (is_face (scene view.now) class.now) self.now.classes) }
+    {
+        let low = of_class(alloc, &class.name)?;
+        let place = view.class_place(&low);
+        let mut all = Items::new(alloc);
+        for (i, other) in self.classes.as_slice().iter().enumerate() {
+            if self.is_over(view, &low, place, other, i) {
+                all.push(other.copy(alloc)?)?;
+            }
+        }
+        Ok(all)
+    }
 }
 
 /// Copies of those of the known interfaces that are at or above a class.
 pub(crate) fn faces_above(
     alloc: Global,
     view: &View<'_>,
-    known: &[ClassSummary],
+    known: &KnownInterfaces,
     class: &ClassSummary,
 ) -> Result<Items<ClassSummary>, AllocError>
-    requires { known.now ≡ interfaces (scene view.now) }
+    requires { AreInterfaces view.now known.now }
     ensures { IfOk result (λ all. all ≡ faces_above (scene view.now) class.now) }
 {
-    let all = faces_in(alloc, view, class, known)?;
+    let all = known.above(alloc, view, class)?;
     Ok(all)
 }
 

@@ -58,15 +58,19 @@ fn place<T: Keyed>(all: &VecDeque<T>, item: &T) -> Option<usize>
     Some(low)
 }
 
-/// Puts an item in its place among sorted ones, unless one of its key is there.
-fn put<T: Keyed + Drop>(all: &mut VecDeque<T>, item: T) -> Result<(), AllocError>
+/// Puts a copy of an item in its place among sorted ones, unless one of its key is there.
+fn put<T: Keyed + Copies + Drop>(
+    alloc: Global,
+    all: &mut VecDeque<T>,
+    item: &T,
+) -> Result<(), AllocError>
     requires { Rises T.key_of all.old.items }
-    ensures { OnOk result (all.new.items ≡ put T.key_of item all.old.items) }
+    ensures { OnOk result (all.new.items ≡ put T.key_of item.now all.old.items) }
 {
-    let Some(at) = place(all, &item) else {
+    let Some(at) = place(all, item) else {
         return Ok(());
     };
-    all.insert(at, item)?;
+    all.insert(at, item.copy(alloc)?)?;
     Ok(())
 }
 
@@ -81,7 +85,7 @@ pub(crate) fn sorted<T: Keyed + Copies + Drop>(
     let mut left = items.len();
     while left > 0 {
         left -= 1;
-        put(&mut all, items[left].copy(alloc)?)?;
+        put(alloc, &mut all, &items[left])?;
     }
     Ok(Vec::from(all))
 }

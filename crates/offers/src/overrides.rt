@@ -1,4 +1,4 @@
-ghost use Rattle.std.specs.Prelude.{◌≡◌, not, IfOk, ◌∷◌};
+ghost use Rattle.std.specs.Prelude.{◌≡◌, ◌&&◌, not, IfOk, ◌∷◌, slice_get, Some};
 ghost use Rattle.std.specs.List.{list_any, filter};
 ghost use Rattle.offers.specs.declared.member.Kind.{Kind};
 ghost use Rattle.offers.specs.Scenes.{of_class, same_type};
@@ -6,14 +6,15 @@ ghost use Rattle.offers.specs.Reach.{offered};
 ghost use Rattle.offers.specs.Candidates.{value};
 ghost use Rattle.offers.specs.Omissions.{is_instance, same_types, overrides, left_of, after_two, after_three};
 ghost use Rattle.offers.specs.Grouping.{at_place};
+ghost use Rattle.offers.specs.Kept.{AreOwned};
 ghost use Rattle.offers.specs.Views.{scene};
 
-use crate::by_name::MembersByName;
 use crate::candidates::same_kind;
+use crate::crowds::OwnedMembers;
 use crate::member::{Kind, Member};
 use crate::repeats::{after_two, is_private, is_static, value};
 use crate::types::{same_type, same_types};
-use crate::view::{View, of_class};
+use crate::view::View;
 use known_classes::ClassSummary;
 use lists::{Copies, Items};
 use std::alloc::{AllocError, Global};
@@ -37,23 +38,43 @@ fn same_descriptor(alloc: Global, a: &Member, b: &Member) -> Result<bool, AllocE
     Ok(same_types(a.params.as_slice(), b.params.as_slice()))
 }
 
-/// Whether the owner of a member is a strict subtype of that of another.
-fn is_owner_below(
+/// Whether the members at two places have one descriptor, the first in a strict subtype of the owner of the second.
+fn is_same_below(
     alloc: Global,
     view: &View<'_>,
+    members: &OwnedMembers<'_>,
     a: &Member,
+    at: usize,
     b: &Member,
+    place: usize,
 ) -> Result<bool, AllocError>
-    ensures { IfOk result (λ yes. yes ≡ (scene view.now).below (of_class a.now.owner) (of_class b.now.owner)) }
+    requires owned { AreOwned view.now members.now }
+    requires here { slice_get members.now.members at ≡ Some a.now }
+    requires there { slice_get members.now.members place ≡ Some b.now }
+    ensures { IfOk result (λ yes. yes ≡ (same_types (value a.now ∷ a.now.params) (value b.now ∷ b.now.params) && (scene view.now).below (of_class a.now.owner) (of_class b.now.owner))) }
 {
-    let low = of_class(alloc, &a.owner)?;
-    let high = of_class(alloc, &b.owner)?;
-    Ok(view.is_below(&low, &high))
+    if !members.is_owner_below(view, a, at, b, place) {
+        return Ok(false);
+    }
+    let same = same_descriptor(alloc, a, b)?;
+    Ok(same)
 }
 
-/// Whether a method stands for another of its name and descriptor in a type above its owner.
+/// Whether the method at one place stands for the one at another, which is of its name and descriptor in a type above
+/// its owner.
 #[tactic(auto, unfolding(crate::specs::Omissions::overrides))]
-fn overrides(alloc: Global, view: &View<'_>, a: &Member, b: &Member) -> Result<bool, AllocError>
+fn overrides(
+    alloc: Global,
+    view: &View<'_>,
+    members: &OwnedMembers<'_>,
+    a: &Member,
+    at: usize,
+    b: &Member,
+    place: usize,
+) -> Result<bool, AllocError>
+    requires owned { AreOwned view.now members.now }
+    requires here { slice_get members.now.members at ≡ Some a.now }
+    requires there { slice_get members.now.members place ≡ Some b.now }
     ensures { IfOk result (λ yes. yes ≡ overrides (scene view.now) a.now b.now) }
 {
     if !is_instance(a) || !is_instance(b) || is_private(b) {
@@ -62,26 +83,25 @@ fn overrides(alloc: Global, view: &View<'_>, a: &Member, b: &Member) -> Result<b
     if a.name.as_str() != b.name.as_str() {
         return Ok(false);
     }
-    let same = same_descriptor(alloc, a, b)?;
-    if !same {
-        return Ok(false);
-    }
-    let below = is_owner_below(alloc, view, a, b)?;
-    Ok(below)
+    let over = is_same_below(alloc, view, members, a, at, b, place)?;
+    Ok(over)
 }
 
 /// Whether a method stands for the one at a place.
 fn is_over_at(
     alloc: Global,
     view: &View<'_>,
+    members: &OwnedMembers<'_>,
     member: &Member,
-    members: &[Member],
+    at: usize,
     place: usize,
 ) -> Result<bool, AllocError>
-    ensures { IfOk result (λ yes. yes ≡ at_place (overrides (scene view.now) member.now) members.now place) }
+    requires owned { AreOwned view.now members.now }
+    requires here { slice_get members.now.members at ≡ Some member.now }
+    ensures { IfOk result (λ yes. yes ≡ at_place (overrides (scene view.now) member.now) members.now.members place) }
 {
-    match members.get(place) {
-        Some(other) => overrides(alloc, view, member, other),
+    match members.by_name().members().get(place) {
+        Some(other) => overrides(alloc, view, members, member, at, other, place),
         None => Ok(false),
     }
 }
@@ -90,14 +110,17 @@ fn is_over_at(
 fn is_over_any(
     alloc: Global,
     view: &View<'_>,
+    members: &OwnedMembers<'_>,
     member: &Member,
-    members: &[Member],
+    at: usize,
     places: &[usize],
 ) -> Result<bool, AllocError>
-    ensures { IfOk result (λ yes. yes ≡ list_any (at_place (overrides (scene view.now) member.now) members.now) places.now) }
+    requires owned { AreOwned view.now members.now }
+    requires here { slice_get members.now.members at ≡ Some member.now }
+    ensures { IfOk result (λ yes. yes ≡ list_any (at_place (overrides (scene view.now) member.now) members.now.members) places.now) }
 {
     for place in places {
-        let over = is_over_at(alloc, view, member, members, *place)?;
+        let over = is_over_at(alloc, view, members, member, at, *place)?;
         if over {
             return Ok(true);
         }
@@ -105,17 +128,23 @@ fn is_over_any(
     Ok(false)
 }
 
-/// Whether a method stands for one of these.
+/// Whether the method at a place stands for one of these.
 fn is_overriding(
     alloc: Global,
     view: &View<'_>,
+    members: &OwnedMembers<'_>,
     member: &Member,
-    members: &MembersByName<'_>,
+    at: usize,
 ) -> Result<bool, AllocError>
-    ensures { IfOk result (λ yes. yes ≡ list_any (overrides (scene view.now) member.now) members.now) }
+    requires owned { AreOwned view.now members.now }
+    requires here { slice_get members.now.members at ≡ Some member.now }
+    ensures { IfOk result (λ yes. yes ≡ list_any (overrides (scene view.now) member.now) members.now.members) }
 {
-    let row = members.row(alloc, member.name.as_str())?;
-    let over = is_over_any(alloc, view, member, members.members(), row.as_slice())?;
+    if !is_instance(member) {
+        return Ok(false);
+    }
+    let row = members.by_name().row(alloc, member.name.as_str())?;
+    let over = is_over_any(alloc, view, members, member, at, row.as_slice())?;
     Ok(over)
 }
 
@@ -123,13 +152,14 @@ fn is_overriding(
 fn left_of(
     alloc: Global,
     view: &View<'_>,
-    members: &MembersByName<'_>,
+    members: &OwnedMembers<'_>,
 ) -> Result<Items<Member>, AllocError>
-    ensures { IfOk result (λ all. all ≡ left_of (scene view.now) members.now) }
+    requires { AreOwned view.now members.now }
+    ensures { IfOk result (λ all. all ≡ left_of (scene view.now) members.now.members) }
 {
     let mut all = Items::new(alloc);
-    for member in members.members() {
-        let over = is_overriding(alloc, view, member, members)?;
+    for (i, member) in members.by_name().members().iter().enumerate() {
+        let over = is_overriding(alloc, view, members, member, i)?;
         if !over {
             all.push(member.copy(alloc)?)?;
         }
@@ -148,7 +178,7 @@ pub fn after_three(
     ensures { IfOk result (λ all. all ≡ after_three (scene view.now)) }
 {
     let all = after_two(alloc, view, classes)?;
-    let members = MembersByName::new(alloc, all.as_slice())?;
+    let members = OwnedMembers::new(alloc, view, all.as_slice())?;
     let left = left_of(alloc, view, &members)?;
     Ok(left)
 }

@@ -100,6 +100,23 @@ impl Placed {
         view.is_below_at(&types[low], from, &types[high], to)
     }
 
+    /// Whether the type of a number is another type or above it.
+    pub(crate) fn is_over(
+        &self,
+        view: &View<'_>,
+        low: &Erased,
+        place: Option<usize>,
+        high: usize,
+    ) -> bool
+        requires placed { IsPlaced view.now self.now }
+        requires place { place ≡ class_place view.now.ancestry.names low.now.base }
+        requires within { high < length self.now.types }
+        ensures { (kind : Erased) → slice_get self.now.types high ≡ Some kind → result ≡ at_or_below (scene view.now) low.now kind }
+    {
+        let to = self.places[high];
+        at_or_below(view, low, place, &self.types.as_slice()[high], to)
+    }
+
     /// Copies of the types that are at or below a type.
     pub(crate) fn under(
         &self,

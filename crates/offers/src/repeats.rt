@@ -78,38 +78,33 @@ fn is_repeated(member: &Member, kept: &[Member]) -> bool
     false
 }
 
-/// Copies of those of these members that are constructors or whose names are identifiers.
-fn named(alloc: Global, view: &View<'_>, members: &[Member]) -> Result<Items<Member>, AllocError>
-    ensures { IfOk result (λ all. all ≡ filter (is_named (scene view.now)) members.now) }
+/// Those of these members that are constructors or whose names are identifiers.
+fn named(view: &View<'_>, mut members: Vec<Member>) -> Vec<Member>
+    ensures { result.items ≡ filter (is_named (scene view.now)) members.items }
 {
-    let mut all = Items::new(alloc);
-    for member in members {
-        if is_named(member) {
-            all.push(member.copy(alloc)?)?;
-        }
-    }
-    Ok(all)
+    members.retain(|member| is_named(member));
+    members
 }
 
-/// Adds a copy of a member, unless one of its kind, name and parameter types is there.
+/// Adds a member, unless one of its kind, name and parameter types is there.
 #[tactic(auto, unfolding(crate::specs::Omissions::with_first))]
-fn add_first(alloc: Global, kept: &mut Items<Member>, member: &Member) -> Result<(), AllocError>
-    ensures { OnOk result (kept.new ≡ with_first kept.old member.now) }
+fn add_first(kept: &mut Items<Member>, member: Member) -> Result<(), AllocError>
+    ensures { OnOk result (kept.new ≡ with_first kept.old member) }
 {
-    if is_repeated(member, kept.as_slice()) {
+    if is_repeated(&member, kept.as_slice()) {
         return Ok(());
     }
-    kept.push(member.copy(alloc)?)?;
+    kept.push(member)?;
     Ok(())
 }
 
 /// Of each kind, name and parameter types the first of these members.
-fn firsts(alloc: Global, members: &[Member]) -> Result<Items<Member>, AllocError>
-    ensures { IfOk result (λ all. all ≡ firsts members.now) }
+fn firsts(alloc: Global, members: Vec<Member>) -> Result<Items<Member>, AllocError>
+    ensures { IfOk result (λ all. all ≡ firsts members.items) }
 {
     let mut kept = Items::new(alloc);
     for member in members {
-        add_first(alloc, &mut kept, member)?;
+        add_first(&mut kept, member)?;
     }
     Ok(kept)
 }
@@ -123,8 +118,8 @@ fn left_in(
     ensures { IfOk result (λ all. all ≡ firsts (filter (is_named (scene view.now)) (candidates (scene view.now) class.now))) }
 {
     let all = candidates(alloc, view, class)?;
-    let named = named(alloc, view, all.as_slice())?;
-    let kept = firsts(alloc, named.as_slice())?;
+    let named = named(view, all);
+    let kept = firsts(alloc, named)?;
     Ok(kept)
 }
 

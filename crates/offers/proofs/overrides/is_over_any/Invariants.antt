@@ -6,4 +6,4 @@ use Rattle.offers.specs.Views.{scene}
 use Rattle.offers.proofs.overrides.is_over_any.Given as goal
 
 abbrev pub invariant-loop-place : goal.invariant-loop-place
-invariant-loop-place l = list_any (at_place (overrides (scene l.view) l.member) l.members) (take l.place-index l.places) ≡ false
+invariant-loop-place l = list_any (at_place (overrides (scene l.view) l.member) l.members.members) (take l.place-index l.places) ≡ false

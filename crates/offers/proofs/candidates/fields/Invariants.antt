@@ -1,6 +1,0 @@
-use Rattle.std.proofs.Common.{◌≡◌, map, take}
-use Rattle.offers.specs.Candidates.{field_of}
-use Rattle.offers.proofs.candidates.fields.Given as goal
-
-abbrev pub invariant-loop-field : goal.invariant-loop-field
-invariant-loop-field l = l.all ≡ map (field_of l.class) (take l.field-index l.field-items)
