@@ -1,9 +1,8 @@
 -- The places of types are as many as the types, and each is that of its class.
-use Rattle.std.proofs.Common.{◌≡◌, ◌∙◌, ap, subst, arith, ℕ, zero, suc, ◌<◌, List, [], ◌∷◌, length, map, get_or, Option, Some}
+use Rattle.std.proofs.Common.{◌≡◌, ◌∙◌, ap, arith, ℕ, zero, suc, ◌<◌, List, [], ◌∷◌, length, map, get_or, Option, Some}
 use Rattle.std.specs.Prelude.{slice_get}
 use Rattle.type_names.specs.declared.kinds.Erased.{Erased}
 use Rattle.subtyping.specs.Asked.{class_place}
-use Rattle.offers.specs.declared.placed.Placed.{Placed}
 use Rattle.offers.specs.Views.{Outlook}
 use Rattle.offers.specs.Placing.{ArePlaces}
 

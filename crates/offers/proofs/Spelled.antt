@@ -1,5 +1,5 @@
 -- A spelling that is kept is that of the class of its name.
-use Rattle.std.proofs.Common.{◌≡◌, ◌∙◌, ap, sym, arith, ℕ, zero, suc, ◌<◌, List, [], ◌∷◌, length, map, get_or, Option, Some}
+use Rattle.std.proofs.Common.{◌≡◌, ◌∙◌, ap, arith, ℕ, zero, suc, ◌<◌, List, [], ◌∷◌, length, map, get_or, Option, Some}
 use Rattle.std.specs.Prelude.{slice_get}
 use Rattle.name_places.specs.Places.{place_of}
 use Rattle.name_places.proofs.Places.{place-get}

@@ -1,8 +1,5 @@
-use Rattle.std.proofs.Common.{rules, ◌≡◌, ◌∙◌, ap, List, false}
-use Rattle.type_names.specs.declared.kinds.Erased.{Erased}
-use Rattle.offers.specs.declared.member.Member.{Member}
+use Rattle.std.proofs.Common.{rules, ◌≡◌, ap, false}
 use Rattle.offers.specs.Candidates.{is_private}
-use Rattle.offers.specs.Omissions.{is_crowded}
 use Rattle.offers.specs.Views.{scene}
 use Rattle.offers.proofs.Rivals.{crowded-by, crowded-same}
 use Rattle.offers.proofs.crowds.Crowding.is_crowded.Goals as goal

@@ -1,4 +1,4 @@
-use Rattle.std.proofs.Common.{◌∙◌, ap, sym, inl, ℕ, List, Option, Some}
+use Rattle.std.proofs.Common.{◌∙◌, ap, sym, inl, Some}
 use Rattle.offers.specs.Spellings.{class_spelling}
 use Rattle.offers.specs.Views.{Outlook, scene}
 use Rattle.offers.proofs.Spelled.{kept-at}

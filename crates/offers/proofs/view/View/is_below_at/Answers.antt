@@ -1,5 +1,4 @@
-use Rattle.std.proofs.Common.{◌≡◌, ◌∙◌, ap, ℕ, Option}
-use Rattle.subtyping.specs.Asked.{class_place}
+use Rattle.std.proofs.Common.{◌∙◌, ap}
 use Rattle.offers.specs.Views.{Outlook}
 use Rattle.offers.specs.Order.{is_below}
 use Rattle.offers.proofs.SubtypeTest.{test-one}
