@@ -206,14 +206,7 @@ pub fn faces(
     let known = KnownInterfaces::new(alloc, view)?;
     let mut all = Items::new(alloc);
     for class in classes {
-        add_lambda(
-            alloc,
-            view,
-            names.as_slice(),
-            &known,
-            class,
-            &mut all,
-        )?;
+        add_lambda(alloc, view, names.as_slice(), &known, class, &mut all)?;
     }
     Ok(all)
 }

@@ -1,7 +1,8 @@
 -- The lines of a sample are a function of its number.
-use Rattle.std.proofs.Common.{◌≡◌, ◌∙◌, ℕ, zero, suc, ◌+◌, ◌-◌, List, [], ◌∷◌, length, refl, sym, ap, ap₂, subst, Some, Bool, arith}
-use Rattle.std.specs.Prelude.{◌++◌, All, codes, decimal, leb, sum_by, slice_get}
+use Rattle.std.proofs.Common.{◌≡◌, ◌∙◌, ℕ, zero, suc, ◌+◌, ◌-◌, List, [], ◌∷◌, length, map, refl, sym, ap, ap₂, subst, Some, Bool, arith}
+use Rattle.std.specs.Prelude.{◌++◌, All, codes, decimal, leb, sum, sum_by, slice_get}
 use Rattle.std.proofs.lemmas.List.Elements.{All-head, All-tail}
+use Rattle.std.proofs.lemmas.List.Sums.{sum-map}
 use Rattle.terms.specs.Place.{total_of}
 use Rattle.terms.specs.Text.{text_of}
 use Rattle.terms.specs.Faults.{IsValid}
@@ -55,11 +56,14 @@ weigh-same (x ∷ xs) [] i h = absurd h
 weigh-same (x ∷ xs) (y ∷ ys) zero h = h.0
 weigh-same (x ∷ xs) (y ∷ ys) (suc i) h = weigh-same xs ys i h.2
 
+same-lengths : (xs ys : List Item) → Alike xs ys → map text_length xs ≡ map text_length ys
+same-lengths [] [] h = refl
+same-lengths [] (y ∷ ys) h = absurd h
+same-lengths (x ∷ xs) [] h = absurd h
+same-lengths (x ∷ xs) (y ∷ ys) h = ap₂ (λ n ns. n ∷ ns) (ap length h.1) (same-lengths xs ys h.2)
+
 as-long : (xs ys : List Item) → Alike xs ys → sum_by text_length xs ≡ sum_by text_length ys
-as-long [] [] h = refl
-as-long [] (y ∷ ys) h = absurd h
-as-long (x ∷ xs) [] h = absurd h
-as-long (x ∷ xs) (y ∷ ys) h = ap₂ (λ m n. m + n) (ap length h.1) (as-long xs ys h.2)
+as-long xs ys h = sym (sum-map text_length xs) ∙ ap sum (same-lengths xs ys h) ∙ sum-map text_length ys
 
 -- So the same is told of them.
 abbrev told : ℕ → Bool → ℕ → ℕ → ℕ → List ℕ
