@@ -35,18 +35,25 @@
   "The greatest weight, 1 to 10000; nil for the server's own, 4000." :type '(choice (const nil) integer))
 
 (defcustom insynth-depth nil
-  "How deep lambdas nest; nil for the server's own, 1." :type '(choice (const nil) integer))
+  "How deep lambdas nest, 0 to 3; nil for the server's own, 1." :type '(choice (const nil) integer))
 
 (defcustom insynth-count 20
   "How many expressions a page has, 1 to 1000." :type 'integer)
 
 (defcustom insynth-timeout 60
-  "For how many seconds Emacs waits for an answer." :type 'number)
+  "For how many seconds Emacs waits for an answer of a server that is ready." :type 'number)
 
 (defvar insynth-mode-map (let ((map (make-sparse-keymap))) (define-key map (kbd "C-c ,") #'insynth-complete) map)
   "Keys of `insynth-mode'.")
 
-(defvar insynth--server nil "The connection to the one server, or nil.")
+(defvar insynth--server nil "The connection to the one server that is ready, or nil.")
+
+(defvar insynth--starting nil "The connection to a server that hasn't answered its first request yet, or nil.")
+
+(defvar insynth--why nil "Why no server runs, in words, where one ended by itself.")
+
+(defconst insynth--start-patience 10
+  "For how many seconds a key waits for a server that is starting.")
 
 (defvar-local insynth--sent nil
   "The `buffer-chars-modified-tick' of the text that the server has, or nil.")
@@ -86,10 +93,10 @@
 
 (defun insynth--ended (connection)
   "Forgets CONNECTION, which has ended, and says so where it ended by itself."
-  (when (eq connection insynth--server)
-    (setq insynth--server nil)
+  (when (memq connection (list insynth--server insynth--starting))
+    (setq insynth--server nil insynth--starting nil insynth--why (insynth--last-words connection))
     (insynth--forget-texts)
-    (message "insynth: %s" (insynth--last-words connection))))
+    (message "insynth: %s" insynth--why)))
 
 (defun insynth--last-words (connection)
   "How the process of CONNECTION ended."
@@ -101,7 +108,7 @@
     (with-current-buffer buffer (setq insynth--sent nil))))
 
 (defun insynth--connect ()
-  "Starts the server and waits until it is ready."
+  "Starts the server, which is ready when it has answered its first request."
   (let* ((command (insynth--command))
          (default-directory (file-name-directory (car command)))
          (connection (make-instance 'jsonrpc-process-connection :name "insynth" :on-shutdown #'insynth--ended
@@ -110,46 +117,64 @@
                                                              :coding 'utf-8-emacs-unix :noquery t
                                                              :stderr (get-buffer-create "*insynth stderr*"))))))
     (message "insynth: starting (M-x insynth-log shows how far it is)")
-    (condition-case fault
-        (jsonrpc-request connection :initialize
-                         (list :processId (emacs-pid) :rootUri nil :capabilities (make-hash-table)
-                               :initializationOptions (insynth--options))
-                         :timeout insynth-timeout)
-      (error (insynth--not-started connection fault)))
+    (setq insynth--starting connection insynth--why nil)
+    (jsonrpc-async-request connection :initialize
+                           (list :processId (emacs-pid) :rootUri nil :capabilities (make-hash-table)
+                                 :initializationOptions (insynth--options))
+                           :success-fn (lambda (_) (insynth--started connection))
+                           :error-fn (lambda (fault) (insynth--not-started connection fault))
+                           :timeout nil))) ; the program may have to be built first
+
+(defun insynth--started (connection)
+  "Takes CONNECTION, which has answered its first request, for the server."
+  (when (eq connection insynth--starting)
+    (setq insynth--starting nil insynth--server connection)
     (jsonrpc-notify connection :initialized (make-hash-table))
-    (setq insynth--server connection)))
+    (message "insynth: ready")))
 
 (defun insynth--not-started (connection fault)
-  "Ends CONNECTION, whose first request met FAULT, and says why."
-  (if (jsonrpc-running-p connection)
-      (progn (jsonrpc-shutdown connection)
-             (user-error "insynth: the server didn't start: %s (M-x insynth-log)" (insynth--words fault)))
-    (user-error "insynth: %s" (insynth--last-words connection))))
+  "Ends CONNECTION, whose first request was refused by FAULT, where it hasn't ended by itself."
+  (when (and (eq connection insynth--starting) (jsonrpc-running-p connection))
+    (setq insynth--starting nil
+          insynth--why (format "the server doesn't take the settings: %s (cause %s)"
+                               (plist-get fault :message) (plist-get (plist-get fault :data) :cause)))
+    (jsonrpc-shutdown connection)))
 
 (defun insynth--ready-server ()
-  "The server, started where it isn't running."
-  (if (and insynth--server (jsonrpc-running-p insynth--server))
-      insynth--server
-    (insynth--connect)))
+  "The server, started where it isn't running; a `user-error' where it isn't ready soon."
+  (unless (or insynth--starting (and insynth--server (jsonrpc-running-p insynth--server)))
+    (insynth--connect))
+  (let ((end (+ (float-time) insynth--start-patience)))
+    (while (and insynth--starting (< (float-time) end)) (accept-process-output nil 0.05)))
+  (cond (insynth--starting (user-error "insynth: the server is still starting (M-x insynth-log shows how far it is)"))
+        (insynth--server)
+        (t (user-error "insynth: %s" insynth--why))))
+
+(defun insynth--await-end (connection)
+  "Waits for the end of CONNECTION, and kills its process where that doesn't come."
+  (with-timeout (3) (while (jsonrpc-running-p connection) (accept-process-output nil 0.05)))
+  (jsonrpc-shutdown connection))
 
 (defun insynth-stop ()
   "Tells the server to end, and waits until it has ended."
   (interactive)
+  (when-let ((starting insynth--starting))
+    (setq insynth--starting nil)
+    (signal-process (jsonrpc--process starting) 'SIGTERM) ; a build of the program ends in good order by it
+    (insynth--await-end starting))
   (when-let ((server insynth--server))
     (setq insynth--server nil)
     (insynth--forget-texts)
     (ignore-errors
       (jsonrpc-request server :shutdown nil :timeout 3)
-      (jsonrpc-notify server :exit nil)
-      (with-timeout (3) (while (jsonrpc-running-p server) (accept-process-output nil 0.05))))
-    (jsonrpc-shutdown server)))
+      (jsonrpc-notify server :exit nil))
+    (insynth--await-end server)))
 
 (defun insynth-restart ()
   "Starts the server anew, with the settings and the class path as they are now."
   (interactive)
   (insynth-stop)
-  (insynth--connect)
-  (message "insynth: ready"))
+  (insynth--ready-server))
 
 (defun insynth-log ()
   "Shows what the server wrote on its standard error."

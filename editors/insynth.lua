@@ -12,7 +12,7 @@
 --   start    the start text that tools/class-path wrote; without it no class is known
 --   program  insynthd; the one of this clone without it
 --   limit    the greatest weight, 1 to 10000 (4000 without it)
---   depth    how deep lambdas nest (1)
+--   depth    how deep lambdas nest, 0 to 3 (1 without it)
 --   count    expressions on a page, 1 to 1000 (20)
 --   key      the key (<C-l>)
 
@@ -42,6 +42,10 @@ local CODES = {
 
 local function say(text)
   vim.notify("insynth: " .. text, vim.log.levels.WARN)
+  if vim.fn.mode():sub(1, 1) == "i" then -- there "-- INSERT --" is written over the message at once
+    local ends = { "CursorMovedI", "InsertCharPre", "InsertLeave" }
+    vim.lsp.util.open_floating_preview({ "insynth: " .. text }, "", { focusable = false, close_events = ends })
+  end
 end
 
 local function settings()
@@ -224,9 +228,11 @@ local function on_key()
   end
 end
 
-local function on_exit(code)
+local function on_exit(code, _, id)
   vim.schedule(function()
-    client_id, menu = nil, nil
+    if id == client_id then
+      client_id, menu = nil, nil
+    end
     if code ~= 0 then
       say(string.format("status %d: %s (:InsynthLog)", code, CODES[code] or "see the log"))
     end
@@ -309,6 +315,7 @@ vim.api.nvim_create_autocmd("CompleteDone", {
 
 vim.api.nvim_create_user_command("InsynthLog", function()
   vim.cmd("split " .. vim.fn.fnameescape(log_path()))
+  vim.cmd("silent! edit | normal! G") -- as it is by now
 end, { desc = "Opens the log, where the server's standard error stands" })
 
 vim.api.nvim_create_user_command("InsynthRestart", function()

@@ -116,7 +116,10 @@ async function start() {
     log.appendLine(why);
   });
   const options = { limit: given.get("limit"), depth: given.get("depth"), count: given.get("count") };
-  await fresh.request("initialize", { processId: process.pid, rootUri: null, capabilities: {}, initializationOptions: options });
+  await fresh.request("initialize", { processId: process.pid, rootUri: null, capabilities: {}, initializationOptions: options }).catch((fault) => {
+    fresh.child.kill();
+    throw fault;
+  });
   fresh.notify("initialized", {});
   return fresh;
 }
@@ -165,7 +168,11 @@ async function put(editor, version, item) {
 async function complete() {
   const editor = vscode.window.activeTextEditor;
   if (!editor) return;
-  server = server || start();
+  if (!server) {
+    server = start();
+    const started = server.catch(() => {}); // who asked says what is wrong
+    vscode.window.setStatusBarMessage('insynth: the server is starting (the output "insynth" says how far it is)', started);
+  }
   const running = await server;
   const uri = running.show(editor.document);
   const { version } = editor.document;
