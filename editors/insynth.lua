@@ -29,6 +29,7 @@ local CAUSES = {
   [5] = "the server's text of this file has no such line (:edit opens it anew)",
   [6] = "this list is closed, ask again",
 }
+local RANGES = { limit = { 1, 10000 }, depth = { 0, 3 }, count = { 1, 1000 } } -- what the server allows
 local WITHDRAWN = -32801 -- the code of a page of a version that was withdrawn
 local CODES = {
   [1] = "it was closed before it was told to end",
@@ -277,8 +278,22 @@ local function start_for(buffer)
   end
 end
 
+-- What is wrong with a number of the settings, or nil.
+local function wrong_number(options)
+  for name, range in pairs(RANGES) do
+    local it = options[name]
+    if it ~= nil and (type(it) ~= "number" or it % 1 ~= 0 or it < range[1] or it > range[2]) then
+      return string.format("%s is to be a whole number from %d to %d", name, range[1], range[2])
+    end
+  end
+end
+
 local function attach(buffer)
   local given = settings()
+  local wrong = wrong_number(given.options)
+  if wrong then
+    return say(wrong)
+  end
   if vim.fn.executable(given.program) == 0 then
     return say(given.program .. " isn't there or can't be run")
   elseif given.start and vim.fn.filereadable(given.start) == 0 then

@@ -107,7 +107,7 @@ class Editor:
         self.socket = os.path.join(self.own("socket"), self.socket_name)
         os.makedirs(os.path.dirname(self.socket), 0o700)
         os.makedirs(self.home, exist_ok=True)
-        self.environment = {}
+        self.environment, self.options = {}, OPTIONS
         self.process = None
 
     def own(self, name):
@@ -175,7 +175,7 @@ class Neovim(Editor):
         """Opens a file; with `starts` the server is to start."""
         init = self.own("init.lua")
         with open(init, "w", encoding="utf-8") as sink:
-            sink.write("vim.g.insynth = vim.fn.json_decode([==[" + json.dumps({"program": self.wrapper(), "start": self.start, **OPTIONS}) + "]==])\n")
+            sink.write("vim.g.insynth = vim.fn.json_decode([==[" + json.dumps({"program": self.wrapper(), "start": self.start, **self.options}) + "]==])\n")
             sink.write(f"vim.cmd([[source {os.path.join(TOP, 'editors', 'insynth.lua')}]])\n")
         self.begin(["nvim", "-u", init, "-n", "-i", "NONE", "--listen", self.socket, path])
         wait_for("Neovim", lambda: os.path.exists(self.socket))
@@ -252,6 +252,7 @@ class Neovim(Editor):
     def text(self):
         return self.ask_editor("join(getline(1, '$'), \"\\n\")") + "\n"
 
+    wrong_depth = "insynth: depth is to be a whole number from 0 to 3"
     rest, at_end = "\x1b", "A"  # the keys that leave insert mode, and those that write at a line's end
     edits_at_end, undo = ("\x1bGdd", "\x1bGo// end\x1b", "\x1bGx", "\x1bggdG", "\x1bGyyp"), "\x1bu"
 
@@ -283,7 +284,7 @@ class Emacs(Editor):
 (setq server-socket-dir %(folder)s auto-save-default nil make-backup-files nil)
 (require 'server)
 (server-start)
-""" % {**{key: json.dumps(value, ensure_ascii=False) for key, value in values.items()}, **OPTIONS})
+""" % {**{key: json.dumps(value, ensure_ascii=False) for key, value in values.items()}, **self.options})
         self.begin(["emacs", "-nw", "-Q", "-l", init, path])
         wait_for("Emacs", lambda: os.path.exists(self.socket) and self.ask_editor("(buffer-name)").endswith(".java"))
 
@@ -351,6 +352,7 @@ class Emacs(Editor):
     def text(self):
         return self.ask_editor("(save-restriction (widen) (buffer-substring-no-properties (point-min) (point-max)))")
 
+    wrong_depth = "insynth: the server doesn't take the settings"
     rest, at_end = "", ""  # not C-g, after which a terminal may forget further keys
     edits_at_end, undo = ("\x1b>\x7f", "\x1b>// end", "\x1b>\x7f\x7f", "\x18h\x17"), "\x18u"
 

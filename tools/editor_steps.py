@@ -204,7 +204,7 @@ def menu_at_last(editor, line, *last):
 
 
 def refused_start(editor, path):
-    """A start text that is refused is said and stands in the log; once it is mended, the server is started anew."""
+    """That a start text is refused is said and stands in the log; once it is mended, the server is started anew."""
     with open(editor.start, encoding="utf-8") as source:
         right = source.read()
     editor.start = write(editor.own("start.txt"), path + "\n")  # no class file
@@ -226,6 +226,14 @@ def quit_editor_again(editor):
     wait_for("the editor's end", editor.ended, 20)
     codes = wait_for("the server's end", lambda: len(editor.messages("end")) == 2 and editor.messages("end"), 20)
     assert codes == [8, 0], f"the servers ended with {codes}"
+
+
+def refused_setting(editor, path):
+    """A setting that the server doesn't allow is said."""
+    editor.options = {**OPTIONS, "depth": 4}
+    editor.open(path, starts=False)
+    editor.ask_at(line_of(USE, "first"))
+    wait_for("a line that says why", lambda: editor.wrong_depth in editor.said())
 
 
 def unbuilt_clone(editor):
