@@ -6,7 +6,7 @@ use known_classes::{ClassSummary, FieldSummary};
 use lists::{Items, Text};
 use std::alloc::{AllocError, Global};
 use std::marker::Brand;
-use std::sync::Wait;
+use std::sync::{Mutex, Wait};
 use std::test::Fail;
 use type_names::{Base, Erased};
 use version_board::{Naming, Opened, Pass, Publisher, Receipt, Refusal, Snapshot, start_board};
@@ -157,11 +157,14 @@ fn are_made<J: Naming, R: Wait + Copy + Drop>(
     requires book { opened.seen.book ≡ J.book }
     requires first { IsVersion J.first first }
 {
-    let (mut publisher, mut passes) = start_board::<J, R>(rt, alloc, opened, first, 1)?;
-    let Some(mut pass) = passes.pop() else {
-        return Ok(false);
+    let (publisher, mut passes) = start_board::<J, R>(rt, alloc, opened, first, 1)?;
+    let board = Mutex::new(publisher);
+    let are_right = match passes.as_mut_slice().first_mut() {
+        Some(pass) => all_are_made(&rt, alloc, &mut board.lock(&rt), pass, changes),
+        None => Ok(false),
     };
-    all_are_made(&rt, alloc, &mut publisher, &mut pass, changes)
+    board.into_inner().close();
+    are_right
 }
 
 #[test]
