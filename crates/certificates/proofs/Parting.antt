@@ -20,6 +20,7 @@ use Rattle.terms.specs.declared.term.TermArg.{TermArg}
 use Rattle.terms.specs.declared.term.Term as code_term
 use Rattle.terms.specs.declared.term.TermArg as code
 use Rattle.terms.proofs.Views.{expr-Head, arg-Plain, arg-Lam}
+use Rattle.terms.specs.Faults.{IsValid}
 use Rattle.terms.proofs.Weighing.{binders_weight-most}
 use Rattle.checker.specs.declared.row.Row.{Row}
 use Rattle.checker.specs.Rows.{IsItem, rows_of, args_rows}
@@ -223,16 +224,16 @@ head-part g ctx t d xs ws is same r =
     subst (λ l. IsReadable g ctx (head d (args_view l))) (sym same) r'
 
 -- a lambda
-pub lam-part : (g : Parts) (ctx : List (List ℕ)) (e : Expr) (a : Arg) (ps : List ℕ) (b : ℕ) → a ≡ Fun ps b → AreReadable g ctx (lam e no_args) (a ∷ []) → IsReadable g (ctx ++ ps ∷ []) e
+pub lam-part : (g : Parts) → IsValid g → (ctx : List (List ℕ)) (e : Expr) (a : Arg) (ps : List ℕ) (b : ℕ) → a ≡ Fun ps b → AreReadable g ctx (lam e no_args) (a ∷ []) → IsReadable g (ctx ++ ps ∷ []) e
 unfolding fits args_weight
-lam-part g ctx e a ps b is r =
+lam-part g valid ctx e a ps b is r =
     let r' : AreReadable g ctx (lam e no_args) (Fun ps b ∷ []) = subst (λ z. AreReadable g ctx (lam e no_args) (z ∷ [])) is r in
     let light = r'.light in
     let inner = ctx ++ ps ∷ [] in
     let both = and_parts (nat_lt (length ctx) most_rows && some_below g (type_in g inner e) b) true r'.fit in
     let typed = typed_below g (type_in g inner e) b (and_parts (nat_lt (length ctx) most_rows) (some_below g (type_in g inner e) b) both.0).1 in
     let long : length (joined inner) ≡ length (joined ctx) + length ps = ap length (joined_more ctx ps) ∙ length-append (joined ctx) ps in
-    record { result = typed.0; typed = typed.1; light = omega (arith, light, long, binders_weight-most g (length ps)) }
+    record { result = typed.0; typed = typed.1; light = omega (arith, light, long, binders_weight-most g valid (length ps)) }
 
 pub lam-room : (g : Parts) (ctx : List (List ℕ)) (e : Expr) (a : Arg) (ps : List ℕ) (b : ℕ) → a ≡ Fun ps b → AreReadable g ctx (lam e no_args) (a ∷ []) → length ctx < 3
 unfolding fits

@@ -6,6 +6,7 @@ ghost use Rattle.terms.specs.View.{expr, args_view};
 ghost use Rattle.terms.specs.Typing.{rows};
 ghost use Rattle.terms.specs.Weights.{args_weight};
 ghost use Rattle.terms.specs.Place.{IsInhabitant, total_of};
+ghost use Rattle.terms.specs.Faults.{IsValid};
 ghost use Rattle.checker.specs.Rows.{IsItem, rows_of, args_rows};
 ghost use Rattle.certificates.specs.Readable.{IsReadable, AreReadable, IsRated};
 
@@ -61,6 +62,7 @@ fn push_rows(
     term: &Term,
     list: &mut Items<Row>,
 ) -> Result<Row, AllocError>
+    requires valid { IsValid env.now }
     requires few_rows { ctx.now.used ≤ 3 }
     requires part { IsReadable env.now (rows ctx.now) (expr term.now) }
     ensures rated { IfOk result (λ row. IsRated env.now (rows ctx.now) (expr term.now) row) }
@@ -81,6 +83,7 @@ fn push_head(
     args: &[TermArg],
     list: &mut Items<Row>,
 ) -> Result<Row, AllocError>
+    requires valid { IsValid env.now }
     requires few_rows { ctx.now.used ≤ 3 }
     requires part { IsReadable env.now (rows ctx.now) (head number (args_view args.now)) }
     ensures rated { IfOk result (λ row. IsRated env.now (rows ctx.now) (head number (args_view args.now)) row) }
@@ -113,6 +116,7 @@ fn push_args(
     wanted: &[Arg],
     list: &mut Items<Row>,
 ) -> Result<u32, AllocError>
+    requires valid { IsValid env.now }
     requires few_rows { ctx.now.used ≤ 3 }
     requires parts { AreReadable env.now (rows ctx.now) (args_view args.now) wanted.now }
     ensures weight { IfOk result (λ w. w ≡ args_weight env.now (rows ctx.now) (args_view args.now) wanted.now) }
@@ -135,6 +139,7 @@ fn push_arg(
     wanted: &Arg,
     list: &mut Items<Row>,
 ) -> Result<u32, AllocError>
+    requires valid { IsValid env.now }
     requires few_rows { ctx.now.used ≤ 3 }
     requires parts { AreReadable env.now (rows ctx.now) (args_view (arg.now ∷ [])) (wanted.now ∷ []) }
     ensures weight { IfOk result (λ w. w ≡ args_weight env.now (rows ctx.now) (args_view (arg.now ∷ [])) (wanted.now ∷ [])) }
@@ -155,6 +160,7 @@ fn push_plain(
     wanted: &Arg,
     list: &mut Items<Row>,
 ) -> Result<u32, AllocError>
+    requires valid { IsValid env.now }
     requires few_rows { ctx.now.used ≤ 3 }
     requires parts { AreReadable env.now (rows ctx.now) (plain (expr term.now) no_args) (wanted.now ∷ []) }
     ensures weight { IfOk result (λ w. w ≡ args_weight env.now (rows ctx.now) (plain (expr term.now) no_args) (wanted.now ∷ [])) }
@@ -178,6 +184,7 @@ fn push_lambda(
     wanted: &Arg,
     list: &mut Items<Row>,
 ) -> Result<u32, AllocError>
+    requires valid { IsValid env.now }
     requires few_rows { ctx.now.used ≤ 3 }
     requires parts { AreReadable env.now (rows ctx.now) (lam (expr body.now) no_args) (wanted.now ∷ []) }
     ensures weight { IfOk result (λ w. w ≡ args_weight env.now (rows ctx.now) (lam (expr body.now) no_args) (wanted.now ∷ [])) }

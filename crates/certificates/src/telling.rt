@@ -18,10 +18,10 @@ use std::alloc::AllocError;
 use terms::{Arg, Decl, Env};
 
 /// What is left of a number after a weight.
-fn less(rest: u32, weight: u64) -> u32
+fn less(rest: u32, weight: u128) -> u32
     ensures { result ≡ rest - weight }
 {
-    u64::from(rest).saturating_sub(weight) as u32
+    u128::from(rest).saturating_sub(weight) as u32
 }
 
 /// What is left of a number after the binders of an argument.

@@ -3,7 +3,7 @@ use checker::{Row, check_floors};
 use lists::{Items, Text};
 use std::alloc::Global;
 use std::process::Abort;
-use terms::{Arg, Decl, Env, Form, Parts, Term, TermArg};
+use terms::{Arg, Decl, Env, Form, Parts, Steps, Term, TermArg};
 
 fn text(rt: &impl Abort, alloc: Global, word: &str) -> Text {
     Text::from_str(alloc, word).expect(rt, "memory")
@@ -49,6 +49,7 @@ fn env(rt: &impl Abort, alloc: Global, goal: u32) -> Env {
         limit: 50,
         depth: 1,
         binder: text(rt, alloc, "p"),
+        steps: Steps::usual(),
     };
     assert!(rt; parts.has_lengths());
     Env::checked(alloc, parts).expect(rt, "an environment")

@@ -22,7 +22,7 @@ pub(crate) struct Spot<'a> {
     pub(crate) left: u32,
     pub(crate) wanted: u32,
     /// What the binders of its lambda weigh.
-    pub(crate) binders: u64,
+    pub(crate) binders: u128,
     ghost few_rows: { ctx.used ≤ 3 },
 }
 

@@ -49,17 +49,20 @@ fn begin<'a>(
     if !env.is_below(head.result, spot.wanted) {
         return Ok(None);
     }
-    let step = u64::from(env.step(head.result, spot.wanted));
-    let start = sum.saturating_add(spot.binders).saturating_add(step);
-    let reached = start.saturating_add(u64::from(head.weight));
-    if reached > u64::from(env.parts().limit) {
+    let step = u128::from(env.step(head.result, spot.wanted));
+    let start = u128::from(sum)
+        .saturating_add(spot.binders)
+        .saturating_add(step);
+    let reached = start.saturating_add(u128::from(head.weight));
+    if reached > u128::from(env.parts().limit) {
         return Ok(None);
     }
+    let reached = reached as u64;
     parts.push(OpenPart {
         ctx: spot.ctx,
         left: spot.left,
         wanted: head.args,
-        end: start + u64::from(row.weight),
+        end: start as u64 + u64::from(row.weight),
     })?;
     if close(parts, reached) {
         return Ok(Some(reached));

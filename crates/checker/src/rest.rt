@@ -34,7 +34,8 @@ fn rest_after(
             let more = with_types(alloc, set, params.as_slice())?;
             let inside = u64::from(floors.floor_of(alloc, &more, left - 1, *wanted)?);
             let binders = env.binders_weight(params.as_slice().len());
-            Ok(rest.saturating_sub(binders).saturating_sub(inside))
+            let below = u128::from(rest).saturating_sub(binders) as u64;
+            Ok(below.saturating_sub(inside))
         }
     }
 }

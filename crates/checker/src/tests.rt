@@ -2,7 +2,7 @@ use crate::{Row, check_item};
 use lists::{Items, Text};
 use std::alloc::Global;
 use std::process::Abort;
-use terms::{Arg, Decl, Env, Form, Parts};
+use terms::{Arg, Decl, Env, Form, Parts, Steps};
 
 /// What is told of a small environment: the types int and long, `decl 5 int name x`, and one more declaration.
 #[derive(Clone, Copy)]
@@ -68,6 +68,7 @@ fn env(rt: &impl Abort, alloc: Global, sheet: Sheet, last: Decl) -> Env {
         limit: sheet.limit,
         depth: 1,
         binder: text(rt, alloc, "p"),
+        steps: Steps::usual(),
     };
     assert!(rt; parts.has_lengths());
     Env::checked(alloc, parts).expect(rt, "an environment")

@@ -3,7 +3,7 @@ use lists::{Items, Text};
 use patterns::Patterns;
 use std::alloc::{AllocError, Global};
 use succinct::Compressed;
-use terms::{Arg, Decl, Env, EnvFault, Form, Parts};
+use terms::{Arg, Decl, Env, EnvFault, Form, Parts, Steps};
 
 const TYPES: [&str; 2] = ["int", "T"];
 
@@ -169,6 +169,7 @@ fn no_decls(alloc: Global, limit: u32, depth: u32) -> Result<Parts, AllocError> 
         limit,
         depth,
         binder,
+        steps: Steps::usual(),
     })
 }
 

@@ -13,7 +13,7 @@ fn with_count(env: &Env, limit: u32, weight: u32, count: usize) -> Option<u32>
     ensures value { MatchOption result (limit < weight + binders_weight env.now count) (λ w. (w ≡ weight + binders_weight env.now count) × (w ≤ limit)) }
 {
     let more = env.binders_weight(count);
-    if more > (limit - weight) as u64 {
+    if more > (limit - weight) as u128 {
         return None;
     }
     Some(weight + more as u32)

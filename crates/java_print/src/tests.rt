@@ -4,7 +4,7 @@ ghost use Rattle.terms.specs.View.{expr};
 use crate::text;
 use lists::{Items, Text};
 use std::alloc::{AllocError, Global};
-use terms::{Arg, Ctx, Decl, Env, EnvFault, Form, Parts, Term, TermArg};
+use terms::{Arg, Ctx, Decl, Env, EnvFault, Form, Parts, Steps, Term, TermArg};
 
 /// How a declaration is written.
 #[derive(Clone, Copy)]
@@ -145,6 +145,7 @@ fn env(alloc: Global, case: &Case<'_>) -> Result<Env, EnvFault> {
         limit: 100,
         depth: 1,
         binder: Text::from_str(alloc, "p")?,
+        steps: Steps::usual(),
     };
     Env::checked(alloc, parts)
 }

@@ -295,6 +295,19 @@ const BETWEEN: &[(&str, &str, &str)] = &[
     ("class A { void m() { in", "t b = 1; } }", "none"),
     ("class A { void m() { int b = 1 /", "/ c\n } }", "none"),
     ("class A { void m() { int b = ", " 1; } }", "int | | b; | "),
+    ("class A { void m() { int b = /* c", " */ } }", "none"),
+    (
+        "class A { void m() { int b = /* c */ ",
+        " } }",
+        "int | | b; | ",
+    ),
+    ("class A { void m() { int b = \"c", "\"; } }", "none"),
+    ("class A { void m() { int b = '", "c'; } }", "none"),
+    (
+        "class A { void m() { int b = \"\"\"\nc",
+        "\n\"\"\"; } }",
+        "none",
+    ),
 ];
 
 #[test]

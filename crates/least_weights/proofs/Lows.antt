@@ -159,18 +159,18 @@ module _ (g : Parts) (c : Compression) (d : Patterned) (edges : List Edge) (vali
         omega (arith, low))
     | inr pair ↦ (
         let apart = (valid-pair g valid f.type b pair).2 in
-        let ten : step_in g (type_in g ctx e) b ≡ coercion_weight g = ap (λ o. step_in g o b) f.typed ∙ step-apart g f.type b apart in
+        let coercion : step_in g (type_in g ctx e) b ≡ coercion_weight g = ap (λ o. step_in g o b) f.typed ∙ step-apart g f.type b apart in
         let pair_to : is_pair g.pairs f.type at.state.goal ≡ true = ap (λ t. is_pair g.pairs f.type t) (sym at.goal) ∙ pair in
         let itself = fits-from g ctx left f.type e (record { type = f.type; typed = f.typed; below = below-itself g f.type; flat = f.flat }) in
         let derives = derives-at i ctx left b at f.type (term-derives g ctx left f.type e itself) in
-        let edge : Standing c d i (coercion_weight g) (Plain f.type ∷ []) edges = has-pair g c d edges valid comp made all i f.type at.state at.is pair_to derives (omega (arith, within, ten)) in
+        let edge : Standing c d i (coercion_weight g) (Plain f.type ∷ []) edges = has-pair g c d edges valid comp made all i f.type at.state at.is pair_to derives (omega (arith, within, coercion)) in
         let s : SplitTails c d i (Plain f.type) [] edge.edge.tails = split-tails c d i (Plain f.type) [] edge.edge.tails edge.tails in
         let inner = plain-at c d g.depth made.wanted made.steps i s.first ctx left b f.type at s.tail in
         let low = exact s.first ctx left f.type inner f.typed f.flat (omega (arith, within)) in
         let one : edge.edge.tails ≡ s.first ∷ [] = s.is ∙ ap (λ l. s.first ∷ l) (no-tails c d i s.rest s.others) in
         let sum : total (number_at g.limit numbers) edge.edge.tails ≡ number_at g.limit numbers s.first + 0 = ap (total (number_at g.limit numbers)) one in
-        let r = edge-low i (coercion_weight g) (Plain f.type ∷ []) edge (weight_in g ctx e) (omega (arith, sum, low)) (omega (arith, within, ten)) in
-        omega (arith, r, ten))
+        let r = edge-low i (coercion_weight g) (Plain f.type ∷ []) edge (weight_in g ctx e) (omega (arith, sum, low)) (omega (arith, within, coercion)) in
+        omega (arith, r, coercion))
   ]
 
   mutual

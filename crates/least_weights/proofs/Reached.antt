@@ -141,7 +141,7 @@ module _ (g : Parts) (c : Compression) (d : Patterned) (edges : List Edge) (vali
             let one : e.tails ≡ t.first ∷ [] = t.is ∙ ap (λ l. t.first ∷ l) (no-tails c d i t.rest t.others) in
             let sum : total (number_at g.limit numbers) e.tails ≡ number_at g.limit numbers t.first + 0 = ap (total (number_at g.limit numbers)) one in
             let inner = plain-at c d g.depth made.wanted made.steps i t.first ctx left b r.item.0 at t.tail in
-            let from : Reached g ctx left r.item.0 (number_at g.limit numbers t.first) = again t.first ctx left r.item.0 inner (omega (arith, sum, within)) (omega (arith, sum, few, w, coercion-weighs g)) in
+            let from : Reached g ctx left r.item.0 (number_at g.limit numbers t.first) = again t.first ctx left r.item.0 inner (omega (arith, sum, within)) (omega (arith, sum, few, w, coercion-weighs g valid)) in
             let upper : is_below g r.item.0 b ≡ true = ap (λ x. is_below g r.item.0 x) (sym result) ∙ pair-below g r.item.0 r.item.1 (pair-get g.pairs r.place r.item r.is) in
             let light = from.light in
             let most : step_in g (type_in g ctx from.term) b ≤ coercion_weight g = subst (λ o. step_in g o b ≤ coercion_weight g) (sym from.fit.typed) (step-most g from.fit.type b) in

@@ -8,7 +8,7 @@ use lists::{Items, Text};
 use patterns::Patterns;
 use std::alloc::{AllocError, Global};
 use succinct::Compressed;
-use terms::{Arg, Decl, Env, EnvFault, Form, Parts};
+use terms::{Arg, Decl, Env, EnvFault, Form, Parts, Steps};
 
 const INT: u32 = 0;
 
@@ -145,6 +145,7 @@ fn no_decls(alloc: Global, pairs: &[(u32, u32)], goal: u32) -> Result<Parts, All
         limit: 75,
         depth: 0,
         binder,
+        steps: Steps::usual(),
     })
 }
 

@@ -1,7 +1,7 @@
 ghost use Rattle.std.specs.Prelude.{◌≡◌, ◌↔◌, IsTrue};
 
 use lists::{Items, Text};
-use terms::{Arg, Decl, Form, Parts};
+use terms::{Arg, Decl, Form, Parts, Steps};
 
 /// A comparison that takes no memory.
 pub trait Same: Sized {
@@ -100,6 +100,18 @@ impl Same for Decl {
     }
 }
 
+impl Same for Steps {
+    fn same(&self, other: &Steps) -> bool {
+        if self.bound != other.bound {
+            return false;
+        }
+        if self.binder != other.binder {
+            return false;
+        }
+        self.step == other.step
+    }
+}
+
 impl Same for Parts {
     fn same(&self, other: &Parts) -> bool {
         if self.goal != other.goal {
@@ -112,6 +124,9 @@ impl Same for Parts {
             return false;
         }
         if !self.binder.same(&other.binder) {
+            return false;
+        }
+        if !self.steps.same(&other.steps) {
             return false;
         }
         if !same_items(&self.types, &other.types) {

@@ -4,7 +4,7 @@ use Rattle.std.specs.List.{list_all}
 use Rattle.std.proofs.lemmas.Bool.{and_parts, ltb-true}
 use Rattle.std.proofs.lemmas.Option.{slice_get_within}
 use Rattle.terms.specs.Typing.{most_rows}
-use Rattle.terms.specs.Faults.{or_then, unless, is_arg_known, decl_fault, decls_fault, pairs_fault, order_fault, limit_fault, greatest_depth, depth_fault, goal_fault, first_env_fault, IsValid}
+use Rattle.terms.specs.Faults.{or_then, unless, is_arg_known, decl_fault, decls_fault, pairs_fault, order_fault, limit_fault, greatest_depth, depth_fault, steps_fault, goal_fault, first_env_fault, IsValid}
 use Rattle.terms.specs.declared.fault.EnvFault.{EnvFault}
 use Rattle.terms.specs.declared.fault.EnvFault.TheVariants.{TypeRange, Weight, Limit, Depth}
 use Rattle.terms.specs.declared.parts.Decl.{Decl}
@@ -58,7 +58,8 @@ unfolding first_env_fault
 ranges g h =
     let after_limit = second_none (limit_fault g) _ h in
     let after_depth = second_none (depth_fault g) _ after_limit in
-    let after_pairs = second_none (pairs_fault (length g.types) 0 [] g.pairs) _ after_depth in
+    let after_steps = second_none (steps_fault g) _ after_depth in
+    let after_pairs = second_none (pairs_fault (length g.types) 0 [] g.pairs) _ after_steps in
     let after_order = second_none (order_fault (length g.types) g.pairs) _ after_pairs in
     record {
       limit = omega (arith, ltb-true g.limit 10001 (and_parts _ _ (met _ (Limit g.limit) (first_none (limit_fault g) _ h))).1);

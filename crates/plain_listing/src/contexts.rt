@@ -43,7 +43,7 @@ fn add_params(
     ensures shallow { OnOk result ((depth : ℕ) → length outer.now < depth → AreShallow depth contexts.old → AreShallow depth contexts.new) }
     ensures met { OnOk result ((of : ℕ) → IsMet env.now contexts.new outer.now (Fun params.now of)) }
 {
-    if env.binders_weight(params.len()) > env.parts().limit as u64 {
+    if env.binders_weight(params.len()) > env.parts().limit as u128 {
         return Ok(());
     }
     match number_of(contexts.as_slice(), outer, params) {

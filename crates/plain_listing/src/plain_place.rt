@@ -108,7 +108,7 @@ impl PlainPlace<'_> {
         ensures { map expr result.now ≡ bound (λ j. deeper self.now params.now j body) (binders_weight self.now.env.now (length params.now)) weight }
     {
         let binders = self.env.binders_weight(params.len());
-        if (weight as u64) < binders {
+        if (weight as u128) < binders {
             return &[];
         }
         if self.context.len() >= self.depth as usize {

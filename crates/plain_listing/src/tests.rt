@@ -6,7 +6,7 @@ use crate::plain_place::in_context;
 use crate::rows::row;
 use lists::{Items, Text};
 use std::alloc::{AllocError, Global};
-use terms::{Arg, Decl, Env, EnvFault, Form, Level, Levels, Parts, Term, TermArg};
+use terms::{Arg, Decl, Env, EnvFault, Form, Level, Levels, Parts, Steps, Term, TermArg};
 
 /// A declaration: what it wants, and where that is a lambda the types of its parameters.
 #[derive(Clone, Copy)]
@@ -88,6 +88,7 @@ fn env(alloc: Global, case: &Case<'_>) -> Result<Env, EnvFault> {
         limit: case.limit,
         depth: case.depth,
         binder: Text::from_str(alloc, "p")?,
+        steps: Steps::usual(),
     };
     Env::checked(alloc, parts)
 }

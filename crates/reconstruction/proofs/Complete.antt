@@ -389,8 +389,8 @@ module _ (t : Tables) (c : Compression) (valid : IsValid t.env) (lengths : HasLe
         | inr pair ↦ (
             let derives : IsDerivable t.env (types_at d.space s.set) left decl.result = by_decl (types_at d.space s.set) left k decl found wants in
             let apart = (valid-pair t.env valid decl.result s.goal pair).2 in
-            let ten : step_in t.env (Some decl.result) s.goal ≡ coercion_weight t.env = step-apart t.env decl.result s.goal apart in
-            let u = under p.state s sp.is decl.result pair derives (omega (arith, fits, ten)) in
+            let coercion : step_in t.env (Some decl.result) s.goal ≡ coercion_weight t.env = step-apart t.env decl.result s.goal apart in
+            let u = under p.state s sp.is decl.result pair derives (omega (arith, fits, coercion)) in
             let low : State = record { set = s.set; goal = decl.result } in
             let h = head-there u.below low u.is k decl found (decl-edge u.below low u.is k decl found refl wants (omega (arith, fits))) in
             let e = u.holds (2 * k + 1) in

@@ -4,7 +4,7 @@ use Rattle.std.specs.List.{list_any}
 use Rattle.std.proofs.lemmas.Bool.{and_parts, and_from, false≢true, or_left, or_right, eq-eqb, eqb-true, ne_eqb, leb-true, cases_lt, or_cases}
 use Rattle.std.proofs.lemmas.Option.{slice_get_within}
 use Rattle.terms.specs.Count.{once_if}
-use Rattle.terms.specs.Faults.{unless, limit_fault, depth_fault, pair_fault, pairs_fault, first_env_fault, are_plain, is_well_formed, IsValid}
+use Rattle.terms.specs.Faults.{unless, limit_fault, depth_fault, steps_fault, pair_fault, pairs_fault, first_env_fault, are_plain, is_well_formed, IsValid}
 use Rattle.terms.specs.Typing.{is_pair}
 use Rattle.terms.specs.declared.fault.EnvFault.TheVariants.{PairRange, PairTwice}
 use Rattle.terms.specs.declared.parts.Arg.{Arg}
@@ -125,8 +125,9 @@ unfolding first_env_fault
 valid-pairs_apart g valid i j p at at' =
     let a = or_then-none (limit_fault g) _ valid in
     let b = or_then-none (depth_fault g) _ a.1 in
-    let c = or_then-none (pairs_fault (length g.types) 0 [] g.pairs) _ b.1 in
-    pairs-apart (length g.types) 0 [] g.pairs c.0 i j p at at'
+    let c = or_then-none (steps_fault g) _ b.1 in
+    let d = or_then-none (pairs_fault (length g.types) 0 [] g.pairs) _ c.1 in
+    pairs-apart (length g.types) 0 [] g.pairs d.0 i j p at at'
 
 -- what the test for a lower type says
 pub record IsLower (g : Parts) (goal a n : ℕ) : Type 0 where

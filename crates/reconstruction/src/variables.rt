@@ -78,6 +78,7 @@ fn goal_at(tables: &Tables, place: NumberedPlace) -> u32
 
 /// What a variable weighs with the coercion above it.
 fn with_step(env: &Env, from: u32, to: u32) -> u32
+    requires valid { IsValid env.now }
     ensures value { result ≡ variable_weight env.now + step_in env.now (Some from) to }
 {
     env.variable_weight() + env.step(from, to)
@@ -94,6 +95,7 @@ fn grow_variable(
 ) -> Result<(), AllocError>
     requires parent { IsParent tables.now arena.old parent }
     requires children { AreHeld tables.now arena.old children.old.items }
+    requires valid { IsValid tables.now.env }
     requires small { number < 2147483648 }
     requires bound { slice_get (joined (rows_at tables.now.env parent.place.lambdas)) number ≡ Some bound }
     ensures grew { OnOk result (Grew tables.now arena.old arena.new (front_of arena.old parent.front) ((2 * number) ∷ []) children.old.items children.new.items) }
@@ -121,6 +123,7 @@ fn grow_variables(
 ) -> Result<(), AllocError>
     requires parent { IsParent tables.now arena.old parent }
     requires children { AreHeld tables.now arena.old children.old.items }
+    requires valid { IsValid tables.now.env }
     ensures grew { OnOk result (Grew tables.now arena.old arena.new (front_of arena.old parent.front) (variables (bound_at tables.now parent.place)) children.old.items children.new.items) }
     ensures grown { AreGrown arena.old arena.new }
 {

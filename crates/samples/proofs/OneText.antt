@@ -1,6 +1,7 @@
 -- The lines of a sample are a function of its number.
 use Rattle.std.proofs.Common.{◌≡◌, ◌∙◌, ℕ, zero, suc, ◌+◌, ◌-◌, List, [], ◌∷◌, length, map, refl, sym, ap, ap₂, subst, Some, Bool, arith}
 use Rattle.std.specs.Prelude.{◌++◌, All, codes, decimal, leb, sum, sum_by, slice_get}
+use Rattle.std.specs.List.{AllByRecursion}
 use Rattle.std.proofs.lemmas.List.Elements.{All-head, All-tail}
 use Rattle.std.proofs.lemmas.List.Sums.{sum-map}
 use Rattle.terms.specs.Place.{total_of}
@@ -8,10 +9,12 @@ use Rattle.terms.specs.Text.{text_of}
 use Rattle.terms.specs.Faults.{IsValid}
 use Rattle.terms.specs.declared.parts.Parts.{Parts}
 use Rattle.terms.proofs.Sorting.{has_whole}
-use Rattle.terms.proofs.Valid.{valid-heavy}
 use Rattle.listing.specs.declared.item.Item.{Item}
 use Rattle.listing.specs.Found.{term_of, terms_of, IsItem}
 use Rattle.decl_index.specs.declared.change.Change.{Change}
+use Rattle.decl_index.specs.History.{KeepsRanges}
+use Rattle.decl_index.specs.Weighing.{AreWeights}
+use Rattle.decl_index.proofs.HistoryLaws.{weights_in_range}
 use Rattle.java_bodies.specs.declared.site.HoleSite.{HoleSite}
 use Rattle.scopes.proofs.Right.{right}
 use Rattle.answers.specs.declared.types.Hole.{Hole}
@@ -83,14 +86,15 @@ same-lines xs ys b c h e =
 -- An environment's list has one first page.
 one-page : (g : Parts) (p q : Page) → IsValid g → IsPageOf g 0 100 p → IsPageOf g 0 100 q → page_lines p.items p.last ≡ page_lines q.items q.last
 one-page g p q valid a b =
-    let (ws, whole) = has_whole g (valid-heavy g valid) in
+    let (ws, whole) = has_whole g valid in
     let items : Alike p.items q.items = alike g p.items q.items a.says b.says (a.slice ws whole ∙ sym (b.slice ws whole)) in
     let last : p.last ≡ q.last = a.ends ws whole ∙ ap (λ n. leb (length ws) (0 + n)) (as-many p.items q.items items) ∙ sym (b.ends ws whole) in
     same-lines p.items q.items p.last q.last items last
 
-valid : (history : List Change) (hole : Hole) (site : HoleSite) (g : Parts) → hole.limit ≡ 4000 → hole.depth ≡ 1 → IsEnvironmentIn history hole site g → IsValid g
-valid history hole site g limit depth e =
-    right e.state e.unit site e.gives.scene hole.limit hole.depth g e.gives.is_scene (omega (arith, limit)) (omega (arith, limit)) (omega (arith, depth)) e.gives.exact
+valid : (history : List Change) (hole : Hole) (site : HoleSite) (g : Parts) → AllByRecursion KeepsRanges history → hole.limit ≡ 4000 → hole.depth ≡ 1 → IsEnvironmentIn history hole site g → IsValid g
+valid history hole site g ranges limit depth e =
+    let weights : AreWeights e.gives.scene.weights = subst AreWeights (sym (e.gives.is_scene.weights ∙ e.is_state.weights)) (weights_in_range history ranges) in
+    right e.state e.unit site e.gives.scene hole.limit hole.depth g e.gives.is_scene weights (omega (arith, limit)) (omega (arith, limit)) (omega (arith, depth)) e.gives.exact
 
 one-place : (history : List Change) (hole : Hole) (g h : Parts) → HasEnvironment history hole g → HasEnvironment history hole h → g ≡ h
 one-place history hole g h a b =
@@ -104,5 +108,5 @@ one-text n lines other a b =
     let hole = hole_of (sample_of n) in
     let envs : a.env ≡ b.env = one-place history hole a.env b.env a.place b.place in
     let there : IsPageOf a.env 0 100 b.page = subst (λ g. IsPageOf g 0 100 b.page) (sym envs) b.first in
-    let pages = one-page a.env a.page b.page (valid history hole a.place.site a.env refl refl a.place.environment) a.first there in
+    let pages = one-page a.env a.page b.page (valid history hole a.place.site a.env (tt, tt) refl refl a.place.environment) a.first there in
     a.told ∙ ap (λ lines. codes "classes " ++ (decimal (length (sample_of n).classes) ++ (codes "\ngoal C" ++ (decimal (goal_of n) ++ (codes "\n" ++ lines))))) pages ∙ sym b.told

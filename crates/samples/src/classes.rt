@@ -3,6 +3,7 @@ ghost use Rattle.class_shape.specs.Shapes.{IsClassFile};
 ghost use Rattle.class_shape.specs.declared.shapes.ClassShape.{ClassShape};
 ghost use Rattle.class_summary.specs.Summaries.{summary_of};
 ghost use Rattle.decl_index.specs.declared.change.Change.TheVariants.{Publish};
+ghost use Rattle.decl_index.specs.History.{KeepsRanges};
 ghost use Rattle.version_board.specs.Versions.{IsVersion};
 ghost use Rattle.workload.specs.Writing.{IsWhole};
 ghost use Rattle.samples.specs.Samples.{publication_of, history_of, IsLawful};
@@ -79,6 +80,7 @@ fn publication(alloc: Global, kept: Items<ClassSummary>) -> Change
 
 /// The version of one change.
 fn version_after(alloc: Global, change: &Change) -> Result<Snapshot, AllocError>
+    requires ranges { KeepsRanges change.now }
     ensures version { IfOk result (λ version. IsVersion (change.now ∷ []) version) }
     ensures lawful { IfOk result (λ _. IsLawful change.now) }
 {

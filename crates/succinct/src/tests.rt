@@ -1,7 +1,7 @@
 use crate::{Compressed, Rows};
 use lists::{Items, Text};
 use std::alloc::{AllocError, Global};
-use terms::{Arg, Decl, Env, EnvFault, Form, Parts};
+use terms::{Arg, Decl, Env, EnvFault, Form, Parts, Steps};
 
 /// A name where nothing is wanted, and else a call.
 fn form(alloc: Global, plain: bool) -> Result<Form, AllocError> {
@@ -51,6 +51,7 @@ fn parts(
         limit,
         depth: 0,
         binder: Text::from_str(alloc, "p")?,
+        steps: Steps::usual(),
     })
 }
 

@@ -1,14 +1,11 @@
 -- What the marks tell stays right, and a closed type has no gap above it.
-use Rattle.std.proofs.Common.{◌≡◌, ◌⊎◌, inl, inr, ⊎_elim, ℕ, zero, suc, ◌+◌, ◌<◌, Bool, true, false, ◌||◌, ◌==◌, List, [], ◌∷◌, length, get_or, set, take, Option, None, refl, sym, ap, subst, ◌∙◌, arith}
+use Rattle.std.proofs.Common.{◌≡◌, ◌⊎◌, inl, inr, ℕ, suc, ◌+◌, ◌<◌, Bool, true, false, ◌||◌, ◌==◌, List, [], ◌∷◌, length, get_or, set, take, Option, None, refl, sym, ap, subst, ◌∙◌, arith}
 use Rattle.std.specs.List.{list_all}
 use Rattle.std.proofs.lemmas.Bool.{and_parts, false≢true, eqb-true, eq-eqb, cases_eq, or_cases}
 use Rattle.std.proofs.lemmas.List.{get_or-set_other, take_more}
 use Rattle.std.proofs.lemmas.List.Folds.{list_any-append}
-use Rattle.terms.specs.Faults.{unless}
 use Rattle.terms.specs.Table.{has, row_at, first_in, gap_between, gap_from}
-use Rattle.terms.specs.Closed.{IsWithin, IsClosed, AreClosed, AreRight}
-use Rattle.terms.specs.declared.fault.EnvFault.{EnvFault}
-use Rattle.terms.specs.declared.fault.EnvFault.TheVariants.{NotTransitive}
+use Rattle.terms.specs.Closed.{IsWithin, IsClosed, AreClosed}
 
 -- what holds of all of a row holds of what stands in it
 pub all-has : (p : ℕ → Bool) (row : List ℕ) → list_all p row ≡ true → (c : ℕ) → has c row ≡ true → p c ≡ true

@@ -1,5 +1,5 @@
 -- What is read to its end is the code of terms that fit the places.
-use Rattle.std.proofs.Common.{◌≡◌, ℕ, zero, suc, ◌+◌, ◌*◌, ◌<◌, ◌≤◌, Bool, true, false, ◌&&◌, nat_lt, List, [], ◌∷◌, ◌++◌, length, slice_get, Option, Some, None, refl, sym, ap, subst, ◌∙◌, arith, append_assoc, length-append}
+use Rattle.std.proofs.Common.{◌≡◌, ℕ, zero, suc, ◌+◌, ◌*◌, ◌≤◌, Bool, true, false, ◌&&◌, nat_lt, List, [], ◌∷◌, ◌++◌, length, slice_get, Option, Some, None, refl, sym, ap, subst, ◌∙◌, arith, append_assoc, length-append}
 use Rattle.std.proofs.lemmas.Bool.{and_parts, and_from, false≢true, lt-ltb}
 use Rattle.terms.specs.Expr.{Expr, var, head, Args, no_args, plain, lam}
 use Rattle.terms.specs.Typing.{type_in, fits, some_below, is_below, joined}
@@ -12,7 +12,7 @@ use Rattle.terms.specs.Code.{prefix_code, args_code}
 use Rattle.terms.specs.Place.{Place, fits_place, weigh, shallow, args_shallow}
 use Rattle.terms.specs.Reading.{Reading, Symbol, variable, declared, symbol, has_room, places, binders, some_when, variable_at, declared_at, turn_by, turn, and_then, read, fit_all, weigh_all}
 use Rattle.terms.proofs.Halves.{number, number-symbol}
-use Rattle.terms.proofs.Weighing.{variable-weighs, binders_weight-more}
+use Rattle.terms.proofs.Weighing.{binders_weight-more}
 
 abbrev pub codes : List Expr → List ℕ
 codes [] = []
@@ -86,7 +86,6 @@ pub record Grown (g : Parts) (p : Place) (n : ℕ) (t : Reading) (es : List Expr
 pub record Turned (g : Parts) (p : Place) (n : ℕ) (t : Reading) : Type 0 where
   pub room : HaveRoom t.open_places
   pub grows : (es : List Expr) → fit_all g t.open_places es ≡ true → Grown g p n t es
-  pub heavy : ((d : ℕ) (decl : Decl) → slice_get g.decls d ≡ Some decl → 0 < decl.weight) → 0 < t.weight
 
 none_fit : (g : Parts) (es : List Expr) → fit_all g [] es ≡ true → es ≡ []
 none_fit g [] h = refl
@@ -111,7 +110,6 @@ turned_variable g p n m (Some a) t found is h = go (is_below g a p.wanted) refl 
             fit = rw (found, below) refl;
             weight = rw found (omega arith);
           };
-          heavy = λ w. omega (arith, variable-weighs g);
         })
 
 turned_declared : (g : Parts) (p : Place) (n m : ℕ) (o : Option Decl) (t : Reading) → length p.ctx + p.left ≤ 3 → slice_get g.decls m ≡ o → n ≡ 2 * m + 1 → declared_at g p o ≡ Some t → Turned g p n t
@@ -136,7 +134,6 @@ turned_declared g p n m (Some d) t short found is h = go (is_below g d.result p.
                 fit = rw (found, a.fit) (and_from (is_below g d.result p.wanted) (args_shallow p.left (args_from d.args es)) below a.flat);
                 weight = rw (found, a.fit) (omega (arith, a.weight));
               };
-          heavy = λ w. omega (arith, w m d found);
         })
 
 pub turned : (g : Parts) (p : Place) (n : ℕ) (t : Reading) → length p.ctx + p.left ≤ 3 → turn g p n ≡ Some t → Turned g p n t

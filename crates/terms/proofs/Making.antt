@@ -1,5 +1,5 @@
 -- All terms up to a size, and that a term is no larger than it weighs.
-use Rattle.std.proofs.Common.{◌≡◌, ◌≢◌, ◌⊎◌, ◌≤◌, ◌<◌, ℕ, zero, suc, ◌+◌, ◌&&◌, Bool, true, false, List, [], ◌∷◌, ◌++◌, length, map, slice_get, Option, Some, None, refl, sym, ap, ◌∙◌, subst, inl, inr, ⊎_elim, arith}
+use Rattle.std.proofs.Common.{◌≡◌, ◌⊎◌, ◌≤◌, ◌<◌, ℕ, zero, suc, ◌+◌, ◌&&◌, Bool, true, false, List, [], ◌∷◌, ◌++◌, length, map, slice_get, Option, Some, None, refl, sym, ap, subst, inl, inr, ⊎_elim, arith}
 use Rattle.std.specs.Prelude.{nat_lt, nat_le}
 use Rattle.std.proofs.lemmas.Bool.{false≢true, and_parts, leb-true}
 use Rattle.std.proofs.lemmas.Option.{slice_get_within}
@@ -10,7 +10,9 @@ use Rattle.terms.specs.declared.parts.Arg.{Arg}
 use Rattle.terms.specs.declared.parts.Arg.TheVariants.{Plain, Fun}
 use Rattle.terms.specs.Typing.{joined, some_below, result_if, args_wanted, type_in, fits}
 use Rattle.terms.specs.Weights.{binders_weight, step_in, decl_weight, weight_in, args_weight}
-use Rattle.terms.specs.Place.{shallow, fits_place, weigh, goal_place, total_of, is_inhabitant, IsInhabitant}
+use Rattle.terms.specs.Place.{shallow, fits_place, weigh, goal_place, total_of, IsInhabitant}
+use Rattle.terms.specs.Faults.{IsValid}
+use Rattle.terms.proofs.Valid.{valid-heavy}
 use Rattle.terms.proofs.Weighing.{variable-weighs}
 
 abbrev pub In : {X : Type 0} → X → List X → Type 0
@@ -126,9 +128,6 @@ mutual
       in_join (λ x. map (lam x) (args_in (exprs g n) ctx more)) e (exprs g n (ctx ++ ps ∷ [])) (lam e rest) (found g e n (ctx ++ ps ∷ []) t.0 t.1 (left_size (size e) (args_size rest) n l))
       (in_map (lam e) rest (args_in (exprs g n) ctx more) (args_found g rest n ctx more h.1 (right_size (size e) (args_size rest) n l)))
 
-abbrev pub AllWeigh : Parts → Type 0
-AllWeigh g = (i : ℕ) (d : Decl) → slice_get g.decls i ≡ Some d → 1 ≤ d.weight
-
 head_size : (o : Option Decl) (d : Decl) (a w : ℕ) → o ≡ Some d → 1 ≤ d.weight → a ≤ w → suc a ≤ decl_weight o + w
 head_size o d a w e one l = subst (λ x. suc a ≤ decl_weight x + w) (sym e) (omega (arith, one, l))
 
@@ -141,36 +140,36 @@ lam_size a b w n s v p q = omega (arith, p, q)
 mutual
   unfolding type_in fits weight_in args_weight
 
-  light : (g : Parts) → AllWeigh g → (e : Expr) (ctx : List (List ℕ)) (t : ℕ) → type_in g ctx e ≡ Some t → size e ≤ weight_in g ctx e
-  light g all (var k) ctx t typed = variable-weighs g
-  light g all (head i xs) ctx t typed =
+  light : (g : Parts) → IsValid g → (e : Expr) (ctx : List (List ℕ)) (t : ℕ) → type_in g ctx e ≡ Some t → size e ≤ weight_in g ctx e
+  light g valid (var k) ctx t typed = variable-weighs g valid
+  light g valid (head i xs) ctx t typed =
       let d = has_decl (slice_get g.decls i) (fits g ctx xs (args_wanted (slice_get g.decls i))) t typed in
-      head_size (slice_get g.decls i) d.0 (args_size xs) (args_weight g ctx xs (args_wanted (slice_get g.decls i))) d.1 (all i d.0 d.1) (args_light g all xs ctx (args_wanted (slice_get g.decls i)) d.2)
+      head_size (slice_get g.decls i) d.0 (args_size xs) (args_weight g ctx xs (args_wanted (slice_get g.decls i))) d.1 (valid-heavy g valid i d.0 d.1) (args_light g valid xs ctx (args_wanted (slice_get g.decls i)) d.2)
 
-  args_light : (g : Parts) → AllWeigh g → (xs : Args) (ctx : List (List ℕ)) (wanted : List Arg) → fits g ctx xs wanted ≡ true → args_size xs ≤ args_weight g ctx xs wanted
-  args_light g all no_args ctx [] fit = omega arith
-  args_light g all no_args ctx (Plain b ∷ more) fit = absurd (false≢true fit)
-  args_light g all no_args ctx (Fun ps r ∷ more) fit = absurd (false≢true fit)
-  args_light g all (plain e rest) ctx [] fit = absurd (false≢true fit)
-  args_light g all (plain e rest) ctx (Fun ps r ∷ more) fit = absurd (false≢true fit)
-  args_light g all (lam e rest) ctx [] fit = absurd (false≢true fit)
-  args_light g all (lam e rest) ctx (Plain b ∷ more) fit = absurd (false≢true fit)
-  args_light g all (plain e rest) ctx (Plain b ∷ more) fit =
+  args_light : (g : Parts) → IsValid g → (xs : Args) (ctx : List (List ℕ)) (wanted : List Arg) → fits g ctx xs wanted ≡ true → args_size xs ≤ args_weight g ctx xs wanted
+  args_light g valid no_args ctx [] fit = omega arith
+  args_light g valid no_args ctx (Plain b ∷ more) fit = absurd (false≢true fit)
+  args_light g valid no_args ctx (Fun ps r ∷ more) fit = absurd (false≢true fit)
+  args_light g valid (plain e rest) ctx [] fit = absurd (false≢true fit)
+  args_light g valid (plain e rest) ctx (Fun ps r ∷ more) fit = absurd (false≢true fit)
+  args_light g valid (lam e rest) ctx [] fit = absurd (false≢true fit)
+  args_light g valid (lam e rest) ctx (Plain b ∷ more) fit = absurd (false≢true fit)
+  args_light g valid (plain e rest) ctx (Plain b ∷ more) fit =
       let f = and_parts (some_below g (type_in g ctx e) b) (fits g ctx rest more) fit in
       let t = some_type g (type_in g ctx e) b f.0 in
-      plain_size (size e) (args_size rest) (weight_in g ctx e) (step_in g (type_in g ctx e) b) (args_weight g ctx rest more) (light g all e ctx t.0 t.1) (args_light g all rest ctx more f.1)
-  args_light g all (lam e rest) ctx (Fun ps r ∷ more) fit =
+      plain_size (size e) (args_size rest) (weight_in g ctx e) (step_in g (type_in g ctx e) b) (args_weight g ctx rest more) (light g valid e ctx t.0 t.1) (args_light g valid rest ctx more f.1)
+  args_light g valid (lam e rest) ctx (Fun ps r ∷ more) fit =
       let h = and_parts (nat_lt (length ctx) 3 && some_below g (type_in g (ctx ++ ps ∷ []) e) r) (fits g ctx rest more) fit in
       let f = and_parts (nat_lt (length ctx) 3) (some_below g (type_in g (ctx ++ ps ∷ []) e) r) h.0 in
       let t = some_type g (type_in g (ctx ++ ps ∷ []) e) r f.1 in
-      lam_size (size e) (args_size rest) (weight_in g (ctx ++ ps ∷ []) e) (binders_weight g (length ps)) (step_in g (type_in g (ctx ++ ps ∷ []) e) r) (args_weight g ctx rest more) (light g all e (ctx ++ ps ∷ []) t.0 t.1) (args_light g all rest ctx more h.1)
+      lam_size (size e) (args_size rest) (weight_in g (ctx ++ ps ∷ []) e) (binders_weight g (length ps)) (step_in g (type_in g (ctx ++ ps ∷ []) e) r) (args_weight g ctx rest more) (light g valid e (ctx ++ ps ∷ []) t.0 t.1) (args_light g valid rest ctx more h.1)
 
-pub inhabitants : (g : Parts) → AllWeigh g → (e : Expr) → IsInhabitant g e → In e (exprs g g.limit [])
+pub inhabitants : (g : Parts) → IsValid g → (e : Expr) → IsInhabitant g e → In e (exprs g g.limit [])
 unfolding fits_place weigh
-inhabitants g all e is =
+inhabitants g valid e is =
     let in_limit = and_parts (fits_place g (goal_place g) e) (nat_le (total_of g e) g.limit) is in
     let fit = and_parts (some_below g (type_in g [] e) g.goal) (shallow g.depth e) in_limit.0 in
     let t = some_type g (type_in g [] e) g.goal fit.0 in
-    let small : size e ≤ weight_in g [] e = light g all e [] t.0 t.1 in
+    let small : size e ≤ weight_in g [] e = light g valid e [] t.0 t.1 in
     let low : weight_in g [] e + step_in g (type_in g [] e) g.goal ≤ g.limit = leb-true (total_of g e) g.limit in_limit.1 in
     found g e g.limit [] t.0 t.1 (omega (arith, small, low))

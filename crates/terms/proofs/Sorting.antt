@@ -1,16 +1,17 @@
 -- Terms put into the order of the list, each once.
-use Rattle.std.proofs.Common.{◌≡◌, ◌⊎◌, ◌≤◌, ℕ, Bool, true, false, List, [], ◌∷◌, Ordering, Less, Equal, Greater, refl, sym, ap, ◌∙◌, subst, inl, inr, ⊎_elim, arith}
+use Rattle.std.proofs.Common.{◌≡◌, ◌⊎◌, Bool, true, false, List, [], ◌∷◌, Ordering, Less, Equal, Greater, refl, sym, ap, ◌∙◌, subst, inl, inr, ⊎_elim, arith}
 use Rattle.std.specs.Ordering.{ordering_reverse}
 use Rattle.terms.specs.Expr.{Expr}
 use Rattle.terms.specs.declared.parts.Parts.{Parts}
 use Rattle.terms.specs.Place.{is_inhabitant, IsInhabitant}
 use Rattle.terms.specs.Count.{Stands}
 use Rattle.terms.specs.Order.{list_cmp, ComesBefore}
-use Rattle.terms.specs.Listing.{IsRising, IsFront, IsWhole}
+use Rattle.terms.specs.Listing.{IsRising, IsWhole}
+use Rattle.terms.specs.Faults.{IsValid}
 use Rattle.terms.proofs.Standing.{stands-cons, stands-head, stands-tail, all_stands, from_all}
 use Rattle.terms.proofs.Fronts.{list_total}
 use Rattle.terms.proofs.Lists.{one_place}
-use Rattle.terms.proofs.Making.{In, exprs, AllWeigh, inhabitants}
+use Rattle.terms.proofs.Making.{In, exprs, inhabitants}
 
 abbrev put_by : Ordering → Expr → Expr → List Expr → List Expr → List Expr
 put_by Less e x ws rest = e ∷ x ∷ ws
@@ -87,8 +88,8 @@ sorted : (g : Parts) (es : List Expr) → (ws : List Expr) × IsSorted g es ws
 sorted g [] = ([], record { rising = tt; members = λ f s. absurd (no_stand f s); all = λ f i h. absurd h })
 sorted g (e ∷ es) = let so = sorted g es in sort_one g e es so.0 so.1 (is_inhabitant g e) refl
 
-pub has_whole : (g : Parts) → AllWeigh g → (ws : List Expr) × IsWhole g ws
-has_whole g all =
+pub has_whole : (g : Parts) → IsValid g → (ws : List Expr) × IsWhole g ws
+has_whole g valid =
     let so = sorted g (exprs g g.limit []) in
-    let every : (e : Expr) → IsInhabitant g e → Stands e so.0 = λ e i. so.1.all e i (inhabitants g all e i) in
+    let every : (e : Expr) → IsInhabitant g e → Stands e so.0 = λ e i. so.1.all e i (inhabitants g valid e i) in
     (so.0, record { front = record { rising = so.1.rising; members = all_stands (IsInhabitant g) so.0 so.1.members; closed = λ e f i s b. every e i }; all = every })

@@ -3,19 +3,20 @@ use Rattle.std.proofs.Common.{◌≡◌, ◌≢◌, inl, inr, ℕ, zero, suc, �
 use Rattle.std.specs.List.{list_all}
 use Rattle.std.proofs.lemmas.Bool.{ltb-true, and_parts, eq-eqb, eqb-true, or_cases, both_ways}
 use Rattle.terms.specs.Typing.{is_pair, is_below}
-use Rattle.terms.specs.Faults.{or_then, unless, first_below, limit_fault, greatest_depth, depth_fault, pairs_fault, order_fault, decl_fault, decls_fault, goal_fault, first_env_fault, is_arg_known, is_well_formed, is_gap, IsValid}
+use Rattle.terms.specs.Faults.{or_then, unless, first_below, limit_fault, greatest_depth, depth_fault, step_fault, steps_fault, pairs_fault, order_fault, decl_fault, decls_fault, goal_fault, first_env_fault, is_arg_known, is_well_formed, is_gap, IsValid}
 use Rattle.terms.specs.declared.fault.EnvFault.{EnvFault}
-use Rattle.terms.specs.declared.fault.EnvFault.TheVariants.{TypeRange, Weight, Limit, NotTransitive, Depth}
+use Rattle.terms.specs.declared.fault.EnvFault.TheVariants.{TypeRange, Weight, Limit, NotTransitive, Depth, Step}
 use Rattle.terms.specs.declared.fault.EnvFault.TheVariants as fault
 use Rattle.terms.specs.declared.parts.Decl.{Decl}
 use Rattle.terms.specs.declared.parts.Parts.{Parts}
 use Rattle.terms.proofs.Pairs.{or_then-none, unless-none, pairs-known}
 use Rattle.terms.proofs.Gaps.{first_below-each}
 
--- the six tests, one by one
+-- the seven tests, one by one
 record Passes (g : Parts) : Type 0 where
   limit : limit_fault g ≡ None
   depth : depth_fault g ≡ None
+  steps : steps_fault g ≡ None
   pairs : pairs_fault (length g.types) 0 [] g.pairs ≡ None
   order : order_fault (length g.types) g.pairs ≡ None
   decls : decls_fault (length g.types) 0 g.decls ≡ None
@@ -26,10 +27,11 @@ unfolding first_env_fault
 passes g valid =
     let a = or_then-none (limit_fault g) _ valid in
     let b = or_then-none (depth_fault g) _ a.1 in
-    let c = or_then-none (pairs_fault (length g.types) 0 [] g.pairs) _ b.1 in
-    let d = or_then-none (order_fault (length g.types) g.pairs) _ c.1 in
-    let e = or_then-none (decls_fault (length g.types) 0 g.decls) (goal_fault g) d.1 in
-    record { limit = a.0; depth = b.0; pairs = c.0; order = d.0; decls = e.0; goal = e.1 }
+    let c = or_then-none (steps_fault g) _ b.1 in
+    let d = or_then-none (pairs_fault (length g.types) 0 [] g.pairs) _ c.1 in
+    let e = or_then-none (order_fault (length g.types) g.pairs) _ d.1 in
+    let f = or_then-none (decls_fault (length g.types) 0 g.decls) (goal_fault g) e.1 in
+    record { limit = a.0; depth = b.0; steps = c.0; pairs = d.0; order = e.0; decls = f.0; goal = f.1 }
 
 -- the limit is from 1 to 10,000
 pub valid-limit : (g : Parts) → IsValid g → (0 < g.limit) × (g.limit ≤ 10000)
@@ -41,6 +43,23 @@ valid-limit g valid =
 pub valid-depth : (g : Parts) → IsValid g → g.depth ≤ greatest_depth
 valid-depth g valid = omega (arith, ltb-true g.depth (greatest_depth + 1) (unless-none (nat_lt g.depth (greatest_depth + 1)) (Depth g.depth) (passes g valid).depth))
 
+step-range : (i n greatest : ℕ) → step_fault i n greatest ≡ None → (1 ≤ n) × (n ≤ greatest)
+step-range i n greatest none =
+    let tests = and_parts (nat_lt 0 n) (nat_lt n (greatest + 1)) (unless-none (nat_lt 0 n && nat_lt n (greatest + 1)) (Step i) none) in
+    (omega (arith, ltb-true 0 n tests.0), omega (arith, ltb-true n (greatest + 1) tests.1))
+
+-- the three weights that belong to no declaration are in their ranges
+pub record HasSteps (g : Parts) : Type 0 where
+  pub bound : (1 ≤ g.steps.bound) × (g.steps.bound ≤ 100)
+  pub binder : (1 ≤ g.steps.binder) × (g.steps.binder ≤ 100)
+  pub step : (1 ≤ g.steps.step) × (g.steps.step ≤ 10000)
+
+pub valid-steps : (g : Parts) → IsValid g → HasSteps g
+valid-steps g valid =
+    let a = or_then-none (step_fault 1 g.steps.bound 100) _ (passes g valid).steps in
+    let b = or_then-none (step_fault 2 g.steps.binder 100) (step_fault 3 g.steps.step 10000) a.1 in
+    record { bound = step-range 1 g.steps.bound 100 a.0; binder = step-range 2 g.steps.binder 100 b.0; step = step-range 3 g.steps.step 10000 b.1 }
+
 -- the goal is a type
 pub valid-goal : (g : Parts) → IsValid g → g.goal < length g.types
 valid-goal g valid = ltb-true g.goal (length g.types) (unless-none (nat_lt g.goal (length g.types)) (TypeRange (length g.decls)) (passes g valid).goal)
@@ -49,27 +68,32 @@ valid-goal g valid = ltb-true g.goal (length g.types) (unless-none (nat_lt g.goa
 pub valid-pair : (g : Parts) → IsValid g → (a b : ℕ) → is_pair g.pairs a b ≡ true → (a < length g.types) × (b < length g.types) × (a ≢ b)
 valid-pair g valid = pairs-known (length g.types) 0 [] g.pairs (passes g valid).pairs
 
-or_then-split : {X : Type 0} (a b c : Option X) → or_then a (or_then b c) ≡ or_then (or_then a b) c
-or_then-split None b c = refl
-or_then-split (Some x) b c = refl
+or_then-split : {X : Type 0} (a b c d : Option X) → or_then a (or_then b (or_then c d)) ≡ or_then (or_then a (or_then b c)) d
+or_then-split None None c d = refl
+or_then-split None (Some x) c d = refl
+or_then-split (Some x) b c d = refl
+
+-- the faults that come before those of the pairs
+abbrev pub bounds : Parts → Option EnvFault
+bounds g = or_then (limit_fault g) (or_then (depth_fault g) (steps_fault g))
 
 -- the faults that come after those of the pairs
 abbrev pub later : Parts → Option EnvFault
 later g = or_then (order_fault (length g.types) g.pairs) (or_then (decls_fault (length g.types) 0 g.decls) (goal_fault g))
 
-first-split : (g : Parts) → first_env_fault g ≡ or_then (or_then (limit_fault g) (depth_fault g)) (or_then (pairs_fault (length g.types) 0 [] g.pairs) (later g))
+first-split : (g : Parts) → first_env_fault g ≡ or_then (bounds g) (or_then (pairs_fault (length g.types) 0 [] g.pairs) (later g))
 unfolding first_env_fault
-first-split g = or_then-split (limit_fault g) (depth_fault g) (or_then (pairs_fault (length g.types) 0 [] g.pairs) (later g))
+first-split g = or_then-split (limit_fault g) (depth_fault g) (steps_fault g) (or_then (pairs_fault (length g.types) 0 [] g.pairs) (later g))
 
 -- the first fault, by where it is
-pub first-bounds : (g : Parts) (f : EnvFault) → or_then (limit_fault g) (depth_fault g) ≡ Some f → first_env_fault g ≡ Some f
+pub first-bounds : (g : Parts) (f : EnvFault) → bounds g ≡ Some f → first_env_fault g ≡ Some f
 first-bounds g f is = first-split g ∙ rw is refl
 
-pub first-pairs : (g : Parts) (n : ℕ) (ps : List (ℕ × ℕ)) (f : EnvFault) → or_then (limit_fault g) (depth_fault g) ≡ None → n ≡ length g.types → ps ≡ g.pairs → pairs_fault n 0 [] ps ≡ Some f → first_env_fault g ≡ Some f
-first-pairs g n ps f bounds len same is = first-split g ∙ rw (bounds, sym len, sym same, is) refl
+pub first-pairs : (g : Parts) (n : ℕ) (ps : List (ℕ × ℕ)) (f : EnvFault) → bounds g ≡ None → n ≡ length g.types → ps ≡ g.pairs → pairs_fault n 0 [] ps ≡ Some f → first_env_fault g ≡ Some f
+first-pairs g n ps f within len same is = first-split g ∙ rw (within, sym len, sym same, is) refl
 
-pub first-later : (g : Parts) (o : Option EnvFault) → or_then (limit_fault g) (depth_fault g) ≡ None → pairs_fault (length g.types) 0 [] g.pairs ≡ None → o ≡ later g → first_env_fault g ≡ o
-first-later g o bounds sound is = first-split g ∙ rw (bounds, sound) (sym is)
+pub first-later : (g : Parts) (o : Option EnvFault) → bounds g ≡ None → pairs_fault (length g.types) 0 [] g.pairs ≡ None → o ≡ later g → first_env_fault g ≡ o
+first-later g o within sound is = first-split g ∙ rw (within, sound) (sym is)
 
 -- the fault of the declarations, over what the code calls them
 pub of-decls : (g : Parts) (n : ℕ) (ds : List Decl) (o : Option EnvFault) → n ≡ length g.types → ds ≡ g.decls → o ≡ decls_fault n 0 ds → o ≡ decls_fault (length g.types) 0 g.decls

@@ -1,5 +1,5 @@
 -- A closed term is an inhabitant where its rating says so.
-use Rattle.std.proofs.Common.{◌≡◌, inl, inr, ℕ, ◌+◌, ◌≤◌, Bool, false, ◌&&◌, ◌==◌, if◌then◌else◌, nat_le, List, [], Option, Some, None, refl, ap, ◌∙◌, arith}
+use Rattle.std.proofs.Common.{◌≡◌, inl, inr, ℕ, ◌+◌, ◌≤◌, Bool, false, ◌&&◌, nat_le, List, [], Option, Some, None, refl, ap, ◌∙◌, arith}
 use Rattle.std.proofs.lemmas.Bool.{cases_lt, le-leb, lt-leb}
 use Rattle.terms.specs.Expr.{Expr}
 use Rattle.terms.specs.Typing.{type_in, is_below, some_below}

@@ -1,27 +1,32 @@
 -- What the weights of an environment are, and what so many binders weigh together.
-use Rattle.std.proofs.Common.{◌≡◌, ℕ, zero, suc, ◌+◌, ◌-◌, ◌*◌, ◌≤◌, ◌==◌, if◌then◌else◌, Bool, true, false, Some, refl, ap, ◌∙◌, arith}
+use Rattle.std.proofs.Common.{◌≡◌, ℕ, zero, suc, ◌+◌, ◌-◌, ◌*◌, ◌≤◌, ◌<◌, ◌==◌, if◌then◌else◌, Bool, true, false, Some, refl, ap, ◌∙◌, arith}
+use Rattle.std.proofs.Math.Nat.{suc-mul, mul-le-mul_left}
 use Rattle.terms.specs.Weights.{variable_weight, binder_weight, coercion_weight, sum_of_equal, binders_weight, step_in}
+use Rattle.terms.specs.Faults.{IsValid}
 use Rattle.terms.specs.declared.parts.Parts.{Parts}
+use Rattle.terms.proofs.Valid.{valid-steps}
 
--- the numbers, for rows that are worked out with them
-pub variable-is : (g : Parts) → variable_weight g ≡ 1
+-- a use of a variable, a binder and a coercion weigh something
+pub variable-weighs : (g : Parts) → IsValid g → 1 ≤ variable_weight g
 unfolding variable_weight
-variable-is g = refl
+variable-weighs g valid = (valid-steps g valid).bound.0
 
-pub binder-is : (g : Parts) → binder_weight g ≡ 1
+binder-weighs : (g : Parts) → IsValid g → 1 ≤ binder_weight g
 unfolding binder_weight
-binder-is g = refl
+binder-weighs g valid = (valid-steps g valid).binder.0
 
-pub coercion-is : (g : Parts) → coercion_weight g ≡ 10
+pub coercion-weighs : (g : Parts) → IsValid g → 1 ≤ coercion_weight g
 unfolding coercion_weight
-coercion-is g = refl
+coercion-weighs g valid = (valid-steps g valid).step.0
 
--- a use of a variable and a coercion weigh something
-pub variable-weighs : (g : Parts) → 1 ≤ variable_weight g
-variable-weighs g = omega (arith, variable-is g)
+-- a use of a variable and a coercion weigh so much at most that sums within a limit fit the code's numbers
+pub variable-most : (g : Parts) → IsValid g → variable_weight g ≤ 100
+unfolding variable_weight
+variable-most g valid = (valid-steps g valid).bound.1
 
-pub coercion-weighs : (g : Parts) → 1 ≤ coercion_weight g
-coercion-weighs g = omega (arith, coercion-is g)
+pub coercion-most : (g : Parts) → IsValid g → coercion_weight g ≤ 10000
+unfolding coercion_weight
+coercion-most g valid = (valid-steps g valid).step.1
 
 -- nothing, or what a coercion weighs
 pub step-most : (g : Parts) (a b : ℕ) → step_in g (Some a) b ≤ coercion_weight g
@@ -54,19 +59,26 @@ binders_weight-rises g m n low =
     let all : binders_weight g n ≡ binders_weight g (m + (n - m)) = ap (binders_weight g) e in
     omega (arith, all, binders_weight-more g m (n - m))
 
-sum-one : (w n : ℕ) → w ≡ 1 → sum_of_equal w n ≡ n
+sum-most : (w n : ℕ) → 1 ≤ w → n ≤ sum_of_equal w n
 unfolding sum_of_equal
-sum-one w zero e = refl
-sum-one w (suc n) e = omega (arith, e, sum-one w n e)
-
--- their number, for rows that are worked out with it
-pub binders_weight-is : (g : Parts) (n : ℕ) → binders_weight g n ≡ n
-binders_weight-is g n = sum-one (binder_weight g) n (binder-is g)
+sum-most w zero one = omega arith
+sum-most w (suc n) one = omega (arith, one, sum-most w n one)
 
 -- each binder weighs something
-pub binders_weight-most : (g : Parts) (n : ℕ) → n ≤ binders_weight g n
-binders_weight-most g n = omega (arith, binders_weight-is g n)
+pub binders_weight-most : (g : Parts) → IsValid g → (n : ℕ) → n ≤ binders_weight g n
+binders_weight-most g valid n = sum-most (binder_weight g) n (binder-weighs g valid)
+
+sum-times : (w n : ℕ) → n * w ≡ sum_of_equal w n
+unfolding sum_of_equal
+sum-times w zero = omega arith
+sum-times w (suc n) = suc-mul n w ∙ omega (arith, sum-times w n)
 
 -- what so many weigh is a product
 pub binders_weight-times : (g : Parts) (n w : ℕ) → w ≡ binder_weight g → n * w ≡ binders_weight g n
-binders_weight-times g n w e = rw (e ∙ binder-is g) (omega (arith, binders_weight-is g n))
+binders_weight-times g n w e = rw e (sum-times (binder_weight g) n)
+
+-- which is small enough for the code's numbers
+pub times-fits : (n w : ℕ) → n < 18446744073709551616 → w < 4294967296 → n * w < 340282366920938463463374607431768211456
+times-fits n w few light =
+    let most : n * w ≤ n * 4294967295 = mul-le-mul_left n (omega (arith, light)) in
+    omega (arith, most, few)

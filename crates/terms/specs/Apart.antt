@@ -2,6 +2,7 @@
 -- declarations alone, for environments whose texts can be read back. Overloads, names that hide one another and
 -- texts with dots are what can make two terms look alike.
 use Rattle.std.specs.Prelude.{◌≡◌, ◌≢◌, ◌⊎◌, ℕ, ◌<◌, Bool, true, false, List, [], ◌∷◌, ◌++◌, length, slice_get, Some, codes}
+use Rattle.terms.specs.Weights.{usual_steps}
 use Rattle.terms.specs.Typing.{is_below}
 use Rattle.terms.specs.Text.{type_text}
 use Rattle.terms.specs.declared.parts.Arg.{Arg}
@@ -87,4 +88,4 @@ call_over a crowded = record { args = Plain a ∷ []; result = 0; weight = 20; c
 
 -- two methods with one name: `f` over an `A` and `f` over a `B`, with casts where they are crowded
 abbrev pub two_calls : Bool → Parts
-two_calls crowded = record { types = codes "A" ∷ codes "B" ∷ []; pairs = []; decls = call_over 0 crowded ∷ call_over 1 crowded ∷ []; goal = 0; limit = 100; depth = 0; binder = codes "p" }
+two_calls crowded = record { types = codes "A" ∷ codes "B" ∷ []; pairs = []; decls = call_over 0 crowded ∷ call_over 1 crowded ∷ []; goal = 0; limit = 100; depth = 0; binder = codes "p"; steps = usual_steps }

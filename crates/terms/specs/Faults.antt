@@ -9,7 +9,7 @@ use Rattle.terms.specs.declared.parts.Form.{Form}
 use Rattle.terms.specs.declared.parts.Form.TheVariants as form
 use Rattle.terms.specs.declared.parts.Parts.{Parts}
 use Rattle.terms.specs.declared.fault.EnvFault.{EnvFault}
-use Rattle.terms.specs.declared.fault.EnvFault.TheVariants.{TypeRange, PairRange, PairTwice, Weight, Limit, NotTransitive, Depth}
+use Rattle.terms.specs.declared.fault.EnvFault.TheVariants.{TypeRange, PairRange, PairTwice, Weight, Limit, NotTransitive, Depth, Step}
 use Rattle.terms.specs.declared.fault.EnvFault.TheVariants as fault
 
 -- the first of two, where there is one, else the second
@@ -38,6 +38,15 @@ greatest_depth = 3
 -- a fault, unless the depth is at most the greatest
 abbrev pub depth_fault : Parts → Option EnvFault
 depth_fault g = unless (nat_lt g.depth (greatest_depth + 1)) (Depth g.depth)
+
+-- fault i of the steps, unless the number is from 1 to the greatest
+abbrev pub step_fault : ℕ → ℕ → ℕ → Option EnvFault
+step_fault i n greatest = unless (nat_lt 0 n && nat_lt n (greatest + 1)) (Step i)
+
+-- the first of the three weights that is out of its range: of a use of a variable and of a binder, from 1 to 100, and
+-- of a coercion, from 1 to 10,000
+abbrev pub steps_fault : Parts → Option EnvFault
+steps_fault g = or_then (step_fault 1 g.steps.bound 100) (or_then (step_fault 2 g.steps.binder 100) (step_fault 3 g.steps.step 10000))
 
 -- pair n, after these pairs: both sides are type numbers and differ, and it didn't stand before
 unfoldable pub pair_fault : ℕ → ℕ → List (ℕ × ℕ) → ℕ × ℕ → Option EnvFault
@@ -96,14 +105,15 @@ decls_fault types n (d ∷ more) = or_then (decl_fault types n d) (decls_fault t
 abbrev pub goal_fault : Parts → Option EnvFault
 goal_fault g = unless (nat_lt g.goal (length g.types)) (TypeRange (length g.decls))
 
--- the first fault of the parts: limit, depth, pairs, transitivity, declarations, goal
+-- the first fault of the parts: limit, depth, steps, pairs, transitivity, declarations, goal
 unfoldable pub first_env_fault : Parts → Option EnvFault
 first_env_fault g =
     or_then (limit_fault g)
     (or_then (depth_fault g)
+    (or_then (steps_fault g)
     (or_then (pairs_fault (length g.types) 0 [] g.pairs)
     (or_then (order_fault (length g.types) g.pairs)
-    (or_then (decls_fault (length g.types) 0 g.decls) (goal_fault g)))))
+    (or_then (decls_fault (length g.types) 0 g.decls) (goal_fault g))))))
 
 -- the parts are an environment
 abbrev pub IsValid : Parts → Type 0

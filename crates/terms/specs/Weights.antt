@@ -7,19 +7,24 @@ use Rattle.terms.specs.declared.parts.Arg.{Arg}
 use Rattle.terms.specs.declared.parts.Arg.TheVariants.{Plain, Fun}
 use Rattle.terms.specs.declared.parts.Decl.{Decl}
 use Rattle.terms.specs.declared.parts.Parts.{Parts}
+use Rattle.terms.specs.declared.parts.Steps.{Steps}
 use Rattle.terms.specs.declared.context.Ctx.{Ctx}
+
+-- the weights that belong to no declaration, where nobody sets them
+abbrev pub usual_steps : Steps
+usual_steps = record { bound = 1; binder = 1; step = 10 }
 
 -- what a use of a variable weighs in an environment
 unfoldable pub variable_weight : Parts → ℕ
-variable_weight g = 1
+variable_weight g = g.steps.bound
 
 -- what a binder of a lambda weighs
 unfoldable pub binder_weight : Parts → ℕ
-binder_weight g = 1
+binder_weight g = g.steps.binder
 
 -- what a coercion weighs
 unfoldable pub coercion_weight : Parts → ℕ
-coercion_weight g = 10
+coercion_weight g = g.steps.step
 
 -- the sum of n weights, each w
 unfoldable pub sum_of_equal : ℕ → ℕ → ℕ

@@ -4,7 +4,7 @@ ghost use Rattle.terms.specs.Typing.{is_below, type_of};
 ghost use Rattle.terms.specs.Weights.{weight_of};
 ghost use Rattle.terms.specs.Place.{is_inhabitant};
 ghost use Rattle.terms.specs.Rating.{is_wanted};
-ghost use Rattle.terms.specs.Faults.{or_then, limit_fault, depth_fault, pairs_fault, order_fault, decls_fault, goal_fault, first_env_fault, IsValid, HasLengths};
+ghost use Rattle.terms.specs.Faults.{or_then, limit_fault, depth_fault, steps_fault, pairs_fault, order_fault, decls_fault, goal_fault, first_env_fault, IsValid, HasLengths};
 ghost use Rattle.terms.specs.Table.{IsTable};
 ghost use Rattle.terms.specs.Closed.{AreClosed};
 ghost use Rattle.terms.specs.declared.fault.EnvFault.TheVariants.{OutOfMemory};
@@ -70,10 +70,10 @@ impl Env {
         }
     }
 
-    /// The environment of parts whose limit and depth are right.
+    /// The environment of parts whose limit, depth and steps are right.
     fn with_bounds(alloc: Global, parts: Parts) -> Result<Env, EnvFault>
         requires lengths { HasLengths parts }
-        requires bounds { or_then (limit_fault parts) (depth_fault parts) ≡ None }
+        requires bounds { or_then (limit_fault parts) (or_then (depth_fault parts) (steps_fault parts)) ≡ None }
         ensures very_parts { IfOk result (λ env. env ≡ parts) }
         ensures valid { OnOk result (IsValid parts) }
         ensures first_fault { IfErr result (λ fault. fault ≢ OutOfMemory → first_env_fault parts ≡ Some fault) }
@@ -90,7 +90,7 @@ impl Env {
     /// The environment of parts of which only transitivity, declarations and goal are left to look at.
     fn with_table(parts: Parts, above: Items<Items<u32>>, closed: &[bool]) -> Result<Env, EnvFault>
         requires lengths { HasLengths parts }
-        requires bounds { or_then (limit_fault parts) (depth_fault parts) ≡ None }
+        requires bounds { or_then (limit_fault parts) (or_then (depth_fault parts) (steps_fault parts)) ≡ None }
         requires sound { pairs_fault (length parts.types) 0 [] parts.pairs ≡ None }
         requires table { IsTable parts.pairs above }
         requires len { length above ≡ length parts.types }
@@ -197,9 +197,9 @@ impl Copies for Env {
     }
 }
 
-/// What is wrong with the limit or the depth.
+/// What is wrong with the limit, the depth or the steps.
 fn bounds_fault(parts: &Parts) -> Option<EnvFault>
-    ensures { result ≡ or_then (limit_fault parts.now) (depth_fault parts.now) }
+    ensures { result ≡ or_then (limit_fault parts.now) (or_then (depth_fault parts.now) (steps_fault parts.now)) }
 {
     if parts.limit == 0 || parts.limit > 10_000 {
         return Some(EnvFault::Limit(parts.limit));
@@ -207,10 +207,27 @@ fn bounds_fault(parts: &Parts) -> Option<EnvFault>
     if parts.depth > GREATEST_DEPTH {
         return Some(EnvFault::Depth(parts.depth));
     }
+    steps_fault(parts)
+}
+
+/// The first of the steps that is out of its range.
+fn steps_fault(parts: &Parts) -> Option<EnvFault>
+    ensures { result ≡ steps_fault parts.now }
+{
+    let steps = parts.steps;
+    if steps.bound == 0 || steps.bound > 100 {
+        return Some(EnvFault::Step(1));
+    }
+    if steps.binder == 0 || steps.binder > 100 {
+        return Some(EnvFault::Step(2));
+    }
+    if steps.step == 0 || steps.step > 10_000 {
+        return Some(EnvFault::Step(3));
+    }
     None
 }
 
-/// What is wrong besides the limit, the depth and the single pairs.
+/// What is wrong besides the limit, the depth, the steps and the single pairs.
 fn later_fault(parts: &Parts, rows: &[Items<u32>], closed: &[bool]) -> Option<EnvFault>
     requires lengths { HasLengths parts.now }
     requires table { IsTable parts.now.pairs rows.now }

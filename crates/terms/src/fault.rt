@@ -19,6 +19,8 @@ pub enum EnvFault {
     Depth(u32),
     /// A declaration whose arguments don't suit its form.
     Form(u32),
+    /// The first of the three steps that is out of its range, counted from 1: `bound`, `binder`, `step`.
+    Step(u32),
     /// There was no memory for the environment's table.
     OutOfMemory,
 }

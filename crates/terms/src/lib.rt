@@ -22,5 +22,5 @@ pub use env::Env;
 pub use fault::EnvFault;
 pub use laws::{list_laws, pair_laws, text_laws};
 pub use levels::{Level, Levels};
-pub use parts::{Arg, Decl, Form, GREATEST_DEPTH, Parts};
+pub use parts::{Arg, Decl, Form, GREATEST_DEPTH, Parts, Steps};
 pub use term::{Term, TermArg};

@@ -1,4 +1,5 @@
-ghost use Rattle.std.specs.Prelude.{IsTrue};
+ghost use Rattle.std.specs.Prelude.{◌≡◌, IsTrue};
+ghost use Rattle.terms.specs.Weights.{usual_steps};
 ghost use Rattle.terms.specs.Faults.{HasLengths};
 
 use lists::{Copies, Items, Text, copy_all};
@@ -46,6 +47,30 @@ pub struct Decl {
     pub form: Form,
 }
 
+/// The weights that belong to no declaration.
+#[derive(Clone, Copy, Debug, PartialEq, Eq)]
+pub struct Steps {
+    /// What a use of a lambda's variable weighs, from 1 to 100.
+    pub bound: u32,
+    /// What a binder of a lambda weighs, from 1 to 100.
+    pub binder: u32,
+    /// What a coercion weighs, from 1 to 10,000.
+    pub step: u32,
+}
+
+impl Steps {
+    /// Those of an environment for which nobody sets them: 1, 1 and 10.
+    pub fn usual() -> Steps
+        ensures value { result ≡ usual_steps }
+    {
+        Steps {
+            bound: 1,
+            binder: 1,
+            step: 10,
+        }
+    }
+}
+
 /// The parts of an environment, as they were given. Types and declarations are named by their places
 /// in the lists, from 0.
 #[derive(Debug, Drop)]
@@ -63,6 +88,8 @@ pub struct Parts {
     pub depth: u32,
     /// What a lambda's variables are called, before their numbers.
     pub binder: Text,
+    /// What variables, binders and coercions weigh.
+    pub steps: Steps,
 }
 
 impl Parts {
@@ -133,6 +160,7 @@ impl Copies for Parts {
             limit: self.limit,
             depth: self.depth,
             binder: self.binder.copy(alloc)?,
+            steps: self.steps,
         })
     }
 }

@@ -45,7 +45,7 @@ impl Env {
     pub fn variable_weight(&self) -> u32
         ensures value { result ≡ variable_weight self.now }
     {
-        1
+        self.parts().steps.bound
     }
 
     /// What a binder of a lambda weighs.
@@ -53,7 +53,7 @@ impl Env {
     pub fn binder_weight(&self) -> u32
         ensures value { result ≡ binder_weight self.now }
     {
-        1
+        self.parts().steps.binder
     }
 
     /// What a coercion weighs.
@@ -61,7 +61,7 @@ impl Env {
     pub fn coercion_weight(&self) -> u32
         ensures value { result ≡ coercion_weight self.now }
     {
-        10
+        self.parts().steps.step
     }
 
     /// What the coercion from the one type to the other weighs: nothing where they are one.
@@ -75,11 +75,11 @@ impl Env {
         }
     }
 
-    /// What so many binders weigh together.
-    pub fn binders_weight(&self, count: usize) -> u64
+    /// What so many binders weigh together, however many they are.
+    pub fn binders_weight(&self, count: usize) -> u128
         ensures value { result ≡ binders_weight self.now count }
     {
-        count as u64 * self.binder_weight() as u64
+        count as u128 * self.binder_weight() as u128
     }
 
     /// The type and the weight of a term, in one walk.
@@ -147,7 +147,8 @@ impl Env {
                     return None;
                 }
                 let found = self.rate(&ctx.with(params.as_slice()), body);
-                self.at_place(found, *to, self.binders_weight(params.len()).min(CAP))
+                let binders = self.binders_weight(params.len()).min(CAP as u128);
+                self.at_place(found, *to, binders as u64)
             }
             _ => None,
         }

@@ -12,7 +12,7 @@ use Rattle.certificates.proofs.Parting.{head-there, head-args, head-small, head-
 use Rattle.certificates.proofs.rows.+rows.Goals as goal
 
 pub push_plain-push_rows-requires : goal.push_plain-push_rows-requires
-push_plain-push_rows-requires t c = (omega (arith, c.decreases), (c.requires.few_rows, plain-part c.args.env.now (rows c.args.ctx.now) (expr c.args.term.now) c.args.wanted.now c.in-Plain.to c.in-Plain.is c.requires.parts))
+push_plain-push_rows-requires t c = (omega (arith, c.decreases), (c.requires.valid, (c.requires.few_rows, plain-part c.args.env.now (rows c.args.ctx.now) (expr c.args.term.now) c.args.wanted.now c.in-Plain.to c.in-Plain.is c.requires.parts)))
 
 pub push_plain-overflow_add-result : goal.push_plain-overflow_add-result
 push_plain-overflow_add-result t c =
@@ -43,7 +43,7 @@ push_lambda-push_rows-requires t c =
     let long = length-rows c.args.ctx.now c.requires.few_rows in
     let used = c.with.ensures.used in
     let inner : rows c.with.result ≡ ctx ++ c.in-Fun.params ∷ [] = c.with.ensures.rows ∙ ap (λ p. ctx ++ p ∷ []) c.as_slice.ensures in
-    (omega (arith, c.decreases), (omega (arith, room, long, used), subst (λ r. IsReadable g r (expr c.args.body.now)) (sym inner) (lam-part g ctx (expr c.args.body.now) c.args.wanted.now c.in-Fun.params c.in-Fun.to c.in-Fun.is c.requires.parts)))
+    (omega (arith, c.decreases), (c.requires.valid, (omega (arith, room, long, used), subst (λ r. IsReadable g r (expr c.args.body.now)) (sym inner) (lam-part g c.requires.valid ctx (expr c.args.body.now) c.args.wanted.now c.in-Fun.params c.in-Fun.to c.in-Fun.is c.requires.parts))))
 
 pub push_lambda-overflow_cast-binders : goal.push_lambda-overflow_cast-binders
 push_lambda-overflow_cast-binders t c =
@@ -93,14 +93,14 @@ push_lambda-returns-clause-rows t c =
     c.in_ok-row-in-Fun.ensures.rows ∙ ap (λ r. c.args.list.now ++ rows_of g r (expr c.args.body.now)) inner ∙ ap (λ l. c.args.list.now ++ l) (lam-rows g ctx (expr c.args.body.now) c.args.wanted.now c.in-Fun.params c.in-Fun.to c.in-Fun.is)
 
 pub push_arg-push_plain-requires : goal.push_arg-push_plain-requires
-push_arg-push_plain-requires t c = (omega (arith, c.decreases, size-Plain c.in-Plain.term c.args.arg.now c.in-Plain.is), (c.requires.few_rows, subst (λ v. AreReadable c.args.env.now (rows c.args.ctx.now) v (c.args.wanted.now ∷ [])) (arg-plain c.args.arg.now c.in-Plain.term c.in-Plain.is) c.requires.parts))
+push_arg-push_plain-requires t c = (omega (arith, c.decreases, size-Plain c.in-Plain.term c.args.arg.now c.in-Plain.is), (c.requires.valid, (c.requires.few_rows, subst (λ v. AreReadable c.args.env.now (rows c.args.ctx.now) v (c.args.wanted.now ∷ [])) (arg-plain c.args.arg.now c.in-Plain.term c.in-Plain.is) c.requires.parts)))
 
 pub push_arg-push_lambda-requires : goal.push_arg-push_lambda-requires
-push_arg-push_lambda-requires t c = (omega (arith, c.decreases, size-Lam c.in-Lam.body c.args.arg.now c.in-Lam.is), (c.requires.few_rows, subst (λ v. AreReadable c.args.env.now (rows c.args.ctx.now) v (c.args.wanted.now ∷ [])) (arg-lam c.args.arg.now c.in-Lam.body c.in-Lam.is) c.requires.parts))
+push_arg-push_lambda-requires t c = (omega (arith, c.decreases, size-Lam c.in-Lam.body c.args.arg.now c.in-Lam.is), (c.requires.valid, (c.requires.few_rows, subst (λ v. AreReadable c.args.env.now (rows c.args.ctx.now) v (c.args.wanted.now ∷ [])) (arg-lam c.args.arg.now c.in-Lam.body c.in-Lam.is) c.requires.parts)))
 
 pub push_rows-push_head-requires : goal.push_rows-push_head-requires
 push_rows-push_head-requires t c =
-    (rw c.as_slice.ensures (omega (arith, c.decreases, size-Head c.in-Head.number c.in-Head.args c.args.term.now c.in-Head.is)), (c.requires.few_rows, head-part c.args.env.now (rows c.args.ctx.now) c.args.term.now c.in-Head.number c.in-Head.args c.as_slice.result.now c.in-Head.is c.as_slice.ensures c.requires.part))
+    (rw c.as_slice.ensures (omega (arith, c.decreases, size-Head c.in-Head.number c.in-Head.args c.args.term.now c.in-Head.is)), (c.requires.valid, (c.requires.few_rows, head-part c.args.env.now (rows c.args.ctx.now) c.args.term.now c.in-Head.number c.in-Head.args c.as_slice.result.now c.in-Head.is c.as_slice.ensures c.requires.part)))
 
 pub push_args-bounds-wanted-i : goal.push_args-bounds-wanted-i
 push_args-bounds-wanted-i t c = wanted-there c.args.env.now (rows c.args.ctx.now) c.args.args.now c.args.wanted.now c.loop-i.i c.index-args-i.result c.loop-i-test.true c.index-args-i.is c.loop-i.invariant.parts
@@ -112,7 +112,7 @@ push_args-push_arg-requires t c =
     let there = wanted-there g ctx c.args.args.now c.args.wanted.now c.loop-i.i c.index-args-i.result c.loop-i-test.true c.index-args-i.is c.loop-i.invariant.parts in
     let split = split-at g ctx c.args.args.now c.args.wanted.now c.loop-i.i c.index-args-i.result c.index-wanted-i.result c.loop-i-test.true c.index-args-i.is there c.index-wanted-i.is c.loop-i.invariant.parts in
     let smaller = sizes-of c.args.args.now c.loop-i.i c.index-args-i.result c.loop-i-test.true c.index-args-i.is in
-    (omega (arith, c.decreases, smaller), (c.requires.few_rows, split.first))
+    (omega (arith, c.decreases, smaller), (c.requires.valid, (c.requires.few_rows, split.first)))
 
 pub push_args-overflow_add-weight : goal.push_args-overflow_add-weight
 push_args-overflow_add-weight t c =
@@ -159,7 +159,7 @@ pub push_head-push_args-requires : goal.push_head-push_args-requires
 push_head-push_args-requires t c =
     let at : slice_get c.args.env.now.decls c.args.number ≡ Some c.in-Some.decl.now = search rules in
     let ready = head-args c.args.env.now (rows c.args.ctx.now) c.args.number (args_view c.args.args.now) c.in-Some.decl.now at c.requires.part in
-    (omega (arith, c.decreases), (c.requires.few_rows, subst (λ ws. AreReadable c.args.env.now (rows c.args.ctx.now) (args_view c.args.args.now) ws) (sym c.as_slice.ensures) ready))
+    (omega (arith, c.decreases), (c.requires.valid, (c.requires.few_rows, subst (λ ws. AreReadable c.args.env.now (rows c.args.ctx.now) (args_view c.args.args.now) ws) (sym c.as_slice.ensures) ready)))
 
 pub push_head-overflow_add-row-in-Some : goal.push_head-overflow_add-row-in-Some
 push_head-overflow_add-row-in-Some t c =

@@ -19,8 +19,8 @@ returns-then-place-decls-2 c =
     let limit : c.parts-parts.result.now.limit ≡ g.limit = ap (λ (p : Parts). p.limit) c.parts-parts.ensures.value in
     let past = c.if-place-decls.false in
     let low = c.if-place-decls-2.true in
-    let ten : c.coercion_weight.result ≡ coercion_weight g = c.coercion_weight.ensures.value in
-    let at : slice_get (source_costs g) c.args.number ≡ Some c.coercion_weight.result = cost-pair g c.args.number (omega (arith, past, decls, d)) (omega (arith, low, decls, d, pairs, p)) ∙ ap (λ n. Some n) (sym ten) in
+    let coercion : c.coercion_weight.result ≡ coercion_weight g = c.coercion_weight.ensures.value in
+    let at : slice_get (source_costs g) c.args.number ≡ Some c.coercion_weight.result = cost-pair g c.args.number (omega (arith, past, decls, d)) (omega (arith, low, decls, d, pairs, p)) ∙ ap (λ n. Some n) (sym coercion) in
     let none = ap (binders_weight g) binders-none ∙ binders_weight-none g in
     record {
       value = match-weaker c.with_binders-then-place-decls-2.result (c.parts-parts.result.now.limit < c.coercion_weight.result + binders_weight g (binders [])) ((w : ℕ) → slice_get (source_costs g) c.args.number ≡ Some w → g.limit < w) (λ w. (w ≡ c.coercion_weight.result + binders_weight g (binders [])) × (w ≤ c.parts-parts.result.now.limit)) (λ w. (slice_get (source_costs g) c.args.number ≡ Some w) × (w ≤ g.limit))

@@ -1,7 +1,7 @@
 use Rattle.std.proofs.Common.{◌≡◌, ◌+◌, ◌*◌, ℕ, List, Some, None, get_or, ◌∙◌, sym, ap, subst, arith}
 use Rattle.std.proofs.lemmas.Result.{on_ok_weaker}
 use Rattle.terms.proofs.Valid.{valid-limit}
-use Rattle.terms.proofs.Weighing.{coercion-is}
+use Rattle.terms.proofs.Weighing.{coercion-most}
 use Rattle.reconstruction.specs.Tabled.{place_by_numbers, numbered_under, IsTurn}
 use Rattle.reconstruction.specs.Totals.{declared_in, lambdas_under}
 use Rattle.reconstruction.specs.Ways.{edge_at, numbers_of_head}
@@ -16,7 +16,7 @@ overflow_add-total c =
     let at = edge-get t.edges c.args.edge c.requires.in_range in
     let small = (c.requires.totals.each c.args.edge (edge_at t.edges c.args.edge) at).small in
     let low = valid-limit t.env c.requires.valid in
-    omega (arith, small, low.1, coercion-is t.env, c.total_at.ensures.value, c.requires.step)
+    omega (arith, small, low.1, coercion-most t.env c.requires.valid, c.total_at.ensures.value, c.requires.step)
 
 pub grow_decl-requires-clause-number : goal.grow_decl-requires-clause-number
 grow_decl-requires-clause-number c =
