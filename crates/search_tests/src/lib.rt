@@ -11,3 +11,5 @@ mod reconstruction_tests;
 mod sheets_tests;
 #[cfg(test)]
 mod terms_tests;
+#[cfg(test)]
+mod writing_tests;

@@ -4,7 +4,7 @@ use lists::{Items, Text};
 use patterns::Patterns;
 use std::alloc::{AllocError, Global};
 use succinct::Compressed;
-use terms::{Arg, Decl, Env, EnvFault, Form, Parts};
+use terms::{Arg, Decl, Env, EnvFault, Form, Parts, Steps};
 
 const INT: u32 = 0;
 
@@ -83,6 +83,7 @@ fn parts(alloc: Global) -> Result<Parts, AllocError> {
         limit: 20,
         depth: 1,
         binder,
+        steps: Steps::usual(),
     })
 }
 

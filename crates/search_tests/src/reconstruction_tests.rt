@@ -1,7 +1,7 @@
 use lists::{Items, Text};
 use reconstruction::Rebuild;
 use std::alloc::{AllocError, Global};
-use terms::{Arg, Decl, Env, EnvFault, Form, Level, Levels, Parts, Term, TermArg};
+use terms::{Arg, Decl, Env, EnvFault, Form, Level, Levels, Parts, Steps, Term, TermArg};
 
 /// A declaration: what it wants, and where that is a lambda the types of its parameters.
 #[derive(Clone, Copy)]
@@ -84,6 +84,7 @@ fn env(alloc: Global, case: &Case<'_>) -> Result<Env, EnvFault> {
         limit: case.limit,
         depth: case.depth,
         binder: Text::from_str(alloc, "p")?,
+        steps: Steps::usual(),
     };
     Env::checked(alloc, parts)
 }

@@ -221,7 +221,7 @@ fn spoiled(alloc: Global, flaw: &str, end: &[u8]) -> Result<(u32, u32), AllocErr
 #[test]
 fn a_first_line_comes_before_the_others(rt: HostRuntime) -> Result<(), AllocError> {
     for (flaw, _, _) in FLAWS {
-        let text = format!(in rt.alloc(); "insynth sheet 2\ntype int\n{flaw}")?;
+        let text = format!(in rt.alloc(); "insynth sheet 3\ntype int\n{flaw}")?;
         assert_eq!(rt; found(rt.alloc(), text.as_bytes())?, (1, 2));
     }
     Ok(())
@@ -252,6 +252,10 @@ fn first_lines_bytes_and_lengths(rt: HostRuntime) -> Result<(), AllocError> {
         (1, 2)
     );
     assert_eq!(rt; found(alloc, b"insynth sheet 1")?, (2, 8));
+    assert_eq!(rt; found(alloc, b"insynth sheet 2\r\n")?, (2, 8));
+    assert_eq!(rt; found(alloc, b"insynth sheet 2 ")?, (1, 2));
+    assert_eq!(rt; found(alloc, b"insynth sheet 02")?, (1, 2));
+    assert_eq!(rt; found(alloc, b"insynth sheet 3")?, (1, 2));
     assert_eq!(rt; found(alloc, b"insynth sheet 2\n\xff")?, (2, 1));
     assert_eq!(rt; found(alloc, b"\n\n\xc3\n")?, (3, 1));
     Ok(())

@@ -1,7 +1,7 @@
 use lists::{Copies, Items, Text};
 use std::alloc::Global;
 use std::process::Abort;
-use terms::{Arg, Ctx, Decl, Env, EnvFault, Form, Parts, Term, TermArg};
+use terms::{Arg, Ctx, Decl, Env, EnvFault, Form, Parts, Steps, Term, TermArg};
 
 /// What is told of a small environment: the types int, long and short, `decl 5 int name x` and one more
 /// declaration.
@@ -13,7 +13,15 @@ struct Sheet {
     weight: u32,
     of: u32,
     goal: u32,
+    steps: Steps,
 }
+
+/// The steps of an environment for which nobody sets them.
+const USUAL: Steps = Steps {
+    bound: 1,
+    binder: 1,
+    step: 10,
+};
 
 /// `sub int long`, `decl 20 int call f long`, `goal long`, `limit 75`.
 const COERCIONS: Sheet = Sheet {
@@ -23,6 +31,7 @@ const COERCIONS: Sheet = Sheet {
     weight: 20,
     of: 0,
     goal: 1,
+    steps: USUAL,
 };
 
 fn text(rt: &impl Abort, alloc: Global, word: &str) -> Text {
@@ -81,6 +90,7 @@ fn checked(
         limit: sheet.limit,
         depth: sheet.depth,
         binder: text(rt, alloc, "p"),
+        steps: sheet.steps,
     };
     assert!(rt; parts.has_lengths());
     Env::checked(alloc, parts)
@@ -112,6 +122,7 @@ fn lambdas(rt: &impl Abort, alloc: Global, depth: u32) -> Env {
         weight: 10,
         of: 1,
         goal: 1,
+        steps: USUAL,
     };
     let params = Items::from_slice(alloc, &[0]).expect(rt, "memory");
     let args = one_arg(rt, alloc, Arg::Fun(params, 0));
@@ -210,19 +221,30 @@ fn valid_parts_are_an_environment(rt: HostRuntime) {
     assert!(rt; is_so(&env, &nested(&rt, rt.alloc(), 2), Some(65), true));
 }
 
-/// Whether the environment's weights are those of every environment, and the step from int to long a coercion.
-fn has_its_weights(env: &Env) -> bool {
-    env.variable_weight() == 1
-        && env.binder_weight() == 1
-        && env.binders_weight(3) == 3
-        && env.coercion_weight() == 10
-        && env.step(0, 1) == 10
+/// Whether the environment's weights are these, and the step from int to long a coercion.
+fn has_weights(env: &Env, variable: u32, binder: u32, coercion: u32) -> bool {
+    env.variable_weight() == variable
+        && env.binder_weight() == binder
+        && env.binders_weight(3) == 3 * binder as u128
+        && env.coercion_weight() == coercion
+        && env.step(0, 1) == coercion
         && env.step(1, 1) == 0
 }
 
 #[test]
 fn an_environment_tells_its_weights(rt: HostRuntime) {
-    assert!(rt; has_its_weights(&coercions(&rt, rt.alloc())));
+    let greatest = Sheet {
+        steps: Steps {
+            bound: 100,
+            binder: 99,
+            step: 10_000,
+        },
+        ..COERCIONS
+    };
+    let env = calls(&rt, rt.alloc(), &greatest).expect(&rt, "an environment");
+    assert!(rt; has_weights(&env, 100, 99, 10_000));
+    assert!(rt; has_weights(&coercions(&rt, rt.alloc()), 1, 1, 10));
+    assert!(rt; Steps::usual() == USUAL);
 }
 
 /// Whether the lambda of this body has this weight, and is an inhabitant as said.
@@ -370,6 +392,61 @@ const FAULTS: [(Sheet, EnvFault); 12] = [
         EnvFault::TypeRange(2),
     ),
 ];
+
+/// A sheet whose pair is of one type.
+const LOOPED: Sheet = Sheet {
+    pairs: &[(1, 1)],
+    ..COERCIONS
+};
+
+/// Three steps of which one is out of its range, with the number of the first such one.
+const WRONG_STEPS: [([u32; 3], u32); 9] = [
+    ([0, 1, 10], 1),
+    ([101, 0, 0], 1),
+    ([4_294_967_295, 1, 10], 1),
+    ([1, 0, 10], 2),
+    ([1, 101, 0], 2),
+    ([1, 4_294_967_295, 10], 2),
+    ([1, 1, 0], 3),
+    ([1, 1, 10_001], 3),
+    ([1, 1, 4_294_967_295], 3),
+];
+
+#[test]
+fn steps_have_ranges(rt: HostRuntime) {
+    for (three, number) in &WRONG_STEPS {
+        let steps = Steps {
+            bound: three[0],
+            binder: three[1],
+            step: three[2],
+        };
+        let sheet = Sheet { steps, ..LOOPED };
+        assert!(rt; calls(&rt, rt.alloc(), &sheet).err() == Some(EnvFault::Step(*number)));
+    }
+}
+
+/// Steps without a use in any environment.
+const NO_STEPS: Steps = Steps {
+    bound: 0,
+    binder: 0,
+    step: 0,
+};
+
+#[test]
+fn steps_come_after_the_limit_and_the_depth(rt: HostRuntime) {
+    let unlimited = Sheet {
+        limit: 0,
+        steps: NO_STEPS,
+        ..COERCIONS
+    };
+    assert!(rt; calls(&rt, rt.alloc(), &unlimited).err() == Some(EnvFault::Limit(0)));
+    let deep = Sheet {
+        depth: 4,
+        steps: NO_STEPS,
+        ..COERCIONS
+    };
+    assert!(rt; calls(&rt, rt.alloc(), &deep).err() == Some(EnvFault::Depth(4)));
+}
 
 #[test]
 fn the_first_fault_is_answered(rt: HostRuntime) {

@@ -4,3 +4,12 @@ mod Indices
 mod Standing
 mod Texts
 mod Bodies
+mod Pieces
+mod Cuts
+mod Said
+mod Apart
+mod Fine
+mod Known
+mod Last
+mod Again
+mod Writable

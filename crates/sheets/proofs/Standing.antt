@@ -4,8 +4,8 @@ use Rattle.std.specs.Prelude.{option_map, is_some}
 use Rattle.std.specs.List.{flat_map, list_all}
 use Rattle.std.proofs.lemmas.List.{flat_map_more}
 use Rattle.sheets.specs.Words.{has, index_of, is_number, number}
-use Rattle.sheets.specs.SheetLines.{Line, blank, other, type_line, sub_line, decl_line, goal_line, limit_line, depth_line, binder_line, DeclWords}
-use Rattle.sheets.specs.Sheets.{types_of, goals_of, limits_of, depths_of, binders_of, type_in, goal_in, limit_in, depth_in, binder_in, pair_in, decl_in, decl_of, wanted, has_all, first, told, Seen, seen_in, cause, cause_after, number_cause, type_cause, once_cause, places_where, is_sub, is_decl, is_limit, is_depth}
+use Rattle.sheets.specs.SheetLines.{Line, blank, other, type_line, sub_line, decl_line, goal_line, number_line, binder_line, DeclWords}
+use Rattle.sheets.specs.Sheets.{types_of, goals_of, binders_of, numbers_of, numbers_from, number_at, told_number, type_in, goal_in, binder_in, pair_in, decl_in, decl_of, wanted, has_all, first, told, Seen, seen_in, cause, cause_after, number_cause, type_cause, once_cause, places_where, is_sub, is_decl}
 use Rattle.sheets.specs.Standing.{Stands, added, seen_by}
 use Rattle.sheets.specs.declared.sheet.Sheet.{Sheet}
 use Rattle.sheets.proofs.Indices.{index-more}
@@ -71,8 +71,7 @@ added-types n s (type_line t) = refl
 added-types n s (sub_line a b) = sym (append-nil s.names)
 added-types n s (decl_line d) = sym (append-nil s.names)
 added-types n s (goal_line t) = sym (append-nil s.names)
-added-types n s (limit_line w) = sym (append-nil s.names)
-added-types n s (depth_line w) = sym (append-nil s.names)
+added-types n s (number_line w t) = sym (append-nil s.names)
 added-types n s (binder_line t) = sym (append-nil s.names)
 
 added-pairs : (n : ℕ) (s : Sheet) (l : Line) → (added n s l).pairs ≡ s.pairs ++ pair_in s.names l
@@ -83,8 +82,7 @@ added-pairs n s (type_line t) = sym (append-nil s.pairs)
 added-pairs n s (sub_line a b) = refl
 added-pairs n s (decl_line d) = sym (append-nil s.pairs)
 added-pairs n s (goal_line t) = sym (append-nil s.pairs)
-added-pairs n s (limit_line w) = sym (append-nil s.pairs)
-added-pairs n s (depth_line w) = sym (append-nil s.pairs)
+added-pairs n s (number_line w t) = sym (append-nil s.pairs)
 added-pairs n s (binder_line t) = sym (append-nil s.pairs)
 
 added-decls : (n : ℕ) (s : Sheet) (l : Line) → (added n s l).decls ≡ s.decls ++ decl_in s.names l
@@ -95,8 +93,7 @@ added-decls n s (type_line t) = sym (append-nil s.decls)
 added-decls n s (sub_line a b) = sym (append-nil s.decls)
 added-decls n s (decl_line d) = refl
 added-decls n s (goal_line t) = sym (append-nil s.decls)
-added-decls n s (limit_line w) = sym (append-nil s.decls)
-added-decls n s (depth_line w) = sym (append-nil s.decls)
+added-decls n s (number_line w t) = sym (append-nil s.decls)
 added-decls n s (binder_line t) = sym (append-nil s.decls)
 
 added-pair_lines : (n : ℕ) (s : Sheet) (l : Line) → (added n s l).pair_lines ≡ s.pair_lines ++ places_where is_sub n (l ∷ [])
@@ -107,8 +104,7 @@ added-pair_lines n s (type_line t) = sym (append-nil s.pair_lines)
 added-pair_lines n s (sub_line a b) = refl
 added-pair_lines n s (decl_line d) = sym (append-nil s.pair_lines)
 added-pair_lines n s (goal_line t) = sym (append-nil s.pair_lines)
-added-pair_lines n s (limit_line w) = sym (append-nil s.pair_lines)
-added-pair_lines n s (depth_line w) = sym (append-nil s.pair_lines)
+added-pair_lines n s (number_line w t) = sym (append-nil s.pair_lines)
 added-pair_lines n s (binder_line t) = sym (append-nil s.pair_lines)
 
 added-decl_lines : (n : ℕ) (s : Sheet) (l : Line) → (added n s l).decl_lines ≡ s.decl_lines ++ places_where is_decl n (l ∷ [])
@@ -119,33 +115,19 @@ added-decl_lines n s (type_line t) = sym (append-nil s.decl_lines)
 added-decl_lines n s (sub_line a b) = sym (append-nil s.decl_lines)
 added-decl_lines n s (decl_line d) = refl
 added-decl_lines n s (goal_line t) = sym (append-nil s.decl_lines)
-added-decl_lines n s (limit_line w) = sym (append-nil s.decl_lines)
-added-decl_lines n s (depth_line w) = sym (append-nil s.decl_lines)
+added-decl_lines n s (number_line w t) = sym (append-nil s.decl_lines)
 added-decl_lines n s (binder_line t) = sym (append-nil s.decl_lines)
 
-added-limit_lines : (n : ℕ) (s : Sheet) (l : Line) → (added n s l).limit_lines ≡ s.limit_lines ++ places_where is_limit n (l ∷ [])
-unfolding added places_where is_limit
-added-limit_lines n s blank = sym (append-nil s.limit_lines)
-added-limit_lines n s other = sym (append-nil s.limit_lines)
-added-limit_lines n s (type_line t) = sym (append-nil s.limit_lines)
-added-limit_lines n s (sub_line a b) = sym (append-nil s.limit_lines)
-added-limit_lines n s (decl_line d) = sym (append-nil s.limit_lines)
-added-limit_lines n s (goal_line t) = sym (append-nil s.limit_lines)
-added-limit_lines n s (limit_line w) = refl
-added-limit_lines n s (depth_line w) = sym (append-nil s.limit_lines)
-added-limit_lines n s (binder_line t) = sym (append-nil s.limit_lines)
-
-added-depth_lines : (n : ℕ) (s : Sheet) (l : Line) → (added n s l).depth_lines ≡ s.depth_lines ++ places_where is_depth n (l ∷ [])
-unfolding added places_where is_depth
-added-depth_lines n s blank = sym (append-nil s.depth_lines)
-added-depth_lines n s other = sym (append-nil s.depth_lines)
-added-depth_lines n s (type_line t) = sym (append-nil s.depth_lines)
-added-depth_lines n s (sub_line a b) = sym (append-nil s.depth_lines)
-added-depth_lines n s (decl_line d) = sym (append-nil s.depth_lines)
-added-depth_lines n s (goal_line t) = sym (append-nil s.depth_lines)
-added-depth_lines n s (limit_line w) = sym (append-nil s.depth_lines)
-added-depth_lines n s (depth_line w) = refl
-added-depth_lines n s (binder_line t) = sym (append-nil s.depth_lines)
+added-numbers : (n : ℕ) (s : Sheet) (l : Line) → (added n s l).numbers ≡ s.numbers ++ number_at n l
+unfolding added
+added-numbers n s blank = sym (append-nil s.numbers)
+added-numbers n s other = sym (append-nil s.numbers)
+added-numbers n s (type_line t) = sym (append-nil s.numbers)
+added-numbers n s (sub_line a b) = sym (append-nil s.numbers)
+added-numbers n s (decl_line d) = sym (append-nil s.numbers)
+added-numbers n s (goal_line t) = sym (append-nil s.numbers)
+added-numbers n s (number_line w t) = refl
+added-numbers n s (binder_line t) = sym (append-nil s.numbers)
 
 pair-more : (ts more : List (List ℕ)) (seen : Seen) (l : Line) → cause ts seen l ≡ None → pair_in (ts ++ more) l ≡ pair_in ts l
 unfolding cause
@@ -157,8 +139,7 @@ pair-more ts more seen (sub_line a b) e =
     rw (index-more ts more a k.0, index-more ts more b k.1) refl
 pair-more ts more seen (decl_line d) e = refl
 pair-more ts more seen (goal_line t) e = refl
-pair-more ts more seen (limit_line w) e = refl
-pair-more ts more seen (depth_line w) e = refl
+pair-more ts more seen (number_line w t) e = refl
 pair-more ts more seen (binder_line t) e = refl
 
 decl-more : (ts more : List (List ℕ)) (seen : Seen) (l : Line) → cause ts seen l ≡ None → decl_in (ts ++ more) l ≡ decl_in ts l
@@ -171,8 +152,7 @@ decl-more ts more seen (decl_line d) e =
     let k = type-none (has_all ts d) None (number-none (is_number d.weight) (type_cause (has_all ts d) None) e) in
     ap (λ x. x ∷ []) (decl_of-more ts more d k.0)
 decl-more ts more seen (goal_line t) e = refl
-decl-more ts more seen (limit_line w) e = refl
-decl-more ts more seen (depth_line w) e = refl
+decl-more ts more seen (number_line w t) e = refl
 decl-more ts more seen (binder_line t) e = refl
 
 goal-more : (n : ℕ) (s : Sheet) (ts more gs : List (List ℕ)) (seen : Seen) (l : Line) → s.names ≡ ts → seen.goal ≡ told gs → cause ts seen l ≡ None → s.goal ≡ option_map (index_of (ts ++ more)) (first gs) → (added n s l).goal ≡ option_map (index_of (ts ++ more)) (first (gs ++ goal_in l))
@@ -185,37 +165,8 @@ goal-more n s ts more gs seen (decl_line d) is said e g = rw (append-nil gs) g
 goal-more n s ts more gs seen (goal_line t) is said e g =
     let k = type-none (has ts t) (once_cause 7 seen.goal) e in
     rw (none_told gs (sym said ∙ once-none 7 seen.goal k.1), is, index-more ts more t k.0) refl
-goal-more n s ts more gs seen (limit_line w) is said e g = rw (append-nil gs) g
-goal-more n s ts more gs seen (depth_line w) is said e g = rw (append-nil gs) g
+goal-more n s ts more gs seen (number_line w t) is said e g = rw (append-nil gs) g
 goal-more n s ts more gs seen (binder_line t) is said e g = rw (append-nil gs) g
-
-limit-more : (n : ℕ) (s : Sheet) (ts gs : List (List ℕ)) (seen : Seen) (l : Line) → seen.limit ≡ told gs → cause ts seen l ≡ None → s.limit ≡ option_map number (first gs) → (added n s l).limit ≡ option_map number (first (gs ++ limit_in l))
-unfolding cause added
-limit-more n s ts gs seen blank said e g = rw (append-nil gs) g
-limit-more n s ts gs seen other said e g = rw (append-nil gs) g
-limit-more n s ts gs seen (type_line t) said e g = rw (append-nil gs) g
-limit-more n s ts gs seen (sub_line a b) said e g = rw (append-nil gs) g
-limit-more n s ts gs seen (decl_line d) said e g = rw (append-nil gs) g
-limit-more n s ts gs seen (goal_line t) said e g = rw (append-nil gs) g
-limit-more n s ts gs seen (limit_line w) said e g =
-    let k = number-none (is_number w) (once_cause 7 seen.limit) e in
-    rw (none_told gs (sym said ∙ once-none 7 seen.limit k)) refl
-limit-more n s ts gs seen (depth_line w) said e g = rw (append-nil gs) g
-limit-more n s ts gs seen (binder_line t) said e g = rw (append-nil gs) g
-
-depth-more : (n : ℕ) (s : Sheet) (ts gs : List (List ℕ)) (seen : Seen) (l : Line) → seen.depth ≡ told gs → cause ts seen l ≡ None → s.depth ≡ option_map number (first gs) → (added n s l).depth ≡ option_map number (first (gs ++ depth_in l))
-unfolding cause added
-depth-more n s ts gs seen blank said e g = rw (append-nil gs) g
-depth-more n s ts gs seen other said e g = rw (append-nil gs) g
-depth-more n s ts gs seen (type_line t) said e g = rw (append-nil gs) g
-depth-more n s ts gs seen (sub_line a b) said e g = rw (append-nil gs) g
-depth-more n s ts gs seen (decl_line d) said e g = rw (append-nil gs) g
-depth-more n s ts gs seen (goal_line t) said e g = rw (append-nil gs) g
-depth-more n s ts gs seen (limit_line w) said e g = rw (append-nil gs) g
-depth-more n s ts gs seen (depth_line w) said e g =
-    let k = number-none (is_number w) (once_cause 7 seen.depth) e in
-    rw (none_told gs (sym said ∙ once-none 7 seen.depth k)) refl
-depth-more n s ts gs seen (binder_line t) said e g = rw (append-nil gs) g
 
 binder-more : (n : ℕ) (s : Sheet) (ts gs : List (List ℕ)) (seen : Seen) (l : Line) → seen.binder ≡ told gs → cause ts seen l ≡ None → s.binder ≡ first gs → (added n s l).binder ≡ first (gs ++ binder_in l)
 unfolding cause added
@@ -225,8 +176,7 @@ binder-more n s ts gs seen (type_line t) said e g = rw (append-nil gs) g
 binder-more n s ts gs seen (sub_line a b) said e g = rw (append-nil gs) g
 binder-more n s ts gs seen (decl_line d) said e g = rw (append-nil gs) g
 binder-more n s ts gs seen (goal_line t) said e g = rw (append-nil gs) g
-binder-more n s ts gs seen (limit_line w) said e g = rw (append-nil gs) g
-binder-more n s ts gs seen (depth_line w) said e g = rw (append-nil gs) g
+binder-more n s ts gs seen (number_line w t) said e g = rw (append-nil gs) g
 binder-more n s ts gs seen (binder_line t) said e g = rw (none_told gs (sym said ∙ once-none 7 seen.binder e)) refl
 
 -- line numbers, one line further
@@ -241,6 +191,13 @@ places-more p n (x ∷ ls) l =
     let later = places-more p (n + 1) ls l ∙ ap (λ k. places_where p (n + 1) ls ++ places_where p k (l ∷ [])) (omega arith) in
     rw (later) (step (p x) n (places_where p (n + 1) ls) (places_where p (n + length (x ∷ ls)) (l ∷ [])))
 
+numbers-more : (n : ℕ) (ls : List Line) (l : Line) → numbers_from n (ls ++ l ∷ []) ≡ numbers_from n ls ++ number_at (n + length ls) l
+unfolding numbers_from
+numbers-more n [] l = append-nil (number_at n l) ∙ ap (λ k. number_at k l) (omega arith)
+numbers-more n (x ∷ ls) l =
+    let later = numbers-more (n + 1) ls l ∙ ap (λ k. numbers_from (n + 1) ls ++ number_at k l) (omega arith) in
+    ap (λ y. number_at n x ++ y) later ∙ sym (append_assoc (number_at n x) (numbers_from (n + 1) ls) (number_at (n + length (x ∷ ls)) l))
+
 -- which lines were seen
 some_first : {X : Type 0} (f : List ℕ → X) (gs : List (List ℕ)) → is_some (option_map f (first gs)) ≡ told gs
 some_first f [] = refl
@@ -253,10 +210,8 @@ some_text (g ∷ gs) = refl
 pub seen-is : (s : Sheet) (ls : List Line) → Stands s ls → seen_by s ≡ seen_in ls
 seen-is s ls st =
     let goal_is = ap is_some (st.goal []) ∙ some_first (index_of (types_of ls ++ [])) (goals_of ls) in
-    let limit_is = ap is_some st.limit ∙ some_first number (limits_of ls) in
-    let depth_is = ap is_some st.depth ∙ some_first number (depths_of ls) in
     let binder_is = ap is_some st.binder ∙ some_text (binders_of ls) in
-    rw (goal_is, limit_is, depth_is, binder_is) refl
+    rw (goal_is, st.numbers, binder_is) refl
 
 pub cause-is : (s : Sheet) (ls : List Line) (l : Line) → Stands s ls → cause s.names (seen_by s) l ≡ cause_after ls l
 cause-is s ls l st = rw (st.types, seen-is s ls st) refl
@@ -287,11 +242,8 @@ stands-more n s ls l at st e =
           goal-more n s ts (type_in l ++ more) (goals_of ls) seen l st.types refl e (st.goal (type_in l ++ more))
           ∙ ap (λ x. option_map (index_of (ts ++ (type_in l ++ more))) (first x)) (sym (more_of goal_in ls l))
           ∙ ap (λ x. option_map (index_of x) (first (goals_of (ls ++ l ∷ [])))) (sym (wider more));
-      limit = limit-more n s ts (limits_of ls) seen l refl e st.limit ∙ ap (λ x. option_map number (first x)) (sym (more_of limit_in ls l));
-      depth = depth-more n s ts (depths_of ls) seen l refl e st.depth ∙ ap (λ x. option_map number (first x)) (sym (more_of depth_in ls l));
+      numbers = added-numbers n s l ∙ ap (λ x. x ++ number_at n l) st.numbers ∙ ap (λ k. numbers_of ls ++ number_at k l) at ∙ sym (numbers-more 2 ls l);
       binder = binder-more n s ts (binders_of ls) seen l refl e st.binder ∙ ap first (sym (more_of binder_in ls l));
       pair_lines = added-pair_lines n s l ∙ ap (λ x. x ++ places_where is_sub n (l ∷ [])) st.pair_lines ∙ ap (λ k. places_where is_sub 2 ls ++ places_where is_sub k (l ∷ [])) at ∙ sym (places-more is_sub 2 ls l);
       decl_lines = added-decl_lines n s l ∙ ap (λ x. x ++ places_where is_decl n (l ∷ [])) st.decl_lines ∙ ap (λ k. places_where is_decl 2 ls ++ places_where is_decl k (l ∷ [])) at ∙ sym (places-more is_decl 2 ls l);
-      limit_lines = added-limit_lines n s l ∙ ap (λ x. x ++ places_where is_limit n (l ∷ [])) st.limit_lines ∙ ap (λ k. places_where is_limit 2 ls ++ places_where is_limit k (l ∷ [])) at ∙ sym (places-more is_limit 2 ls l);
-      depth_lines = added-depth_lines n s l ∙ ap (λ x. x ++ places_where is_depth n (l ∷ [])) st.depth_lines ∙ ap (λ k. places_where is_depth 2 ls ++ places_where is_depth k (l ∷ [])) at ∙ sym (places-more is_depth 2 ls l);
     }

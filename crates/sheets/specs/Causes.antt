@@ -22,6 +22,7 @@ cause_number cause.Limit = 15
 cause_number cause.NotTransitive = 16
 cause_number cause.Depth = 17
 cause_number cause.Form = 18
+cause_number cause.Step = 19
 
 -- the number of a cause, where there is one
 abbrev pub number_of : Option SheetCause → Option ℕ

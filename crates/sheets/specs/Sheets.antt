@@ -1,22 +1,29 @@
 -- A sheet: the environment that its lines say, and its first fault. A line is judged by the lines before it.
-use Rattle.std.specs.Prelude.{◌≡◌, ℕ, ◌+◌, Bool, true, false, ◌==◌, ◌&&◌, not, nat_le, List, [], ◌∷◌, ◌++◌, map, length, take, drop, if◌then◌else◌, codes, bytes_eq, Option, Some, None, option_map, unwrap_or, get_or, option_and_then}
-use Rattle.std.specs.List.{flat_map, list_all}
+use Rattle.std.specs.Prelude.{◌≡◌, ℕ, ◌+◌, Bool, true, false, ◌==◌, ◌&&◌, not, nat_le, List, [], ◌∷◌, ◌++◌, map, length, take, drop, if◌then◌else◌, codes, bytes_eq, Option, Some, None, option_map, is_some, unwrap_or, get_or, option_and_then}
+use Rattle.std.specs.List.{flat_map, list_all, find}
 use Rattle.std.specs.Prelude.{count_by}
 use Rattle.std.specs.Str.{is_utf8}
 use Rattle.std.specs.Str.Lossy.{utf8_valid_len}
 use Rattle.std.specs.Str.Lines.{lines}
 use Rattle.sheets.specs.Words.{word, is_number, number, has, index_of}
-use Rattle.sheets.specs.SheetLines.{Line, blank, other, type_line, sub_line, decl_line, goal_line, limit_line, depth_line, binder_line, DeclWords, line_of}
+use Rattle.sheets.specs.SheetLines.{Line, blank, other, type_line, sub_line, decl_line, goal_line, number_line, binder_line, DeclWords, line_of, version_of}
 use Rattle.sheets.specs.declared.kind.FormWord.{FormWord}
 use Rattle.sheets.specs.declared.kind.FormWord.TheVariants as word_of
+use Rattle.sheets.specs.declared.kind.NumberWord.{NumberWord}
+use Rattle.sheets.specs.declared.kind.NumberWord.TheVariants as number_word
+use Rattle.sheets.specs.declared.kind.Version.{Version}
+use Rattle.sheets.specs.declared.kind.Version.TheVariants.{One}
+use Rattle.sheets.specs.declared.number_lines.NumberLine.{NumberLine}
+use Rattle.terms.specs.Weights.{usual_steps}
 use Rattle.terms.specs.declared.parts.Arg.{Arg}
 use Rattle.terms.specs.declared.parts.Arg.TheVariants.{Plain, Fun}
 use Rattle.terms.specs.declared.parts.Decl.{Decl}
 use Rattle.terms.specs.declared.parts.Form.{Form}
 use Rattle.terms.specs.declared.parts.Form.TheVariants.{Name, This, Call, New, Method, Field, Lambda}
 use Rattle.terms.specs.declared.parts.Parts.{Parts}
+use Rattle.terms.specs.declared.parts.Steps.{Steps}
 use Rattle.terms.specs.declared.fault.EnvFault.{EnvFault}
-use Rattle.terms.specs.declared.fault.EnvFault.TheVariants.{TypeRange, PairRange, PairTwice, Weight, Limit, NotTransitive, Depth, OutOfMemory}
+use Rattle.terms.specs.declared.fault.EnvFault.TheVariants.{TypeRange, PairRange, PairTwice, Weight, Limit, NotTransitive, Depth, Step, OutOfMemory}
 use Rattle.terms.specs.declared.fault.EnvFault.TheVariants as fault
 use Rattle.terms.specs.Faults.{first_env_fault}
 
@@ -29,14 +36,6 @@ abbrev pub goal_in : Line → List (List ℕ)
 goal_in (goal_line t) = t ∷ []
 goal_in _ = []
 
-abbrev pub limit_in : Line → List (List ℕ)
-limit_in (limit_line w) = w ∷ []
-limit_in _ = []
-
-abbrev pub depth_in : Line → List (List ℕ)
-depth_in (depth_line w) = w ∷ []
-depth_in _ = []
-
 abbrev pub binder_in : Line → List (List ℕ)
 binder_in (binder_line t) = t ∷ []
 binder_in _ = []
@@ -47,14 +46,57 @@ types_of ls = flat_map type_in ls
 abbrev pub goals_of : List Line → List (List ℕ)
 goals_of ls = flat_map goal_in ls
 
-abbrev pub limits_of : List Line → List (List ℕ)
-limits_of ls = flat_map limit_in ls
-
-abbrev pub depths_of : List Line → List (List ℕ)
-depths_of ls = flat_map depth_in ls
-
 abbrev pub binders_of : List Line → List (List ℕ)
 binders_of ls = flat_map binder_in ls
+
+-- the lines with a number, each with its value and its place, where the first of all lines is line n
+abbrev pub number_at : ℕ → Line → List NumberLine
+number_at n (number_line w t) = record { word = w; value = number t; line = n } ∷ []
+number_at n _ = []
+
+unfoldable pub numbers_from : ℕ → List Line → List NumberLine
+numbers_from n [] = []
+numbers_from n (l ∷ ls) = number_at n l ++ numbers_from (n + 1) ls
+
+abbrev pub numbers_of : List Line → List NumberLine
+numbers_of ls = numbers_from 2 ls
+
+-- whether two words are the same one
+unfoldable pub is_same : NumberWord → NumberWord → Bool
+is_same number_word.Limit number_word.Limit = true
+is_same number_word.Depth number_word.Depth = true
+is_same number_word.Bound number_word.Bound = true
+is_same number_word.Binding number_word.Binding = true
+is_same number_word.Step number_word.Step = true
+is_same _ _ = false
+
+-- the first line of this word, where there is one
+abbrev pub told_number : NumberWord → List NumberLine → Option NumberLine
+told_number w ns = find (λ n. is_same w n.word) ns
+
+-- the number of an environment for which no line says it
+abbrev pub usual : NumberWord → ℕ
+usual number_word.Limit = 4000
+usual number_word.Depth = 1
+usual number_word.Bound = usual_steps.bound
+usual number_word.Binding = usual_steps.binder
+usual number_word.Step = usual_steps.step
+
+-- what the line of this word says, the usual number where there is none
+abbrev pub value_of : NumberWord → List NumberLine → ℕ
+value_of w ns = unwrap_or (option_map (λ n. n.value) (told_number w ns)) (usual w)
+
+-- where it stands, 0 where there is none
+abbrev pub line_with : NumberWord → List NumberLine → ℕ
+line_with w ns = unwrap_or (option_map (λ n. n.line) (told_number w ns)) 0
+
+-- the three weights that belong to no declaration, as these lines say them
+abbrev pub steps_of : List NumberLine → Steps
+steps_of ns = record {
+  bound = value_of number_word.Bound ns;
+  binder = value_of number_word.Binding ns;
+  step = value_of number_word.Step ns;
+}
 
 -- a pair of types, by their numbers
 abbrev pub pair_in : List (List ℕ) → Line → List (ℕ × ℕ)
@@ -89,20 +131,22 @@ abbrev pub first : List (List ℕ) → Option (List ℕ)
 first [] = None
 first (x ∷ xs) = Some x
 
--- the parts that these lines say: without their lines the limit is 4,000, the depth 1 and the binder `p`
+-- the parts that these lines say: without their lines the limit is 4,000, the depth 1, the binder `p`, and a variable, a
+-- binder and a coercion weigh what they usually do
 abbrev pub parts_of : List Line → Parts
 parts_of ls = record {
   types = types_of ls;
   pairs = flat_map (pair_in (types_of ls)) ls;
   decls = flat_map (decl_in (types_of ls)) ls;
   goal = unwrap_or (option_map (index_of (types_of ls)) (first (goals_of ls))) 0;
-  limit = unwrap_or (option_map number (first (limits_of ls))) 4000;
-  depth = unwrap_or (option_map number (first (depths_of ls))) 1;
+  limit = value_of number_word.Limit (numbers_of ls);
+  depth = value_of number_word.Depth (numbers_of ls);
   binder = unwrap_or (first (binders_of ls)) (codes "p");
+  steps = steps_of (numbers_of ls);
 }
 
 -- the number of a cause: 3 no line of the table, 4 no number of one to nine digits, 5 a type that isn't declared before,
--- 6 a type that is, 7 a second goal, limit, depth or binder; the first of them in this order
+-- 6 a type that is, 7 a second goal, binder or line of the same number; the first of them in this order
 unfoldable pub number_cause : Bool → Option ℕ → Option ℕ
 number_cause true later = later
 number_cause false later = Some 4
@@ -118,8 +162,7 @@ once_cause n false = None
 -- which lines that stand once stand before a line
 pub record Seen : Type 0 where
   pub goal : Bool
-  pub limit : Bool
-  pub depth : Bool
+  pub numbers : List NumberLine
   pub binder : Bool
 
 -- all types that a declaration names are declared
@@ -134,8 +177,7 @@ cause ts seen (type_line t) = once_cause 6 (has ts t)
 cause ts seen (sub_line a b) = type_cause (has ts a && has ts b) None
 cause ts seen (decl_line d) = number_cause (is_number d.weight) (type_cause (has_all ts d) None)
 cause ts seen (goal_line t) = type_cause (has ts t) (once_cause 7 seen.goal)
-cause ts seen (limit_line w) = number_cause (is_number w) (once_cause 7 seen.limit)
-cause ts seen (depth_line w) = number_cause (is_number w) (once_cause 7 seen.depth)
+cause ts seen (number_line w t) = number_cause (is_number t) (once_cause 7 (is_some (told_number w seen.numbers)))
 cause ts seen (binder_line t) = once_cause 7 seen.binder
 
 abbrev pub told : List (List ℕ) → Bool
@@ -143,7 +185,7 @@ told [] = false
 told (x ∷ xs) = true
 
 abbrev pub seen_in : List Line → Seen
-seen_in ls = record { goal = told (goals_of ls); limit = told (limits_of ls); depth = told (depths_of ls); binder = told (binders_of ls) }
+seen_in ls = record { goal = told (goals_of ls); numbers = numbers_of ls; binder = told (binders_of ls) }
 
 abbrev pub cause_after : List Line → Line → Option ℕ
 cause_after before l = cause (types_of before) (seen_in before) l
@@ -167,13 +209,13 @@ unfoldable pub first_fault : ℕ → List Line → List Line → Option Fault
 first_fault n before [] = no_goal (told (goals_of before)) n
 first_fault n before (l ∷ ls) = or_later (cause_after before l) n (first_fault (n + 1) (before ++ l ∷ []) ls)
 
--- the lines after the first
+-- the lines after the first, which says the version
 abbrev pub body_of : List (List ℕ) → List Line
-body_of ls = map line_of (drop 1 ls)
+body_of ls = map (line_of (unwrap_or (version_of (word ls 0)) One)) (drop 1 ls)
 
 -- the first fault of a text's lines, but for those of the environment; 2 is the cause of a wrong first line
 unfoldable pub lines_fault : List (List ℕ) → Option Fault
-lines_fault ls = if bytes_eq (word ls 0) (codes "insynth sheet 1") then first_fault 2 [] (body_of ls) else Some (record { line = 1; cause = 2 })
+lines_fault ls = if is_some (version_of (word ls 0)) then first_fault 2 [] (body_of ls) else Some (record { line = 1; cause = 2 })
 
 -- the first fault of a sheet's bytes, but for those of the environment: 9 above 16,777,216 bytes, 1 not UTF-8, at the line of
 -- the first bad byte
@@ -196,17 +238,13 @@ unfoldable pub is_decl : Line → Bool
 is_decl (decl_line d) = true
 is_decl _ = false
 
-unfoldable pub is_limit : Line → Bool
-is_limit (limit_line w) = true
-is_limit _ = false
-
-unfoldable pub is_depth : Line → Bool
-is_depth (depth_line w) = true
-is_depth _ = false
-
 -- the n-th of some numbers
 abbrev pub nth : List ℕ → ℕ → ℕ
 nth ns n = get_or ns n 0
+
+-- which of the three weights that belong to no declaration has this number
+abbrev pub step_word : ℕ → NumberWord
+step_word i = if i == 1 then number_word.Bound else if i == 2 then number_word.Binding else number_word.Step
 
 -- the line of a fault of the environment, and its number and ten; a gap in transitivity is at no line, so it has the number after the last
 unfoldable pub env_fault_at : List Line → EnvFault → Option Fault
@@ -214,10 +252,11 @@ env_fault_at ls (TypeRange i) = Some (record { line = nth (places_where is_decl 
 env_fault_at ls (PairRange i) = Some (record { line = nth (places_where is_sub 2 ls) i; cause = 12 })
 env_fault_at ls (PairTwice i) = Some (record { line = nth (places_where is_sub 2 ls) i; cause = 13 })
 env_fault_at ls (Weight i) = Some (record { line = nth (places_where is_decl 2 ls) i; cause = 14 })
-env_fault_at ls (Limit n) = Some (record { line = nth (places_where is_limit 2 ls) 0; cause = 15 })
+env_fault_at ls (Limit n) = Some (record { line = line_with number_word.Limit (numbers_of ls); cause = 15 })
 env_fault_at ls (NotTransitive a b c) = Some (record { line = length ls + 2; cause = 16 })
-env_fault_at ls (Depth n) = Some (record { line = nth (places_where is_depth 2 ls) 0; cause = 17 })
+env_fault_at ls (Depth n) = Some (record { line = line_with number_word.Depth (numbers_of ls); cause = 17 })
 env_fault_at ls (fault.Form i) = Some (record { line = nth (places_where is_decl 2 ls) i; cause = 18 })
+env_fault_at ls (Step i) = Some (record { line = line_with (step_word i) (numbers_of ls); cause = 19 })
 env_fault_at ls OutOfMemory = None
 
 -- the first fault of the parts that these lines say

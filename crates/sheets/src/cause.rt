@@ -24,6 +24,7 @@ pub enum SheetCause {
     NotTransitive,
     Depth,
     Form,
+    Step,
 }
 
 impl SheetCause {
@@ -49,6 +50,7 @@ impl SheetCause {
             SheetCause::NotTransitive => 16,
             SheetCause::Depth => 17,
             SheetCause::Form => 18,
+            SheetCause::Step => 19,
         }
     }
 

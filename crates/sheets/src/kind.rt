@@ -1,9 +1,29 @@
 ghost use Rattle.std.specs.Prelude.{◌≡◌, ◌-◌, length};
 ghost use Rattle.std.specs.List.{list_all};
 ghost use Rattle.sheets.specs.Words.{texts, is_word, words_of};
-ghost use Rattle.sheets.specs.SheetLines.{is_skipped, of_length, of_decl, decl_kind, kind_by, kind_of};
+ghost use Rattle.sheets.specs.SheetLines.{version_of, is_skipped, of_length, of_decl, of_newer, decl_kind, kind_by, kind_of};
 
 use crate::words::{is_word, same, word};
+
+/// Which sheets a line may stand in: the number of the sheet's first line.
+#[derive(Clone, Copy, Debug, PartialEq, Eq)]
+pub enum Version {
+    One,
+    Two,
+}
+
+/// The word of a line with a number.
+#[derive(Clone, Copy, Debug, PartialEq, Eq)]
+pub enum NumberWord {
+    Limit,
+    Depth,
+    /// What a use of a variable weighs; this and those below stand in no sheet 1.
+    Bound,
+    /// What a binder weighs.
+    Binding,
+    /// What a coercion weighs.
+    Step,
+}
 
 /// The form of a declaration.
 #[derive(Clone, Copy, Debug, PartialEq, Eq)]
@@ -27,21 +47,34 @@ pub enum Kind {
     Sub,
     Decl(bool, FormWord),
     Goal,
-    Limit,
-    Depth,
+    Number(NumberWord),
     Binder,
 }
 
-/// What a line is; the words are its own.
+/// The version that a sheet's first line says, where it says one.
+#[tactic(auto, unfolding(crate::specs::SheetLines::version_of))]
+pub fn version_of(line: &str) -> Option<Version>
+    ensures { result ≡ version_of line.now }
+{
+    if same(line, "insynth sheet 1") {
+        return Some(Version::One);
+    }
+    if same(line, "insynth sheet 2") {
+        return Some(Version::Two);
+    }
+    None
+}
+
+/// What a line is in a sheet of this version; the words are its own.
 #[tactic(auto, unfolding(crate::specs::SheetLines::kind_of))]
-pub fn kind_of(line: &str, words: &[&str]) -> Kind
+pub fn kind_of(version: Version, line: &str, words: &[&str]) -> Kind
     requires { texts words.now ≡ words_of line.now }
-    ensures { result ≡ kind_of line.now }
+    ensures { result ≡ kind_of version line.now }
 {
     if is_skipped(line.as_bytes()) {
         return Kind::Blank;
     }
-    kind_by(words)
+    kind_by(version, words)
 }
 
 /// Whether a line is empty or a comment.
@@ -89,10 +122,21 @@ fn of_decl(crowded: bool, least: usize, words: &[&str], form: FormWord) -> Kind
     }
 }
 
+/// A line with this number, where the sheet may have it.
+#[tactic(auto, unfolding(crate::specs::SheetLines::of_newer))]
+fn of_newer(version: Version, words: &[&str], word: NumberWord) -> Kind
+    ensures { result ≡ of_newer version (texts words.now) word }
+{
+    match version {
+        Version::One => Kind::Other,
+        Version::Two => of_length(2, words, Kind::Number(word)),
+    }
+}
+
 /// The kind by the words.
 #[tactic(auto, unfolding(crate::specs::SheetLines::kind_by))]
-fn kind_by(words: &[&str]) -> Kind
-    ensures { result ≡ kind_by (texts words.now) }
+fn kind_by(version: Version, words: &[&str]) -> Kind
+    ensures { result ≡ kind_by version (texts words.now) }
 {
     if !all_words(words) {
         return Kind::Other;
@@ -114,13 +158,22 @@ fn kind_by(words: &[&str]) -> Kind
         return of_length(2, words, Kind::Goal);
     }
     if same(first, "limit") {
-        return of_length(2, words, Kind::Limit);
+        return of_length(2, words, Kind::Number(NumberWord::Limit));
     }
     if same(first, "depth") {
-        return of_length(2, words, Kind::Depth);
+        return of_length(2, words, Kind::Number(NumberWord::Depth));
     }
     if same(first, "binder") {
         return of_length(2, words, Kind::Binder);
+    }
+    if same(first, "bound") {
+        return of_newer(version, words, NumberWord::Bound);
+    }
+    if same(first, "binding") {
+        return of_newer(version, words, NumberWord::Binding);
+    }
+    if same(first, "step") {
+        return of_newer(version, words, NumberWord::Step);
     }
     Kind::Other
 }

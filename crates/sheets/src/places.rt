@@ -1,20 +1,21 @@
 ghost use Rattle.std.specs.Prelude.{◌≡◌};
-ghost use Rattle.sheets.specs.Sheets.{nth};
+ghost use Rattle.sheets.specs.Sheets.{nth, step_word, line_with};
 ghost use Rattle.sheets.specs.Standing.{fault_by, Refuses};
 
 use crate::cause::SheetCause;
+use crate::kind::NumberWord;
+use crate::number_lines::{NumberLine, line_with, step_word};
 use crate::reading::SheetFault;
 use lists::Items;
 use terms::EnvFault;
 
-/// On which lines of a sheet the pairs, the declarations, the limit and the depth stand, and the number
-/// of the line after the last.
+/// On which lines of a sheet the pairs and the declarations stand, its lines with a number, and the number of the
+/// line after the last.
 #[derive(Drop)]
 pub struct Places {
     pub pairs: Items<u32>,
     pub decls: Items<u32>,
-    pub limits: Items<u32>,
-    pub depths: Items<u32>,
+    pub numbers: Items<NumberLine>,
     pub after: u32,
 }
 
@@ -43,6 +44,13 @@ impl Places {
         nth(self.decls.as_slice(), number)
     }
 
+    /// The line with a number.
+    fn number(&self, word: NumberWord) -> u32
+        ensures { result ≡ line_with word self.now.numbers }
+    {
+        line_with(self.numbers.as_slice(), word)
+    }
+
     /// Where and what a fault of the environment is in the sheet.
     #[tactic(auto, unfolding(crate::specs::Standing::fault_by))]
     pub fn fault(&self, fault: EnvFault) -> SheetFault
@@ -53,10 +61,11 @@ impl Places {
             EnvFault::PairRange(number) => SheetCause::PairRange.at(self.pair(number)),
             EnvFault::PairTwice(number) => SheetCause::PairTwice.at(self.pair(number)),
             EnvFault::Weight(number) => SheetCause::Weight.at(self.decl(number)),
-            EnvFault::Limit(_) => SheetCause::Limit.at(nth(self.limits.as_slice(), 0)),
+            EnvFault::Limit(_) => SheetCause::Limit.at(self.number(NumberWord::Limit)),
             EnvFault::NotTransitive(_, _, _) => SheetCause::NotTransitive.at(self.after),
-            EnvFault::Depth(_) => SheetCause::Depth.at(nth(self.depths.as_slice(), 0)),
+            EnvFault::Depth(_) => SheetCause::Depth.at(self.number(NumberWord::Depth)),
             EnvFault::Form(number) => SheetCause::Form.at(self.decl(number)),
+            EnvFault::Step(number) => SheetCause::Step.at(self.number(step_word(number))),
             EnvFault::OutOfMemory => SheetFault::OutOfMemory,
         }
     }

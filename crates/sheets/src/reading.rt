@@ -3,14 +3,17 @@ ghost use Rattle.std.specs.Str.Lines.{lines};
 ghost use Rattle.sheets.specs.Words.{texts};
 ghost use Rattle.sheets.specs.SheetLines.{line_of};
 ghost use Rattle.sheets.specs.Sheets.{IsSheet, sheet_fault, first_fault, no_goal, told, goals_of, text_fault, lines_fault, body_of};
+ghost use Rattle.sheets.specs.Writing.{IsWritable};
 ghost use Rattle.sheets.specs.Standing.{Stands, Refuses, parts_by, places_by, fault_by};
 ghost use Rattle.terms.specs.Faults.{HasLengths, IsValid, first_env_fault};
 ghost use Rattle.sheets.specs.declared.reading.SheetFault.TheVariants.{OutOfMemory};
 
 use crate::cause::SheetCause;
+use crate::kind::{NumberWord, Version, version_of};
+use crate::number_lines::{steps_of, value_of};
 use crate::places::Places;
 use crate::sheet::Sheet;
-use crate::words::{lines_of, same, tail, word};
+use crate::words::{lines_of, tail, word};
 use lists::Text;
 use std::alloc::{AllocError, Global};
 use terms::{Env, Parts};
@@ -66,15 +69,15 @@ fn text_of(bytes: &[u8]) -> Result<&str, SheetFault>
 }
 
 /// What the lines after the first say; whether there is a goal isn't looked at.
-fn read_lines(alloc: Global, body: &[&str]) -> Result<Sheet, SheetFault>
+fn read_lines(alloc: Global, version: Version, body: &[&str]) -> Result<Sheet, SheetFault>
     requires { length body.now ≤ 16777217 }
-    ensures { let ls = map line_of (texts body.now) in MatchResult result
+    ensures { let ls = map (line_of version) (texts body.now) in MatchResult result
         (λ sheet. Stands sheet ls × (first_fault 2 [] ls ≡ no_goal (told (goals_of ls)) (length body.now + 2)))
         (λ fault. Refuses (first_fault 2 [] ls) fault) }
 {
     let mut sheet = Sheet::new(alloc);
     for number in 0..body.len() {
-        match sheet.take(alloc, word(body, number), number as u32 + 2) {
+        match sheet.take(alloc, version, word(body, number), number as u32 + 2) {
             Ok(()) => {}
             Err(fault) => return Err(fault),
         }
@@ -102,14 +105,14 @@ struct Read {
 }
 
 /// What the lines after the first say.
-fn read_body(alloc: Global, body: &[&str]) -> Result<Read, SheetFault>
+fn read_body(alloc: Global, version: Version, body: &[&str]) -> Result<Read, SheetFault>
     requires { length body.now ≤ 16777217 }
-    ensures { let ls = map line_of (texts body.now) in MatchResult result
+    ensures { let ls = map (line_of version) (texts body.now) in MatchResult result
         (λ read. Stands read.sheet ls × (first_fault 2 [] ls ≡ None) × (read.after ≡ length ls + 2) × (length ls ≤ 16777217))
         (λ fault. Refuses (first_fault 2 [] ls) fault) }
 {
     let after = body.len() as u32 + 2;
-    let lines = read_lines(alloc, body)?;
+    let lines = read_lines(alloc, version, body)?;
     match with_goal(lines, after) {
         Ok(sheet) => Ok(Read { sheet, after }),
         Err(fault) => Err(fault),
@@ -125,10 +128,10 @@ fn read_text(alloc: Global, text: &str) -> Result<Read, SheetFault>
         (λ fault. Refuses (lines_fault (lines text.now)) fault) }
 {
     let all = lines_of(alloc, text)?;
-    if !same(word(all.as_slice(), 0), "insynth sheet 1") {
+    let Some(version) = version_of(word(all.as_slice(), 0)) else {
         return Err(SheetCause::FirstLine.at(1));
-    }
-    let read = read_body(alloc, tail(all.as_slice(), 1))?;
+    };
+    let read = read_body(alloc, version, tail(all.as_slice(), 1))?;
     Ok(read)
 }
 
@@ -167,29 +170,26 @@ fn checked(alloc: Global, read: Read) -> Result<Env, SheetFault>
         pairs,
         decls,
         goal,
-        limit,
-        depth,
+        numbers,
         binder,
         pair_lines,
         decl_lines,
-        limit_lines,
-        depth_lines,
     } = sheet;
-    let places = Places {
-        pairs: pair_lines,
-        decls: decl_lines,
-        limits: limit_lines,
-        depths: depth_lines,
-        after,
-    };
     let parts = Parts {
         types: names.into_texts(),
         pairs,
         decls,
         goal: goal.unwrap_or(0),
-        limit: limit.unwrap_or(4000),
-        depth: depth.unwrap_or(1),
+        limit: value_of(numbers.as_slice(), NumberWord::Limit),
+        depth: value_of(numbers.as_slice(), NumberWord::Depth),
         binder: binder_or_usual(alloc, binder)?,
+        steps: steps_of(numbers.as_slice()),
+    };
+    let places = Places {
+        pairs: pair_lines,
+        decls: decl_lines,
+        numbers,
+        after,
     };
     match Env::checked(alloc, parts) {
         Ok(env) => Ok(env),
@@ -197,10 +197,12 @@ fn checked(alloc: Global, read: Read) -> Result<Env, SheetFault>
     }
 }
 
-/// The environment that a sheet says, or the sheet's first fault.
+/// The environment that a sheet says, or the sheet's first fault. Its texts are words and its types are told apart, so it
+/// can be written as a sheet.
 pub fn read_sheet(alloc: Global, bytes: &[u8]) -> Result<Env, SheetFault>
     ensures sheet { MatchResult result (λ env. IsSheet bytes.now env) (λ fault. Refuses (sheet_fault bytes.now) fault) }
     ensures valid { IfOk result IsValid }
+    ensures writable { IfOk result IsWritable }
 {
     match read_bytes(alloc, bytes) {
         Ok(read) => checked(alloc, read),

@@ -1,13 +1,14 @@
 ghost use Rattle.std.specs.Prelude.{◌≡◌, ◌<◌, ◌^◌, [], None, length, MatchResult};
 ghost use Rattle.sheets.specs.Words.{texts, word, words_of, is_number};
-ghost use Rattle.sheets.specs.SheetLines.{type_line, sub_line, decl_line, goal_line, limit_line, depth_line, binder_line, decl_words, line_by, line_of};
+ghost use Rattle.sheets.specs.SheetLines.{type_line, sub_line, decl_line, goal_line, number_line, binder_line, decl_words, line_by, line_of};
 ghost use Rattle.sheets.specs.Causes.{cause_number, number_of};
-ghost use Rattle.sheets.specs.Sheets.{cause, number_cause, once_cause};
+ghost use Rattle.sheets.specs.Sheets.{cause, number_cause, once_cause, told_number};
 ghost use Rattle.sheets.specs.Standing.{added, seen_by, RefusesAt, Takes};
 
 use crate::cause::SheetCause;
 use crate::declaration::decl_of;
-use crate::kind::{FormWord, Kind, kind_of};
+use crate::kind::{FormWord, Kind, NumberWord, Version, kind_of};
+use crate::number_lines::{NumberLine, told};
 use crate::reading::SheetFault;
 use crate::words::{is_number, number, word, words_of};
 use lists::{Items, Text};
@@ -15,20 +16,17 @@ use name_places::Names;
 use std::alloc::Global;
 use terms::Decl;
 
-/// What the lines read so far say. The lines of pairs, declarations, limit and depth are kept by number.
+/// What the lines read so far say, and where pairs, declarations and numbers stand.
 #[derive(Drop)]
 pub struct Sheet {
     pub names: Names,
     pub pairs: Items<(u32, u32)>,
     pub decls: Items<Decl>,
     pub goal: Option<u32>,
-    pub limit: Option<u32>,
-    pub depth: Option<u32>,
+    pub numbers: Items<NumberLine>,
     pub binder: Option<Text>,
     pub pair_lines: Items<u32>,
     pub decl_lines: Items<u32>,
-    pub limit_lines: Items<u32>,
-    pub depth_lines: Items<u32>,
 }
 
 /// That there is no number, unless the word is one.
@@ -69,13 +67,10 @@ impl Sheet {
           pairs = [];
           decls = [];
           goal = None;
-          limit = None;
-          depth = None;
+          numbers = [];
           binder = None;
           pair_lines = [];
           decl_lines = [];
-          limit_lines = [];
-          depth_lines = [];
         } }
     {
         Sheet {
@@ -83,13 +78,10 @@ impl Sheet {
             pairs: Items::new(alloc),
             decls: Items::new(alloc),
             goal: None,
-            limit: None,
-            depth: None,
+            numbers: Items::new(alloc),
             binder: None,
             pair_lines: Items::new(alloc),
             decl_lines: Items::new(alloc),
-            limit_lines: Items::new(alloc),
-            depth_lines: Items::new(alloc),
         }
     }
 
@@ -164,29 +156,16 @@ impl Sheet {
         Ok(())
     }
 
-    /// Takes the limit.
+    /// Takes a number.
     #[tactic(auto, unfolding(crate::specs::Sheets::cause, crate::specs::Standing::added))]
-    fn take_limit(&mut self, name: &str, number_of_line: u32) -> Result<(), SheetFault>
-        ensures { Takes number_of_line self.old self.new (limit_line name.now) result }
+    fn take_number(&mut self, word: NumberWord, text: &str, line: u32) -> Result<(), SheetFault>
+        ensures { Takes line self.old self.new (number_line word text.now) result }
     {
-        let before = once_cause(SheetCause::LineTwice, self.limit.is_some());
-        let cause = number_cause(name, before);
-        without_cause(cause, number_of_line)?;
-        self.limit = Some(number(name));
-        self.limit_lines.push(number_of_line)?;
-        Ok(())
-    }
-
-    /// Takes the depth.
-    #[tactic(auto, unfolding(crate::specs::Sheets::cause, crate::specs::Standing::added))]
-    fn take_depth(&mut self, name: &str, number_of_line: u32) -> Result<(), SheetFault>
-        ensures { Takes number_of_line self.old self.new (depth_line name.now) result }
-    {
-        let before = once_cause(SheetCause::LineTwice, self.depth.is_some());
-        let cause = number_cause(name, before);
-        without_cause(cause, number_of_line)?;
-        self.depth = Some(number(name));
-        self.depth_lines.push(number_of_line)?;
+        let before = told(self.numbers.as_slice(), word).is_some();
+        let cause = number_cause(text, once_cause(SheetCause::LineTwice, before));
+        without_cause(cause, line)?;
+        let value = number(text);
+        self.numbers.push(NumberLine { word, value, line })?;
         Ok(())
     }
 
@@ -228,22 +207,27 @@ impl Sheet {
                 self.take_decl(alloc, crowded, form, words, number_of_line)
             }
             Kind::Goal => self.take_goal(name, number_of_line),
-            Kind::Limit => self.take_limit(name, number_of_line),
-            Kind::Depth => self.take_depth(name, number_of_line),
+            Kind::Number(word) => self.take_number(word, name, number_of_line),
             Kind::Binder => self.take_binder(alloc, name, number_of_line),
         }
     }
 
-    /// Takes a line of this number, or says its cause.
-    pub fn take(&mut self, alloc: Global, line: &str, number_of_line: u32) -> Result<(), SheetFault>
+    /// Takes a line of this number in a sheet of this version, or says its cause.
+    pub fn take(
+        &mut self,
+        alloc: Global,
+        version: Version,
+        line: &str,
+        number_of_line: u32,
+    ) -> Result<(), SheetFault>
         requires room { length self.old.names < 2 ^ 32 }
         ensures { MatchResult result
-            (λ _. (cause self.old.names (seen_by self.old) (line_of line.now) ≡ None)
-            × (self.new ≡ added number_of_line self.old (line_of line.now)))
-            (λ fault. RefusesAt number_of_line (cause self.old.names (seen_by self.old) (line_of line.now)) fault) }
+            (λ _. (cause self.old.names (seen_by self.old) (line_of version line.now) ≡ None)
+            × (self.new ≡ added number_of_line self.old (line_of version line.now)))
+            (λ fault. RefusesAt number_of_line (cause self.old.names (seen_by self.old) (line_of version line.now)) fault) }
     {
         let words = words_of(alloc, line)?;
-        let kind = kind_of(line, words.as_slice());
+        let kind = kind_of(version, line, words.as_slice());
         self.take_words(alloc, kind, words.as_slice(), number_of_line)
     }
 }

@@ -8,6 +8,6 @@ use Rattle.sheets.proofs.reading.read_lines.Given as goal
 
 abbrev pub invariant-loop-number : goal.invariant-loop-number
 invariant-loop-number l = record {
-  stands : Stands l.sheet (before (texts l.body) l.number);
-  fault : first_fault 2 [] (map line_of (texts l.body)) ≡ first_fault (l.number + 2) (before (texts l.body) l.number) (from (texts l.body) l.number);
+  stands : Stands l.sheet (before l.version (texts l.body) l.number);
+  fault : first_fault 2 [] (map (line_of l.version) (texts l.body)) ≡ first_fault (l.number + 2) (before l.version (texts l.body) l.number) (from l.version (texts l.body) l.number);
 }
