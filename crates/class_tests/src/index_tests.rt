@@ -1,3 +1,4 @@
+use crate::weight_tests::keeps_ranges;
 use decl_index::{Change, ChangeFault, Index, history_laws};
 use known_classes::{ClassSummary, Classes, Nesting};
 use lists::{Copies, Items, Text};
@@ -105,6 +106,7 @@ fn applied(
     change: &Change,
 ) -> Result<Index, ChangeFault> {
     assert!(rt; index.number() < u32::MAX);
+    assert!(rt; keeps_ranges(change));
     index.apply(alloc, change)
 }
 

@@ -9,10 +9,12 @@ use Rattle.std.specs.Ordering.{nat_cmp, is_eq}
 use Rattle.std.proofs.lemmas.Cmp.{nat_list_eq_equiv}
 use Rattle.std.proofs.lemmas.List.{take_more, take_all}
 use Rattle.std.proofs.lemmas.Map.Text.{btree_map_updates_text, is_eq-slice_cmp}
-use Rattle.decl_index.specs.History.{Name, order, Rises, IsState, counted, use_of, count_at, CountsRise, class_in, decided}
+use Rattle.decl_index.specs.History.{Name, order, Rises, IsState, counted, use_of, count_at, CountsRise, class_in, decided, weights_set}
 use Rattle.known_classes.specs.declared.summary.ClassSummary.{ClassSummary}
 use Rattle.known_classes.specs.Known.{class_named}
 use Rattle.decl_index.specs.Places.{count_pairs}
+use Rattle.decl_index.specs.declared.weights.Weights.{Weights}
+use Rattle.decl_index.specs.Weighing.{usual}
 use Rattle.std.specs.List.{AllByRecursion}
 use Rattle.std.specs.List.Sorted.{IsStrictlySortedBy}
 use Rattle.std.specs.Map.{keys_of}
@@ -110,9 +112,9 @@ pub set-all : {Y : Type 0} (m : BTreeMap (String Y) ℕ) (xs : List (Name × ℕ
 set-all m xs i first l h key = h key ∙ ap (λ ps. option_or (counted key ps) (first key)) (take_all i xs l)
 
 -- No change.
-pub empty-state : {A Y : Type 0} (f : A → ClassSummary) (xs : List A) (m : BTreeMap (String Y) ℕ) → xs ≡ [] → m.entries ≡ [] → IsState [] (record { classes = map f xs; counts = count_pairs m; number = 0 })
-unfolding Rises class_named decided count_at CountsRise counted
-empty-state {A} {Y} f xs m e n = record {
+pub empty-state : {A Y : Type 0} (f : A → ClassSummary) (xs : List A) (m : BTreeMap (String Y) ℕ) (w : Weights) → xs ≡ [] → m.entries ≡ [] → w ≡ usual → IsState [] (record { classes = map f xs; counts = count_pairs m; weights = w; number = 0 })
+unfolding Rises class_named decided count_at CountsRise counted weights_set
+empty-state {A} {Y} f xs m w e n u = record {
   classes = record {
     rises = subst (λ ys. Rises (map f ys)) (sym e) tt;
     named = λ k. subst (λ ys. class_named (map f ys) k ≡ class_in [] k) (sym e) refl;
@@ -121,6 +123,7 @@ empty-state {A} {Y} f xs m e n = record {
     rises = subst (λ (ps : List (String Y × ℕ)). CountsRise (map (λ p. (string_bytes p.0, p.1)) ps)) (sym n) tt;
     keyed = λ key. subst (λ (ps : List (String Y × ℕ)). count_at (map (λ p. (string_bytes p.0, p.1)) ps) key ≡ None) (sym n) refl;
   };
+  weights = u;
   number = refl;
 }
 

@@ -1,18 +1,21 @@
 -- A history has one state, and refuses a change for one fault at most.
 use Rattle.std.proofs.Common.{◌≡◌, ℕ, Bool, true, false, cond, List, [], ◌∷◌, ◌++◌, map, length, Option, Some, None, Ordering, Less, Equal, Greater, refl, sym, ap, subst, ◌∙◌, arith, inl, inr}
-use Rattle.std.specs.Prelude.{bytes_eq, option_map, unwrap_or}
-use Rattle.std.specs.List.{flat_map}
+use Rattle.std.specs.Prelude.{bytes_eq, option_map, unwrap_or, IfSome}
+use Rattle.std.specs.List.{flat_map, AllByRecursion}
+use Rattle.std.specs.Option.{option_or}
 use Rattle.known_classes.specs.declared.summary.ClassSummary.{ClassSummary}
 use Rattle.known_classes.specs.Known.{class_named}
 use Rattle.decl_index.specs.declared.change.Change.{Change}
-use Rattle.decl_index.specs.declared.change.Change.TheVariants.{Publish, Withdraw}
+use Rattle.decl_index.specs.declared.change.Change.TheVariants.{Publish, Withdraw, SetWeights}
 use Rattle.decl_index.specs.declared.change.ChangeFault.{ChangeFault}
 use Rattle.decl_index.specs.declared.change.ChangeFault.TheVariants.{Cyclic, Full, TooHigh, JournalFull, NestCycle, OutOfMemory}
-use Rattle.decl_index.specs.History.{Name, order, Rises, State, AreClasses, AreCounts, Edit, remove, put, decided, edits_of, counts_of, count_at, use_of}
+use Rattle.decl_index.specs.History.{Name, order, Rises, State, AreClasses, AreCounts, Edit, remove, put, decided, edits_of, counts_of, count_at, use_of, KeepsRanges, weights_of, weights_set, weights_in}
 use Rattle.decl_index.specs.Places.{told_or, Leaves}
 use Rattle.type_names.specs.Names.{object_name}
 use Rattle.decl_index.specs.Refusals.{supers_of, outers_of, IsLeastNamedCycle, IsFaultOf, IsTooHigh, RefusesFor}
-use Rattle.decl_index.specs.Laws.{HasState, OneState, OneList, OneRefusal, UsesOfState}
+use Rattle.decl_index.specs.Laws.{HasState, OneState, OneList, OneRefusal, UsesOfState, WeightsInRange}
+use Rattle.decl_index.specs.declared.weights.Weights.{Weights}
+use Rattle.decl_index.specs.Weighing.{AreWeights, usual}
 use Rattle.decl_index.proofs.Names.{exact, greater}
 use Rattle.decl_index.proofs.Sorted.{put_in, cut_out, put_rises, cut_rises}
 use Rattle.decl_index.proofs.Places.{put_leaves, cut_leaves, leaves-none, leaves-then, none_or}
@@ -56,20 +59,21 @@ pub has_state : HasState
 has_state h =
     let cs = from-nothing (flat_map edits_of h) in
     let ps = from-nothing (map put (map as_class (flat_map counts_of h))) in (
-      record { classes = cs.left; counts = map pair_of ps.left; number = length h },
-      record { classes = classes-after h cs; counts = counts-after h ps; number = refl },
+      record { classes = cs.left; counts = map pair_of ps.left; weights = weights_in h; number = length h },
+      record { classes = classes-after h cs; counts = counts-after h ps; weights = refl; number = refl },
     )
 
 pub one_classes : OneList
 one_classes h cs ds a b = one_list cs ds a.rises b.rises (λ n. a.named n ∙ sym (b.named n))
 
-state-by : (s t : State) → s.classes ≡ t.classes → s.counts ≡ t.counts → s.number ≡ t.number → s ≡ t
-state-by s t p q r = λ i. record { classes = p i; counts = q i; number = r i }
+state-by : (s t : State) → s.classes ≡ t.classes → s.counts ≡ t.counts → s.weights ≡ t.weights → s.number ≡ t.number → s ≡ t
+state-by s t p q w r = λ i. record { classes = p i; counts = q i; weights = w i; number = r i }
 
 pub one_state : OneState
 one_state h s t a b =
     state-by s t (one_classes h s.classes t.classes a.classes b.classes)
     (one_counts s.counts t.counts a.counts.rises b.counts.rises (λ n. a.counts.keyed n ∙ sym (b.counts.keyed n)))
+    (a.weights ∙ sym b.weights)
     (a.number ∙ sym b.number)
 
 -- Refusals.
@@ -116,6 +120,7 @@ refused-one h (Publish puts removes counts) f g a b =
     let one = one_classes (h ++ Publish puts removes counts ∷ []) a.left b.left a.classes b.classes in
     fault-one b.left f g (subst (λ cs. IsFaultOf cs f) one a.fault) b.fault
 refused-one h (Withdraw m) f g a b = high-one (length h) m f g a b
+refused-one h (SetWeights w) f g a b = absurd a
 
 pub one_refusal : OneRefusal
 one_refusal h c f g (inl a) (inl b) = a.1 ∙ sym b.1
@@ -135,3 +140,35 @@ use-at (p ∷ ps) key = use-by (bytes_eq key p.0) p.1 (use_of ps key) (count_at 
 
 pub uses_of_state : UsesOfState
 uses_of_state h s is key = use-at s.counts key ∙ ap (λ n. unwrap_or n 0) (is.counts.keyed key)
+
+-- Weights.
+pub usual-fit : AreWeights usual
+usual-fit = record {
+  bound = (omega arith, omega arith);
+  binder = (omega arith, omega arith);
+  step = (omega arith, omega arith);
+  local = (omega arith, omega arith);
+  lambda = (omega arith, omega arith);
+  own = (omega arith, omega arith);
+  near = (omega arith, omega arith);
+  literal = (omega arith, omega arith);
+  far = (omega arith, omega arith);
+}
+
+or-fit : (o : Option Weights) (c : Change) → IfSome o AreWeights → KeepsRanges c → IfSome (option_or o (weights_of c)) AreWeights
+or-fit (Some w) c h k = h
+or-fit None (Publish puts removes counts) h k = tt
+or-fit None (Withdraw m) h k = tt
+or-fit None (SetWeights w) h k = k
+
+set-fit : (h : List Change) → AllByRecursion KeepsRanges h → IfSome (weights_set h) AreWeights
+unfolding weights_set
+set-fit [] all = tt
+set-fit (c ∷ h) all = or-fit (weights_set h) c (set-fit h all.1) all.0
+
+or-usual : (o : Option Weights) → IfSome o AreWeights → AreWeights (unwrap_or o usual)
+or-usual (Some w) h = h
+or-usual None h = usual-fit
+
+pub weights_in_range : WeightsInRange
+weights_in_range h all = or-usual (weights_set h) (set-fit h all)

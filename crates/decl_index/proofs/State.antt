@@ -1,19 +1,21 @@
 -- The state after one change more.
 use Rattle.std.proofs.Common.{◌≡◌, ℕ, ◌+◌, Bool, true, false, cond, List, [], ◌∷◌, ◌++◌, map, Option, Some, None, Ordering, Less, Equal, Greater, refl, sym, ap, subst, ◌∙◌, append_assoc, append-nil, arith}
-use Rattle.std.specs.Prelude.{bytes_eq}
+use Rattle.std.specs.Prelude.{bytes_eq, unwrap_or}
+use Rattle.decl_index.specs.Weighing.{usual}
 use Rattle.std.specs.List.{flat_map}
 use Rattle.std.proofs.lemmas.List.{length_push}
 use Rattle.std.specs.Option.{option_or}
 use Rattle.known_classes.specs.declared.summary.ClassSummary.{ClassSummary}
 use Rattle.known_classes.specs.Known.{class_named}
 use Rattle.decl_index.specs.declared.change.Change.{Change}
-use Rattle.decl_index.specs.declared.change.Change.TheVariants.{Publish, Withdraw}
+use Rattle.decl_index.specs.declared.change.Change.TheVariants.{Publish, Withdraw, SetWeights}
+use Rattle.decl_index.specs.declared.weights.Weights.{Weights}
 use Rattle.decl_index.specs.declared.change.ChangeFault.{ChangeFault}
 use Rattle.decl_index.specs.declared.change.ChangeFault.TheVariants.{Cyclic, Full, TooHigh, JournalFull, NestCycle, OutOfMemory}
-use Rattle.decl_index.specs.History.{Name, order, Rises, State, IsState, AreClasses, remove, put, decided, edits_of, counted, counts_of, count_at, CountsRise}
+use Rattle.decl_index.specs.History.{Name, order, Rises, State, IsState, AreClasses, class_in, remove, put, decided, edits_of, counted, counts_of, count_at, CountsRise, weights_of, weights_set, weights_in}
 use Rattle.decl_index.specs.Places.{told_or, Leaves}
 use Rattle.decl_index.specs.Refusals.{IsFaultOf, IsSound, RefusesFor, IsTooHigh}
-use Rattle.decl_index.specs.Steps.{IsPublished, IsPublishFault, IsWithdrawn}
+use Rattle.decl_index.specs.Steps.{IsPublished, IsPublishFault, IsKept, IsWithdrawn}
 use Rattle.decl_index.proofs.Names.{same, same-itself, same-true, greater, exact}
 use Rattle.decl_index.proofs.Sorted.{Above, above_more, none_above}
 use Rattle.decl_index.proofs.Places.{class_more}
@@ -64,11 +66,11 @@ one_list (c ∷ cs) [] r s h = let some : class_named (c ∷ cs) c.name ≡ Some
 one_list (c ∷ cs) (d ∷ ds) r s h = one_by (order c.name d.name) c d cs ds refl r s h (one_list cs ds r.1 s.1)
 
 -- Counts given one after the other.
-or_none : (a : Option ℕ) → a ≡ option_or a None
+or_none : {A : Type 0} (a : Option A) → a ≡ option_or a None
 or_none (Some x) = refl
 or_none None = refl
 
-or_assoc : (a b c : Option ℕ) → option_or (option_or a b) c ≡ option_or a (option_or b c)
+or_assoc : {A : Type 0} (a b c : Option A) → option_or (option_or a b) c ≡ option_or a (option_or b c)
 or_assoc (Some x) b c = refl
 or_assoc None b c = refl
 
@@ -85,6 +87,15 @@ counts_more (d ∷ h) c = ap (λ es. counts_of d ++ es) (counts_more h c) ∙ sy
 pub counted_more : (h : List Change) (c : Change) (key : Name) → counted key (flat_map counts_of (h ++ c ∷ [])) ≡ option_or (counted key (counts_of c)) (counted key (flat_map counts_of h))
 counted_more h c key = ap (counted key) (counts_more h c) ∙ counted-append key (flat_map counts_of h) (counts_of c)
 
+-- Weights set one after the other.
+set_more : (h : List Change) (c : Change) → weights_set (h ++ c ∷ []) ≡ option_or (weights_of c) (weights_set h)
+unfolding weights_set
+set_more [] c = or_none (weights_of c)
+set_more (d ∷ h) c = ap (λ o. option_or o (weights_of d)) (set_more h c) ∙ or_assoc (weights_of c) (weights_set h) (weights_of d)
+
+pub weights_more : (h : List Change) (c : Change) → weights_in (h ++ c ∷ []) ≡ unwrap_or (option_or (weights_of c) (weights_set h)) usual
+weights_more h c = ap (λ o. unwrap_or o usual) (set_more h c)
+
 -- A publication.
 left_classes : (h : List Change) (puts : List ClassSummary) (removes : List Name) (counts : List (Name × ℕ)) (cs ds : List ClassSummary) → AreClasses h cs → Leaves (map remove removes ++ map put puts) cs ds → AreClasses (h ++ Publish puts removes counts ∷ []) ds
 left_classes h puts removes counts cs ds is l = record {
@@ -99,6 +110,7 @@ add_published h puts removes counts old new is p = record {
     rises = p.keys;
     keyed = λ key. p.counts key ∙ ap (option_or (counted key counts)) (is.counts.keyed key) ∙ sym (counted_more h (Publish puts removes counts) key);
   };
+  weights = p.weights ∙ is.weights ∙ sym (weights_more h (Publish puts removes counts));
   number = p.number ∙ ap (λ m. m + 1) is.number ∙ sym (length_push h (Publish puts removes counts));
 }
 
@@ -123,20 +135,29 @@ publish_lawful h puts removes counts old new is p f r =
     let one : new.classes ≡ r.left = one_list new.classes r.left next.classes.rises r.classes.rises (λ n. next.classes.named n ∙ sym (r.classes.named n)) in
     sound_free r.left f (subst IsSound one p.sound) r.fault
 
--- A withdrawal.
-pub add_withdrawn : (h : List Change) (m : ℕ) (old new : State) → IsState h old → IsWithdrawn m old new → IsState (h ++ Withdraw m ∷ []) new
+-- A change that keeps the classes and the counts.
+pub add_kept : (h : List Change) (c : Change) (w : Weights) (old new : State) → IsState h old → IsKept w old new → edits_of c ≡ [] → counts_of c ≡ [] → w ≡ weights_in (h ++ c ∷ []) → IsState (h ++ c ∷ []) new
 unfolding decided counted
-add_withdrawn h m old new is w = record {
+add_kept h c w old new is k edits counts weights = record {
   classes = record {
-    rises = w.rises;
-    named = λ n. ap (λ cs. class_named cs n) w.classes ∙ is.classes.named n ∙ sym (class_more h (Withdraw m) n);
+    rises = k.rises;
+    named = λ n. ap (λ cs. class_named cs n) k.classes ∙ is.classes.named n ∙ ap (λ es. told_or (decided n es) (class_in h n)) (sym edits) ∙ sym (class_more h c n);
   };
   counts = record {
-    rises = subst CountsRise (sym w.counts) is.counts.rises;
-    keyed = λ key. ap (λ ps. count_at ps key) w.counts ∙ is.counts.keyed key ∙ sym (counted_more h (Withdraw m) key);
+    rises = subst CountsRise (sym k.counts) is.counts.rises;
+    keyed = λ key. ap (λ ps. count_at ps key) k.counts ∙ is.counts.keyed key ∙ ap (λ ps. option_or (counted key ps) (counted key (flat_map counts_of h))) (sym counts) ∙ sym (counted_more h c key);
   };
-  number = w.number ∙ ap (λ k. k + 1) is.number ∙ sym (length_push h (Withdraw m));
+  weights = k.weights ∙ weights;
+  number = k.number ∙ ap (λ n. n + 1) is.number ∙ sym (length_push h c);
 }
+
+-- A setting of weights.
+pub add_set : (h : List Change) (w : Weights) (old new : State) → IsState h old → IsKept w old new → IsState (h ++ SetWeights w ∷ []) new
+add_set h w old new is k = add_kept h (SetWeights w) w old new is k refl refl (sym (weights_more h (SetWeights w)))
+
+-- A withdrawal.
+pub add_withdrawn : (h : List Change) (m : ℕ) (old new : State) → IsState h old → IsWithdrawn m old new → IsState (h ++ Withdraw m ∷ []) new
+add_withdrawn h m old new is w = add_kept h (Withdraw m) old.weights old new is w.kept refl refl (is.weights ∙ sym (weights_more h (Withdraw m)))
 
 pub withdraw_refused : (h : List Change) (m : ℕ) (old : State) (f : ChangeFault) → IsState h old → IsTooHigh old.number m f → RefusesFor h (Withdraw m) f
 withdraw_refused h m old f is t = subst (λ k. IsTooHigh k m f) is.number t

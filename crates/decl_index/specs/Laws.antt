@@ -1,9 +1,11 @@
 -- What is known of histories, their states and the changes that they refuse.
 use Rattle.std.specs.Prelude.{◌≡◌, List}
+use Rattle.std.specs.List.{AllByRecursion}
 use Rattle.known_classes.specs.declared.summary.ClassSummary.{ClassSummary}
 use Rattle.decl_index.specs.declared.change.Change.{Change}
 use Rattle.decl_index.specs.declared.change.ChangeFault.{ChangeFault}
-use Rattle.decl_index.specs.History.{Name, State, IsState, AreClasses, use_of, use_in}
+use Rattle.decl_index.specs.History.{Name, State, IsState, AreClasses, use_of, use_in, KeepsRanges, weights_in}
+use Rattle.decl_index.specs.Weighing.{AreWeights}
 use Rattle.decl_index.specs.Refusals.{Refuses}
 
 -- Each history has a state.
@@ -25,3 +27,7 @@ OneRefusal = (history : List Change) (change : Change) (f g : ChangeFault) → R
 -- The count of a key in a state is that of the history, 0 where none was given.
 abbrev pub UsesOfState : Type 0
 UsesOfState = (history : List Change) (state : State) → IsState history state → (key : Name) → use_of state.counts key ≡ use_in history key
+
+-- The weights after changes of which each keeps the ranges lie in them.
+abbrev pub WeightsInRange : Type 0
+WeightsInRange = (history : List Change) → AllByRecursion KeepsRanges history → AreWeights (weights_in history)

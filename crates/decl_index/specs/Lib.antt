@@ -1,3 +1,4 @@
+pub mod Weighing
 pub mod History
 pub mod Refusals
 pub mod Places

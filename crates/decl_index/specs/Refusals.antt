@@ -7,7 +7,7 @@ use Rattle.known_classes.specs.declared.summary.ClassSummary.{ClassSummary}
 use Rattle.known_classes.specs.declared.summary.MethodSummary.{MethodSummary}
 use Rattle.known_classes.specs.Known.{class_named, outer_in}
 use Rattle.decl_index.specs.declared.change.Change.{Change}
-use Rattle.decl_index.specs.declared.change.Change.TheVariants.{Publish, Withdraw}
+use Rattle.decl_index.specs.declared.change.Change.TheVariants.{Publish, Withdraw, SetWeights}
 use Rattle.decl_index.specs.declared.change.ChangeFault.{ChangeFault}
 use Rattle.decl_index.specs.declared.change.ChangeFault.TheVariants.{Cyclic, Full, TooHigh, JournalFull, NestCycle, OutOfMemory}
 use Rattle.decl_index.specs.History.{Name, order, AreClasses}
@@ -92,10 +92,11 @@ IsTooHigh number m (Full n) = ⊥
 IsTooHigh number m JournalFull = ⊥
 IsTooHigh number m OutOfMemory = ⊥
 
--- The change is refused after the history for what it would leave, with this fault.
+-- The change is refused after the history for what it would leave, with this fault. A setting of weights never is.
 abbrev pub RefusesFor : List Change → Change → ChangeFault → Type 0
 RefusesFor history (Publish puts removes counts) fault = IsFaultAfter (history ++ Publish puts removes counts ∷ []) fault
 RefusesFor history (Withdraw m) fault = IsTooHigh (length history) m fault
+RefusesFor history (SetWeights w) fault = ⊥
 
 -- The most changes of a history.
 abbrev pub most_changes : ℕ

@@ -2,6 +2,7 @@ ghost use Rattle.std.specs.Prelude.{◌≡◌, IfOk};
 ghost use Rattle.decl_index.specs.declared.change.ChangeFault.TheVariants.{OutOfMemory};
 ghost use Rattle.decl_index.specs.Refusals.{fault_number};
 
+use crate::weights::Weights;
 use known_classes::ClassSummary;
 use lists::{Copies, Items, Text, copy_all};
 use std::alloc::{AllocError, Global};
@@ -18,6 +19,8 @@ pub enum Change {
     },
     /// All versions up to this number are withdrawn.
     Withdraw(u32),
+    /// From here on these are the weights.
+    SetWeights(Weights),
 }
 
 /// Why a change was refused.
@@ -84,6 +87,7 @@ impl Copies for Change {
                 counts: copy_counts(alloc, counts)?,
             }),
             Change::Withdraw(through) => Ok(Change::Withdraw(*through)),
+            Change::SetWeights(weights) => Ok(Change::SetWeights(*weights)),
         }
     }
 }

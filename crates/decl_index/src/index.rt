@@ -2,9 +2,10 @@ ghost use Rattle.std.specs.Prelude.{◌≡◌, ◌<◌, ◌≤◌, ◌+◌, ◌�
 ghost use Rattle.decl_index.specs.declared.change.Change.{Change};
 ghost use Rattle.decl_index.specs.declared.change.ChangeFault.{ChangeFault};
 ghost use Rattle.decl_index.specs.declared.change.ChangeFault.TheVariants.{OutOfMemory};
-ghost use Rattle.decl_index.specs.History.{IsState, use_of};
+ghost use Rattle.decl_index.specs.History.{IsState, KeepsRanges, use_of};
 ghost use Rattle.decl_index.specs.Refusals.{RefusesFor, IsTooHigh};
-ghost use Rattle.decl_index.specs.Steps.{IsPublished, IsPublishFault, IsWithdrawn};
+ghost use Rattle.decl_index.specs.Weighing.{AreWeights};
+ghost use Rattle.decl_index.specs.Steps.{IsPublished, IsPublishFault, IsKept, IsWithdrawn};
 
 use crate::change::{Change, ChangeFault};
 use crate::class_names::names_after;
@@ -12,6 +13,7 @@ use crate::counts::{Counts, with_counts};
 use crate::merge::{put_all, take_all};
 use crate::refusals::check;
 use crate::sorted_classes::{Shared, Sorted, share};
+use crate::weights::Weights;
 use known_classes::{ClassList, ClassSummary, Classes, NameTables};
 use lists::{Items, Text};
 use std::alloc::{AllocError, Global};
@@ -19,13 +21,14 @@ use std::collections::BTreeMap;
 use std::marker::Model;
 use std::sync::Arc;
 
-/// What is known of classes after a list of changes, in rising byte order of names. Indexes share the classes
-/// that they have in common.
+/// What is known of classes after a list of changes, in rising byte order of names, and what weighs how much then.
+/// Indexes share the classes that they have in common, and their list where a change leaves it as it is.
 #[derive(Drop)]
 pub struct Index {
-    classes: Vec<Shared>,
+    classes: Arc<Vec<Shared>, Global>,
     counts: Arc<Counts, Global>,
     names: Arc<NameTables, Global>,
+    weights: Weights,
     number: u32,
 }
 
@@ -35,12 +38,13 @@ impl Model for Index {
     ghost use Rattle.decl_index.specs.History.{State, Rises};
     ghost use Rattle.decl_index.specs.Places.{AreNamesOf, count_pairs};
     ghost use Rattle.decl_index.specs.Changed.{IsFree};
+    ghost use Rattle.decl_index.specs.Weighing.{AreWeights};
 
     ghost Value = { State };
 
-    ghost view = { λ i. record { classes = map arc_value i.classes.items; counts = count_pairs (arc_value i.counts); number = i.number } };
+    ghost view = { λ i. record { classes = map arc_value (arc_value i.classes).items; counts = count_pairs (arc_value i.counts); weights = i.weights; number = i.number } };
 
-    ghost invariant = { λ i. Rises (map arc_value i.classes.items) × AreNamesOf (map arc_value i.classes.items) (arc_value i.names) × IsFree (map arc_value i.classes.items) };
+    ghost invariant = { λ i. Rises (map arc_value (arc_value i.classes).items) × AreNamesOf (map arc_value (arc_value i.classes).items) (arc_value i.names) × IsFree (map arc_value (arc_value i.classes).items) × AreWeights i.weights };
 }
 
 impl Index {
@@ -51,9 +55,10 @@ impl Index {
         let classes = Vec::new(alloc);
         let names = NameTables::new(alloc, &Sorted::of(&classes), 0, Items::new(alloc))?;
         Ok(Index {
-            classes,
+            classes: Arc::new(alloc, classes).map_err(|_| AllocError)?,
             counts: Arc::new(alloc, BTreeMap::new(alloc)).map_err(|_| AllocError)?,
             names: Arc::new(alloc, names).map_err(|_| AllocError)?,
+            weights: Weights::usual(),
             number: 0,
         })
     }
@@ -72,6 +77,14 @@ impl Index {
         self.counts.get(key).copied().unwrap_or(0)
     }
 
+    /// What weighs how much: the weights that were set last, the usual ones where none were. It takes no memory.
+    pub fn weights(&self) -> Weights
+        ensures last { result ≡ self.now.weights }
+        ensures ranges { AreWeights result }
+    {
+        self.weights
+    }
+
     /// The index after a publication.
     fn published(
         &self,
@@ -84,24 +97,34 @@ impl Index {
         ensures state { IfOk result (λ next. IsPublished puts.now removes.now counts.now self.now next) }
         ensures refused { IfErr result (λ fault. (fault ≡ OutOfMemory) ⊎ IsPublishFault puts.now removes.now self.now fault) }
     {
-        let mut classes = share(alloc, &self.classes)?;
+        let old = self.classes.as_slice();
+        let mut classes = share(alloc, old)?;
         take_all(alloc, &mut classes, removes)?;
         put_all(alloc, &mut classes, puts)?;
-        check(alloc, &self.classes, &classes, removes, puts)?;
-        let names = names_after(
-            alloc,
-            self,
-            &self.names,
-            &self.classes,
-            &classes,
-            removes,
-            puts,
-        )?;
+        check(alloc, old, &classes, removes, puts)?;
+        let names = names_after(alloc, self, &self.names, old, &classes, removes, puts)?;
         Ok(Index {
-            classes,
+            classes: Arc::new(alloc, classes).map_err(|_| AllocError)?,
             counts: with_counts(alloc, &self.counts, counts)?,
             names,
+            weights: self.weights,
             number: self.number + 1,
+        })
+    }
+
+    /// The same classes and counts with these weights, after a change more.
+    fn kept(&self, alloc: Global, weights: Weights) -> Result<Index, ChangeFault>
+        requires number { self.now.number < 4294967295 }
+        requires ranges { AreWeights weights }
+        ensures state { IfOk result (λ next. IsKept weights self.now next) }
+        ensures refused { IfErr result (λ fault. fault ≡ OutOfMemory) }
+    {
+        Ok(Index {
+            classes: Arc::try_clone(&self.classes)?,
+            counts: Arc::try_clone(&self.counts)?,
+            names: Arc::try_clone(&self.names)?,
+            weights,
+            number: 1 + self.number,
         })
     }
 
@@ -114,19 +137,16 @@ impl Index {
         if through > self.number {
             return Err(ChangeFault::TooHigh(through));
         }
-        Ok(Index {
-            classes: share(alloc, &self.classes)?,
-            counts: Arc::try_clone(&self.counts)?,
-            names: Arc::try_clone(&self.names)?,
-            number: 1 + self.number,
-        })
+        self.kept(alloc, self.weights)
     }
 
     /// The index with the change added, which shares the classes that the change doesn't touch; the receiver
     /// stays. The refusals come in the order `Cyclic`, `NestCycle`, `Full`; a withdrawal is refused by
-    /// `TooHigh` alone, where its version isn't below `number() + 1`. `JournalFull` is never answered.
+    /// `TooHigh` alone, where its version isn't below `number() + 1`, and a setting of weights by nothing.
+    /// `JournalFull` is never answered. What a setting sets must be what `Weights::checked` accepts.
     pub fn apply(&self, alloc: Global, change: &Change) -> Result<Index, ChangeFault>
-        requires { self.now.number < 4294967295 }
+        requires number { self.now.number < 4294967295 }
+        requires ranges { KeepsRanges change.now }
         ensures state { (history : List Change) → IsState history self.now → IfOk result (λ next. IsState (history ++ change.now ∷ []) next) }
         ensures lawful { (history : List Change) → IsState history self.now → IfOk result (λ next. (fault : ChangeFault) → RefusesFor history change.now fault → ⊥) }
         ensures refused { (history : List Change) → IsState history self.now → IfErr result (λ fault. (fault ≡ OutOfMemory) ⊎ RefusesFor history change.now fault) }
@@ -143,6 +163,7 @@ impl Index {
                 counts.as_slice(),
             ),
             Change::Withdraw(through) => self.withdrawn(alloc, *through),
+            Change::SetWeights(weights) => self.kept(alloc, *weights),
         }
     }
 }
@@ -159,7 +180,7 @@ impl Classes for Index {
     }
 
     fn find(&self, name: &str) -> Option<usize> {
-        Sorted::of(&self.classes).find(name)
+        Sorted::of(self.classes.as_slice()).find(name)
     }
 
     fn by_canonical(&self, dotted: &str) -> Option<usize> {

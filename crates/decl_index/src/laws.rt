@@ -1,4 +1,4 @@
-ghost use Rattle.decl_index.specs.Laws.{HasState, OneState, OneList, OneRefusal, UsesOfState};
+ghost use Rattle.decl_index.specs.Laws.{HasState, OneState, OneList, OneRefusal, UsesOfState, WeightsInRange};
 
 /// What is known of histories, their states and the changes that they refuse. It does nothing.
 pub fn history_laws()
@@ -7,4 +7,5 @@ pub fn history_laws()
     ensures one_list { OneList }
     ensures one_refusal { OneRefusal }
     ensures uses { UsesOfState }
+    ensures weights { WeightsInRange }
 {}

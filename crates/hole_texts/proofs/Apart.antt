@@ -9,6 +9,7 @@ use Rattle.known_classes.specs.Known.{HasEachOnce}
 use Rattle.known_classes.proofs.Merging.{merged_once}
 use Rattle.class_summary.specs.SourceSummaries.{summaries_of}
 use Rattle.decl_index.specs.History.{State}
+use Rattle.decl_index.specs.Weighing.{AreWeights}
 use Rattle.terms.specs.Faults.{IsValid}
 use Rattle.terms.specs.Apart.{IsToldApart}
 use Rattle.terms.specs.declared.parts.Parts.{Parts}
@@ -73,4 +74,4 @@ pub apart : (g : Parts) → IsOfHole g → IsApart g
 apart g h = let k = both g h in record { readable = k.0; told = k.1 }
 
 pub valid : (g : Parts) → IsOfHole g → IsValid g
-valid g h = let e = h.is_environment in right h.state h.unit h.site e.scene h.limit h.depth g e.is_scene h.limits.0 h.limits.1 h.shallow e.exact
+valid g h = let e = h.is_environment in right h.state h.unit h.site e.scene h.limit h.depth g e.is_scene (subst AreWeights (sym e.is_scene.weights) h.weights) h.limits.0 h.limits.1 h.shallow e.exact

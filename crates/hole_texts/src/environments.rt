@@ -14,7 +14,8 @@ use std::alloc::{AllocError, Global};
 use terms::Env;
 
 /// The environment of a hole of a text in UTF-8, as `scopes::environment` makes it: its texts can be read back, and they
-/// tell its terms apart. What it looks at besides is the number of classes and each text of the environment, once.
+/// tell its terms apart. What it looks at besides is the number of classes, the weights, and each text of the
+/// environment, once.
 pub fn apart_environment(
     alloc: Global,
     index: &Index,
@@ -30,6 +31,7 @@ pub fn apart_environment(
     ensures apart { IfOk result (λ env. IsApart env) }
 {
     let _count = index.count();
+    let _weights = index.weights();
     let env = environment(alloc, index, unit, site, limit, depth)?;
     look_at_texts(env.parts());
     Ok(env)

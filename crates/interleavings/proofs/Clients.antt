@@ -6,7 +6,7 @@ use Rattle.std.proofs.lemmas.Bool.Decides.{eqb_tells}
 use Rattle.decl_index.specs.declared.change.Change.{Change}
 use Rattle.answers.specs.Histories.{IsPrefix}
 use Rattle.answers.specs.Cursors.{Lists}
-use Rattle.answers.specs.Asks.{Answer, opened, turned, withdrawn, accepted, refused, quiet, ended}
+use Rattle.answers.specs.Asks.{Answer, opened, turned, withdrawn, explained, accepted, refused, quiet, ended}
 use Rattle.answers.specs.Turns.{Turn, answer, next, change_of, AllMet, Sees, AllSee}
 use Rattle.answers.specs.Sessions.{Seen, start}
 use Rattle.answers.specs.Messages.{Outcome}
@@ -18,6 +18,7 @@ use Rattle.answers.proofs.Headlines.{headline, lists_step}
 
 pub grown_begins : (history made : List Change) (a : Answer) → IsPrefix history (grown history made a)
 grown_begins history made (accepted v) = (made, refl)
+grown_begins history made (explained c x) = prefix_self history
 grown_begins history made (opened c p) = prefix_self history
 grown_begins history made (turned c p) = prefix_self history
 grown_begins history made (withdrawn k v n) = prefix_self history
@@ -45,6 +46,7 @@ sees_from (turned c p) early known at made after l s = (s.0, prefix_then early k
 sees_from (withdrawn k v n) early known at made after l s = (s.0, prefix_then early known after l s.1)
 sees_from (refused f) early known at made after l s = (s.0, prefix_then early known after l s.1)
 sees_from (accepted v) early known at made after l s = (s.0, prefix_then early known after l s.1)
+sees_from (explained c x) early known at made after l s = prefix_then early known after l s
 sees_from quiet early known at made after l s = prefix_then early known after l s
 sees_from ended early known at made after l s = prefix_then early known after l s
 
@@ -60,6 +62,7 @@ sees_all (turned c p) history made after is = (sym is, prefix_is history after (
 sees_all (withdrawn k v n) history made after is = (sym is, prefix_is history after (sym is))
 sees_all (refused f) history made after is = (sym is, prefix_is history after (sym is))
 sees_all (accepted v) history made after is = (prefix_is (history ++ made) after (sym is), (made, sym is))
+sees_all (explained c x) history made after is = prefix_is history after (sym is)
 sees_all quiet history made after is = prefix_is history after (sym is)
 sees_all ended history made after is = prefix_is history after (sym is)
 

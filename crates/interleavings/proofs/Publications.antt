@@ -9,7 +9,7 @@ use Rattle.decl_index.specs.Refusals.{Refuses}
 use Rattle.version_board.specs.Versions.{AreAllowed}
 use Rattle.version_board.proofs.WithdrawalLaws.{newest_stands}
 use Rattle.answers.specs.Cursors.{Lists}
-use Rattle.answers.specs.Asks.{Ask, complete, page, close, change, exit, other, Short, Enough, Lacking, Ending, Met, Answer, opened, turned, withdrawn, accepted, refused, quiet, ended, changed, by_short, IsDecided, IsMetIf}
+use Rattle.answers.specs.Asks.{Ask, complete, page, close, explain, change, exit, other, Short, Enough, Lacking, Ending, Met, Answer, opened, turned, withdrawn, explained, accepted, refused, quiet, ended, changed, by_short, IsDecided, IsMetIf}
 use Rattle.answers.specs.Turns.{next, change_of}
 use Rattle.answers.specs.Sessions.{Seen}
 use Rattle.answers.specs.Runs.{Message, turn_of, IsMet}
@@ -32,6 +32,7 @@ change_allowed (Some f) history c l m all one = all
 -- What is no change adds nothing.
 nothing_made : (history : List Change) (a : Answer) → AreAllowed [] history → AreAllowed [] (grown history [] a)
 nothing_made history (accepted v) all = subst (AreAllowed []) (sym (append-nil history)) all
+nothing_made history (explained c x) all = all
 nothing_made history (opened c p) all = all
 nothing_made history (turned c p) all = all
 nothing_made history (withdrawn k v n) all = all
@@ -46,6 +47,7 @@ ask_allowed Ending history l (change c) m is all may = all
 ask_allowed x history l (complete hole count) m is all may = nothing_made history (by_short x l (complete hole count) m).1 all
 ask_allowed x history l (page k count) m is all may = nothing_made history (by_short x l (page k count) m).1 all
 ask_allowed x history l (close k) m is all may = nothing_made history (by_short x l (close k) m).1 all
+ask_allowed x history l (explain k item) m is all may = nothing_made history (by_short x l (explain k item) m).1 all
 ask_allowed x history l exit m is all may = nothing_made history (by_short x l exit m).1 all
 ask_allowed x history l other m is all may = nothing_made history (by_short x l other m).1 all
 
@@ -57,7 +59,7 @@ allowed : (w : Clients) (es : List Step) → AreAllowed [] w.history → AllMayC
 unfolding AllMayCome steps_from
 allowed w [] all may = all
 allowed w (message i m ∷ es) all may = allowed (after_step w (message i m)) es (message_allowed w i m (w.sessions i) may.0.0 all may.0.1) may.1
-allowed w (outside c ∷ es) all may = allowed (after_step w (outside c)) es (allowed_one [] w.history c all may.0) may.1
+allowed w (outside c ∷ es) all may = allowed (after_step w (outside c)) es (allowed_one [] w.history c all may.0.0) may.1
 
 pub every_history : EveryHistory
 every_history first steps all may = allowed (begun first) steps all may
@@ -70,6 +72,7 @@ bars : (v n : ℕ) (l t : Lists) (ask : Ask) (at : List Change) (a : Answer) →
 bars v n l t ask at (opened c p) all gone step = λ e. not_newest at v n all gone (sym step.version ∙ e)
 bars v n l t ask at (turned c p) all gone step = λ e. none_some n (first_withdrawal at v) (subst (λ x. first_withdrawal at x ≡ None) e step.stands) gone
 bars v n l t ask at (withdrawn k x m) all gone step = λ e. some_same m n (first_withdrawal at v) (subst (λ y. first_withdrawal at y ≡ Some m) (sym step.version ∙ e) step.gone) gone
+bars v n l t ask at (explained c x) all gone step = tt
 bars v n l t ask at (accepted x) all gone step = tt
 bars v n l t ask at (refused f) all gone step = tt
 bars v n l t ask at quiet all gone step = tt
@@ -87,7 +90,7 @@ pub every_withdrawal : EveryWithdrawal
 unfolding AllMayCome given_to
 every_withdrawal w [] v n all may gone i = tt
 every_withdrawal w (outside c ∷ es) v n all may gone i =
-    every_withdrawal (after_step w (outside c)) es v n (allowed_one [] w.history c all may.0) may.1 (later w.history (after_step w (outside c)).history v n (step_begins w (outside c)) gone) i
+    every_withdrawal (after_step w (outside c)) es v n (allowed_one [] w.history c all may.0.0) may.1 (later w.history (after_step w (outside c)).history v n (step_begins w (outside c)) gone) i
 every_withdrawal w (message j m ∷ es) v n all may gone i =
     let u : Clients = after_step w (message j m) in
     let who = found (w.sessions j) m may.0.1 in

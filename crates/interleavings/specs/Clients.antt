@@ -3,9 +3,10 @@ use Rattle.std.specs.Prelude.{◌≡◌, ℕ, ◌==◌, if◌then◌else◌, Lis
 use Rattle.std.specs.List.{AllByRecursion}
 use Rattle.decl_index.specs.declared.change.Change.{Change}
 use Rattle.decl_index.specs.declared.change.ChangeFault.{ChangeFault}
+use Rattle.decl_index.specs.History.{KeepsRanges}
 use Rattle.decl_index.specs.Refusals.{Refuses}
 use Rattle.answers.specs.Histories.{IsPrefix}
-use Rattle.answers.specs.Asks.{Answer, opened, turned, withdrawn, accepted, refused, quiet, ended}
+use Rattle.answers.specs.Asks.{Answer, opened, turned, withdrawn, explained, accepted, refused, quiet, ended}
 use Rattle.answers.specs.Turns.{answer, change_of, AllMet}
 use Rattle.answers.specs.Sessions.{Seen, start}
 use Rattle.answers.specs.Messages.{Outcome}
@@ -32,6 +33,7 @@ told s m = answer s.lists (turn_of s m)
 -- The history grows by an accepted change alone.
 abbrev pub grown : List Change → List Change → Answer → List Change
 grown history made (accepted v) = history ++ made
+grown history made (explained c x) = history
 grown history made (opened c p) = history
 grown history made (turned c p) = history
 grown history made (withdrawn k v n) = history
@@ -68,10 +70,10 @@ MayMeet None m = ⊥
 MayMeet (Some s) m = IsMet s m
 
 -- A client whose session hasn't ended may send any message, which is decided at the history and meets what it may; a
--- change that isn't refused may come from outside.
+-- change that isn't refused may come from outside, with weights in their ranges where it sets them.
 abbrev pub MayCome : Clients → Step → Type 0
 MayCome w (message i m) = (m.met.at ≡ w.history) × MayMeet (w.sessions i) m
-MayCome w (outside c) = (fault : ChangeFault) → Refuses w.history c fault → ⊥
+MayCome w (outside c) = ((fault : ChangeFault) → Refuses w.history c fault → ⊥) × KeepsRanges c
 
 unfoldable pub AllMayCome : Clients → List Step → Type 0
 AllMayCome w [] = Unit {0}
@@ -120,6 +122,7 @@ abbrev pub Bars : ℕ → ℕ → Answer → Type 0
 Bars v n (opened c p) = c.version ≡ v → ⊥
 Bars v n (turned c p) = c.version ≡ v → ⊥
 Bars v n (withdrawn k x m) = x ≡ v → m ≡ n
+Bars v n (explained c x) = Unit {0}
 Bars v n (accepted x) = Unit {0}
 Bars v n (refused fault) = Unit {0}
 Bars v n quiet = Unit {0}

@@ -7,7 +7,7 @@ use Rattle.known_classes.specs.Known.{KnownClasses}
 use Rattle.subtyping.specs.Steps.{IsStrictSubtype}
 use Rattle.decl_index.specs.History.{State}
 use Rattle.java_bodies.specs.declared.site.HoleSite.{HoleSite}
-use Rattle.offers.specs.declared.weights.Weights.{Weights}
+use Rattle.decl_index.specs.declared.weights.Weights.{Weights}
 use Rattle.offers.specs.Scenes.{Scene}
 use Rattle.offers.specs.Offers.{IsOrder, IsSceneAt}
 use Rattle.offers.proofs.Lists.{same-test}

@@ -15,7 +15,6 @@ pub mod Sorting
 pub mod Reached
 pub mod Pairs
 pub mod Types
-pub mod Weighing
 pub mod Offers
 pub mod Placing
 pub mod Spelled

@@ -14,7 +14,6 @@ use Rattle.offers.specs.Omissions.{after_three, after_five}
 use Rattle.offers.specs.Functional.{faces}
 use Rattle.offers.specs.Pairs.{pairs_of}
 use Rattle.offers.specs.Types.{environment_types, is_below_at}
-use Rattle.offers.specs.Weighing.{usual}
 
 -- `below` is the strict subtype relation among the known classes.
 pub record IsOrder (v : Scene) : Type 0 where
@@ -22,14 +21,14 @@ pub record IsOrder (v : Scene) : Type 0 where
   pub complete : (a b : Erased) → IsStrictSubtype v.known a b → v.below a b ≡ true
 
 -- The scene of a site: the known classes are those of the index with the summaries of the unit's, `below` is their strict
--- subtype relation, and the usage counts are the index's.
+-- subtype relation, and the usage counts and the weights are the index's.
 pub record IsSceneAt (state : State) (u : unit.Unit) (site : HoleSite) (v : Scene) : Type 0 where
   pub unit : v.unit ≡ u
   pub place : v.site ≡ site
   pub known : v.known ≡ merged state.classes (summaries_of u state.classes)
   pub order : IsOrder v
   pub usage : v.usage ≡ use_of state.counts
-  pub weights : v.weights ≡ usual
+  pub weights : v.weights ≡ state.weights
   pub word : v.word ≡ is_identifier
 
 -- The types mentioned, their pairs, the members after the five omissions, and the functional interfaces.

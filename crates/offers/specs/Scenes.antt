@@ -17,7 +17,7 @@ use Rattle.class_summary.specs.Flags.{has_flag}
 use Rattle.class_summary.specs.Sources.{joined, internal_name}
 use Rattle.class_summary.specs.Names.{denoted_type}
 use Rattle.java_bodies.specs.declared.site.HoleSite.{HoleSite}
-use Rattle.offers.specs.declared.weights.Weights.{Weights}
+use Rattle.decl_index.specs.declared.weights.Weights.{Weights}
 
 -- `below` says which types are strict subtypes of which among the known classes, `usage` how often the member of a
 -- key was used, `word` which texts are identifiers (JLS 3.8).

@@ -5,14 +5,15 @@ use Rattle.known_classes.specs.Known.{KnownClasses}
 use Rattle.class_summary.specs.SourceSummaries.{Source}
 use Rattle.subtyping.specs.Places.{Ancestry, IsAncestry}
 use Rattle.decl_index.specs.History.{use_of}
+use Rattle.decl_index.specs.Weighing.{AreWeights}
 use Rattle.java_bodies.specs.declared.site.HoleSite.{HoleSite}
-use Rattle.offers.specs.declared.weights.Weights.{Weights}
+use Rattle.decl_index.specs.declared.weights.Weights.{Weights}
 use Rattle.offers.specs.Sites.{IsSiteOf}
 use Rattle.offers.specs.Scenes.{Scene, edited, package_here, own_names}
 use Rattle.java_units.specs.Identifiers.{is_identifier}
 use Rattle.offers.specs.Order.{is_below}
 
--- A unit and a site of it, the known classes with those of the unit, the ancestors of each, and the usage counts.
+-- A unit and a site of it, the known classes with those of the unit, the ancestors of each, the usage counts and the weights.
 pub record Outlook : Type 0 where
   pub unit : unit.Unit
   pub site : HoleSite
@@ -41,3 +42,4 @@ pub record IsView (o : Outlook) (source : Source) (own_name near : List ℕ) (na
   pub edited : own_name ≡ edited (scene o)
   pub home : near ≡ package_here (scene o)
   pub own : names ≡ own_names (scene o)
+  pub weights : AreWeights o.weights

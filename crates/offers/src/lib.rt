@@ -29,7 +29,6 @@ mod spellings;
 mod texts;
 mod types;
 mod view;
-mod weights;
 mod written;
 
 pub use calls::of_base;
@@ -51,5 +50,4 @@ pub use spelling::{class_spelling, with_dims};
 pub use spellings::Spellings;
 pub use texts::is_among;
 pub use view::{View, of_class};
-pub use weights::Weights;
 pub use written::{owner_text, static_text};

@@ -4,16 +4,15 @@ ghost use Rattle.std.specs.Option.{option_copied, option_map};
 ghost use Rattle.java_units.specs.Dimensions.{dims_of_bounds};
 ghost use Rattle.known_classes.specs.Known.{HasEachOnce, class_named, class_by_canonical, outer_of, canonical};
 ghost use Rattle.class_summary.specs.Sources.{internal_name, canonical_name};
+ghost use Rattle.decl_index.specs.Weighing.{AreWeights};
 ghost use Rattle.subtyping.specs.Places.{IsAncestry};
 ghost use Rattle.subtyping.specs.Asked.{class_place};
 ghost use Rattle.offers.specs.Sites.{IsSiteOf};
 ghost use Rattle.offers.specs.Scenes.{of_class, denoted, edited, package_here, own_names};
 ghost use Rattle.offers.specs.Views.{scene};
-ghost use Rattle.offers.specs.Weighing.{usual};
 
-use crate::weights::Weights;
 use class_summary::{Resolver, internal_name, joined};
-use decl_index::Index;
+use decl_index::{Index, Weights};
 use java_bodies::HoleSite;
 use java_units::{TypeText, Unit};
 use known_classes::{ClassSummary, Classes, Merged, canonical_named};
@@ -84,7 +83,8 @@ impl<'a> View<'a> {
     ) -> Result<View<'a>, AllocError>
         requires site { IsSiteOf unit.now site.now }
         requires subtypes { IsAncestry known.now subtypes.now }
-        ensures { IfOk result (λ view. view ≡ record { unit = unit.now; site = site.now; known = known.now; ancestry = subtypes.now; counts = index.now.counts; weights = usual }) }
+        ensures outlook { IfOk result (λ view. view ≡ record { unit = unit.now; site = site.now; known = known.now; ancestry = subtypes.now; counts = index.now.counts; weights = index.now.weights }) }
+        ensures ranges { IfOk result (λ view. AreWeights view.weights) }
     {
         let resolver = Resolver::new(alloc, unit, known)?;
         let edited = internal_name(alloc, unit, site.class as usize)?;
@@ -97,7 +97,7 @@ impl<'a> View<'a> {
             known,
             subtypes,
             resolver,
-            weights: Weights::usual(),
+            weights: index.weights(),
             edited,
             home,
             own,
@@ -111,9 +111,10 @@ impl<'a> View<'a> {
         self.index.usage(key)
     }
 
-    /// The weights of declarations.
+    /// What weighs how much.
     pub fn weights(&self) -> &Weights
-        ensures { result.now ≡ self.now.weights }
+        ensures value { result.now ≡ self.now.weights }
+        ensures ranges { AreWeights self.now.weights }
     {
         &self.weights
     }

@@ -12,7 +12,7 @@ use Rattle.terms.specs.declared.parts.Form.{Form}
 use Rattle.terms.specs.declared.parts.Form.TheVariants as form
 use Rattle.terms.specs.declared.fault.EnvFault.{EnvFault}
 use Rattle.terms.specs.declared.fault.EnvFault.TheVariants.{TypeRange}
-use Rattle.terms.specs.Faults.{or_then, unless, is_arg_known, are_plain, is_well_formed, decl_fault, decls_fault, pairs_fault, order_fault, limit_fault, greatest_depth, depth_fault, first_env_fault, IsValid}
+use Rattle.terms.specs.Faults.{or_then, unless, is_arg_known, are_plain, is_well_formed, decl_fault, decls_fault, pairs_fault, order_fault, limit_fault, greatest_depth, depth_fault, step_fault, steps_fault, first_env_fault, IsValid}
 use Rattle.offers.specs.Scenes.{Scene, edited, package_here, package_of, of_class, denoted, sorted}
 use Rattle.offers.specs.declared.member.Kind.{Kind}
 use Rattle.offers.specs.declared.member.Kind.TheVariants as kind
@@ -26,7 +26,7 @@ use Rattle.offers.specs.Types.{string_type, mentioned, types_of, number_in, is_b
 use Rattle.scopes.specs.Declarations.{weight_of, form_by, wants_by, member_decl, simple_decl, face_decl, literals, decls_of}
 use Rattle.scopes.specs.Environments.{parts_by, environment_of}
 use Rattle.scopes.specs.Validity.{IsOrdered}
-use Rattle.offers.specs.Weighing.{AreWeights}
+use Rattle.decl_index.specs.Weighing.{AreWeights}
 use Rattle.scopes.proofs.Every.{every-append, every-map, every-on, every-filter, every-all}
 use Rattle.scopes.proofs.Numbered.{Has, has-here, has-next, has-left, has-right, every-flat, sorted-has, number-lt}
 use Rattle.scopes.proofs.OrderPairs.{pairs_right, order_right}
@@ -195,6 +195,18 @@ depth-right v ts ds limit depth a = let x : nat_lt depth (greatest_depth + 1) �
 then-none : (a b : Option EnvFault) → a ≡ None → b ≡ None → or_then a b ≡ None
 then-none a b e f = rw (e, f) refl
 
+step-right : (i n greatest : ℕ) → 1 ≤ n → n ≤ greatest → step_fault i n greatest ≡ None
+step-right i n greatest a b =
+    let x : nat_lt 0 n ≡ true = search (rules, tests, arith) in
+    let y : nat_lt n (greatest + 1) ≡ true = search (rules, tests, arith) in
+    rw (x, y) refl
+
+steps-right : (v : Scene) (ts : List Erased) (ds : List Decl) (limit depth : ℕ) → AreWeights v.weights → steps_fault (parts_by v ts ds limit depth) ≡ None
+steps-right v ts ds limit depth w =
+    then-none _ _ (step-right 1 v.weights.bound 100 w.bound.0 w.bound.1)
+    (then-none _ _ (step-right 2 v.weights.binder 100 w.binder.0 w.binder.1)
+    (step-right 3 v.weights.step 10000 w.step.0 w.step.1))
+
 all-right : (v : Scene) (ts : List Erased) (ms : List Member) (fs : List Face) (limit depth : ℕ) → IsOrdered v → AreWeights v.weights → AreNumbered v ts ms fs → 0 < limit → limit < 10001 → depth ≤ greatest_depth → IsValid (parts_by v ts (decls_of v ts ms fs) limit depth)
 unfolding first_env_fault goal-of
 all-right v ts ms fs limit depth o w h a b d =
@@ -202,10 +214,11 @@ all-right v ts ms fs limit depth o w h a b d =
     let f = is_below_at v ts in
     then-none _ _ (limit-right v ts (decls_of v ts ms fs) limit depth a b)
     (then-none _ _ (depth-right v ts (decls_of v ts ms fs) limit depth d)
+    (then-none _ _ (steps-right v ts (decls_of v ts ms fs) limit depth w)
     (then-none _ _ (subst (λ k. pairs_fault k 0 [] (pairs_of n f) ≡ None) (sym (length-map ts _)) (pairs_right n f (λ i. o.never _)))
     (then-none _ _ (subst (λ k. order_fault k (pairs_of n f) ≡ None) (sym (length-map ts _)) (order_right n f (λ i j k. o.through _ _ _)))
     (then-none _ _ (subst (λ k. decls_fault k 0 (decls_of v ts ms fs) ≡ None) (sym (length-map ts _)) (no-faults n 0 (decls_of v ts ms fs) (decls-fit v ts ms fs w h)))
-    (subst (λ k. unless (nat_lt (number_in ts (denoted v v.site.wanted)) k) (goal-of (decls_of v ts ms fs)) ≡ None) (sym (length-map ts _)) (rw (number-lt ts (denoted v v.site.wanted) h.goal) refl))))))
+    (subst (λ k. unless (nat_lt (number_in ts (denoted v v.site.wanted)) k) (goal-of (decls_of v ts ms fs)) ≡ None) (sym (length-map ts _)) (rw (number-lt ts (denoted v v.site.wanted) h.goal) refl)))))))
 
 pub environment-right : (v : Scene) (limit depth : ℕ) → IsOrdered v → AreWeights v.weights → 0 < limit → limit < 10001 → depth ≤ greatest_depth → IsValid (environment_of v limit depth)
 unfolding environment_of

@@ -3,8 +3,10 @@ use Rattle.std.specs.Prelude.{◌≡◌, ℕ, List, ◌++◌, length, map}
 use Rattle.type_names.specs.declared.kinds.Erased.{Erased}
 use Rattle.terms.specs.declared.parts.Decl.{Decl}
 use Rattle.terms.specs.declared.parts.Parts.{Parts}
+use Rattle.terms.specs.declared.parts.Steps.{Steps}
 use Rattle.java_units.specs.declared.types.Unit as unit
 use Rattle.java_bodies.specs.declared.site.HoleSite.{HoleSite}
+use Rattle.decl_index.specs.declared.weights.Weights.{Weights}
 use Rattle.decl_index.specs.History.{State}
 use Rattle.offers.specs.Scenes.{Scene, denoted}
 use Rattle.offers.specs.Spellings.{type_text}
@@ -18,6 +20,10 @@ use Rattle.offers.specs.Offers.{IsSceneAt}
 use Rattle.scopes.specs.Declarations.{decls_of}
 use Rattle.scopes.specs.Binders.{form_text, words, binder_of}
 
+-- The weights that belong to no declaration.
+abbrev pub steps_of : Weights → Steps
+steps_of w = record { bound = w.bound; binder = w.binder; step = w.step }
+
 abbrev pub parts_by : Scene → List Erased → List Decl → ℕ → ℕ → Parts
 parts_by v ts ds limit depth = record {
   types = map (type_text v) ts;
@@ -27,6 +33,7 @@ parts_by v ts ds limit depth = record {
   limit = limit;
   depth = depth;
   binder = binder_of (words (map (λ d. form_text d.form) ds ++ map (type_text v) ts) ++ taken_names v);
+  steps = steps_of v.weights;
 }
 
 abbrev pub environment_by : Scene → List Erased → List Member → List Face → ℕ → ℕ → Parts

@@ -16,6 +16,7 @@ use Rattle.known_classes.specs.declared.summary.FieldSummary.{FieldSummary}
 use Rattle.known_classes.specs.declared.summary.MethodSummary.{MethodSummary}
 use Rattle.known_classes.specs.declared.summary.ClassSummary.{ClassSummary}
 use Rattle.known_classes.specs.Merging.{merged}
+use Rattle.terms.specs.Weights.{usual_steps}
 use Rattle.terms.specs.declared.parts.Arg.{Arg}
 use Rattle.terms.specs.declared.parts.Arg.TheVariants.{Plain, Fun}
 use Rattle.terms.specs.declared.parts.Decl.{Decl}
@@ -23,7 +24,7 @@ use Rattle.terms.specs.declared.parts.Form.{Form}
 use Rattle.terms.specs.declared.parts.Form.TheVariants as form
 use Rattle.terms.specs.declared.parts.Parts.{Parts}
 use Rattle.java_bodies.specs.declared.site.HoleSite.{HoleSite}
-use Rattle.offers.specs.Weighing.{usual}
+use Rattle.decl_index.specs.Weighing.{usual}
 use Rattle.offers.specs.Scenes.{Scene, of_class}
 
 -- All names here are of ASCII letters, so this tells identifiers.
@@ -145,6 +146,7 @@ of_overloads = record {
   limit = 45;
   depth = 1;
   binder = codes "p";
+  steps = usual_steps;
 }
 
 -- A method that a class has again from the class above it.
@@ -165,6 +167,7 @@ of_overriding = record {
   limit = 45;
   depth = 1;
   binder = codes "p";
+  steps = usual_steps;
 }
 
 -- One method of two interfaces of a class; both are functional.
@@ -187,6 +190,7 @@ of_two_promises = record {
   limit = 45;
   depth = 1;
   binder = codes "p";
+  steps = usual_steps;
 }
 
 -- Classes of a package that an import with star names; one is abstract.
@@ -216,6 +220,7 @@ of_readers = record {
   limit = 4000;
   depth = 1;
   binder = codes "p";
+  steps = usual_steps;
 }
 
 -- A parameter that hides a field.
@@ -234,4 +239,5 @@ of_hidden_field = record {
   limit = 30;
   depth = 1;
   binder = codes "p";
+  steps = usual_steps;
 }

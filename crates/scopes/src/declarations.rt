@@ -7,7 +7,6 @@ ghost use Rattle.offers.specs.Scenes.{of_class, denoted, edited};
 ghost use Rattle.offers.specs.Kept.{IsCrowding};
 ghost use Rattle.offers.specs.Types.{number_in};
 ghost use Rattle.offers.specs.Views.{scene};
-ghost use Rattle.offers.specs.Weighing.{AreWeights};
 ghost use Rattle.scopes.specs.Declarations.{member_decl, simple_decl, face_decl, literals, string_literal, site_decls};
 
 use crate::forms::{args_of, form_of};
@@ -123,7 +122,6 @@ fn member_decl(
     crowding: &mut Crowding<'_>,
     member: &Member,
 ) -> Result<Decl, AllocError>
-    requires weights { AreWeights spellings.now.weights }
     requires names { scope.now ≡ scope_names (scene spellings.now) }
     requires kept { IsCrowding spellings.now crowding.old }
     requires types { crowding.old.types.types ≡ numbers.now }
@@ -164,7 +162,6 @@ pub(crate) fn add_members(
     left: &[Member],
     all: &mut Items<Decl>,
 ) -> Result<(), AllocError>
-    requires weights { AreWeights spellings.now.weights }
     requires names { scope.now ≡ scope_names (scene spellings.now) }
     ensures { OnOk result (all.new ≡ all.old ++ map (member_decl (scene spellings.now) numbers.now members.now) left.now) }
 {

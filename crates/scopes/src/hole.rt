@@ -4,9 +4,8 @@ ghost use Rattle.offers.specs.Scenes.{denoted};
 ghost use Rattle.offers.specs.Sites.{IsSiteOf};
 ghost use Rattle.offers.specs.Types.{number_in};
 ghost use Rattle.offers.specs.Views.{scene};
-ghost use Rattle.offers.specs.Weighing.{AreWeights};
 ghost use Rattle.scopes.specs.Declarations.{decls_of};
-ghost use Rattle.scopes.specs.Environments.{IsSeen, IsEnvironmentAt, parts_by, environment_of};
+ghost use Rattle.scopes.specs.Environments.{IsSeen, IsEnvironmentAt, steps_of, parts_by, environment_of};
 ghost use Rattle.terms.specs.Faults.{greatest_depth};
 
 use crate::binder::binder;
@@ -24,7 +23,7 @@ use offers::{
 };
 use std::alloc::{AllocError, Global};
 use subtyping::Subtypes;
-use terms::{Decl, Env, Parts};
+use terms::{Decl, Env, Parts, Steps};
 use type_names::Erased;
 
 /// What is seen from a hole before its declarations are made.
@@ -59,7 +58,6 @@ fn decls_of(
     numbers: &Numbers<'_>,
     names: &[Text],
 ) -> Result<Items<Decl>, AllocError>
-    requires weights { AreWeights spellings.now.weights }
     requires names { names.now ≡ taken_names (scene spellings.now) }
     ensures { IfOk result (λ all. all ≡ decls_of (scene spellings.now) numbers.now seen.now.members seen.now.faces) }
 {
@@ -89,6 +87,18 @@ fn goal_of(alloc: Global, view: &View<'_>, numbers: &Numbers<'_>) -> Result<u32,
     Ok(numbers.of(&kind))
 }
 
+/// The weights that belong to no declaration.
+fn steps_of(view: &View<'_>) -> Steps
+    ensures { result ≡ steps_of view.now.weights }
+{
+    let weights = view.weights();
+    Steps {
+        bound: weights.bound,
+        binder: weights.binder,
+        step: weights.step,
+    }
+}
+
 /// The parts of an environment with these declarations.
 fn parts_of(
     alloc: Global,
@@ -115,12 +125,12 @@ fn parts_of(
         limit,
         depth,
         binder,
+        steps: steps_of(view),
     })
 }
 
 /// The parts of the environment of a view.
 fn parts(alloc: Global, view: &View<'_>, limit: u32, depth: u32) -> Result<Parts, AllocError>
-    requires weights { AreWeights view.now.weights }
     ensures { IfOk result (λ parts. parts ≡ environment_of (scene view.now) limit depth) }
 {
     let seen = seen_of(alloc, view)?;

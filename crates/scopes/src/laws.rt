@@ -14,7 +14,7 @@ ghost use Rattle.scopes.specs.Environments.{environment_of};
 ghost use Rattle.offers.specs.Offers.{IsOrder};
 ghost use Rattle.offers.specs.Sorting.{Rises};
 ghost use Rattle.scopes.specs.Validity.{IsOrdered};
-ghost use Rattle.offers.specs.Weighing.{AreWeights};
+ghost use Rattle.decl_index.specs.Weighing.{AreWeights};
 
 /// The environment of each hole is valid.
 pub fn valid()

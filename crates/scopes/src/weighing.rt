@@ -1,7 +1,6 @@
 ghost use Rattle.std.specs.Prelude.{◌≡◌, ◌++◌, ◌∷◌, IfOk};
 ghost use Rattle.offers.specs.Candidates.{descriptor_by, key};
 ghost use Rattle.offers.specs.Views.{scene};
-ghost use Rattle.offers.specs.Weighing.{AreWeights};
 ghost use Rattle.type_names.specs.Descriptors.{outcome};
 ghost use Rattle.scopes.specs.Declarations.{weight_of};
 
@@ -59,7 +58,6 @@ fn key(alloc: Global, member: &Member) -> Result<Text, AllocError>
 /// The weight of a member.
 #[tactic(auto, unfolding(crate::specs::Declarations::weight_of))]
 pub(crate) fn weight_of(alloc: Global, view: &View<'_>, member: &Member) -> Result<u32, AllocError>
-    requires { AreWeights view.now.weights }
     ensures { IfOk result (λ weight. weight ≡ weight_of (scene view.now) member.now) }
 {
     if member.owner.as_str() == view.edited().as_str() {

@@ -2,7 +2,7 @@
 use Rattle.std.proofs.Common.{◌≡◌, ◌+◌, ℕ, suc, Bool, true, false, List, [], ◌∷◌, ◌++◌, length, refl, sym, ap, ◌∙◌, arith, Option, None, Some, append_assoc, append-nil, length-append}
 use Rattle.std.specs.Prelude.{if◌then◌else◌, nat_le, option_map, find}
 use Rattle.decl_index.specs.declared.change.Change.{Change}
-use Rattle.decl_index.specs.declared.change.Change.TheVariants.{Publish, Withdraw}
+use Rattle.decl_index.specs.declared.change.Change.TheVariants.{Publish, Withdraw, SetWeights}
 use Rattle.decl_index.specs.History.{State, IsState, first_withdrawal}
 use Rattle.version_board.specs.declared.journal.Journal.{Journal}
 use Rattle.version_board.specs.declared.journal.Withdrawal.{Withdrawal}
@@ -63,6 +63,7 @@ first-after : (n : ℕ) (history : List Change) (version : ℕ) → first versio
 unfolding first withdrawals_after first_withdrawal
 first-after n [] version = refl
 first-after n (Publish puts removes counts ∷ history) version = first-after (suc n) history version ∙ plus-suc n (first_withdrawal history version)
+first-after n (SetWeights w ∷ history) version = first-after (suc n) history version ∙ plus-suc n (first_withdrawal history version)
 first-after n (Withdraw through ∷ history) version =
     let number : suc n ≡ n + 1 = omega arith in
     first-by (nat_le version through) n (record { number = suc n; through = through }) (withdrawals_after (suc n) history) version (option_map suc (first_withdrawal history version)) refl number (first-after (suc n) history version ∙ plus-suc n (first_withdrawal history version))

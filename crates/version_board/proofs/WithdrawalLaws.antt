@@ -3,7 +3,7 @@ use Rattle.std.proofs.Common.{◌≡◌, ◌+◌, ◌≤◌, ◌<◌, ℕ, suc, 
 use Rattle.std.specs.Prelude.{if◌then◌else◌, nat_le, option_map}
 use Rattle.std.proofs.lemmas.Bool.Decides.{leb_tells}
 use Rattle.decl_index.specs.declared.change.Change.{Change}
-use Rattle.decl_index.specs.declared.change.Change.TheVariants.{Publish, Withdraw}
+use Rattle.decl_index.specs.declared.change.Change.TheVariants.{Publish, Withdraw, SetWeights}
 use Rattle.decl_index.specs.declared.change.ChangeFault.{ChangeFault}
 use Rattle.decl_index.specs.declared.change.ChangeFault.TheVariants.{JournalFull, TooHigh}
 use Rattle.decl_index.specs.History.{first_withdrawal}
@@ -24,6 +24,7 @@ pub withdrawals_stay : WithdrawalsStay
 unfolding first_withdrawal
 withdrawals_stay [] more version number e = absurd cc
 withdrawals_stay (Publish puts removes counts ∷ history) more version number e = suc-both (first_withdrawal history version) (first_withdrawal (history ++ more) version) number (withdrawals_stay history more version) e
+withdrawals_stay (SetWeights w ∷ history) more version number e = suc-both (first_withdrawal history version) (first_withdrawal (history ++ more) version) number (withdrawals_stay history more version) e
 withdrawals_stay (Withdraw through ∷ history) more version number e = stays-by (nat_le version through) (first_withdrawal history version) (first_withdrawal (history ++ more) version) number (withdrawals_stay history more version) e
 
 -- A withdrawal that isn't refused speaks of earlier versions alone.
@@ -39,6 +40,8 @@ unfolding AreAllowed first_withdrawal
 none-yet before [] version allowed within = refl
 none-yet before (Publish puts removes counts ∷ history) version allowed within =
     ap (option_map suc) (none-yet (before ++ Publish puts removes counts ∷ []) history version allowed.1 (omega (arith, within, length-append before (Publish puts removes counts ∷ []))))
+none-yet before (SetWeights w ∷ history) version allowed within =
+    ap (option_map suc) (none-yet (before ++ SetWeights w ∷ []) history version allowed.1 (omega (arith, within, length-append before (SetWeights w ∷ []))))
 none-yet before (Withdraw m ∷ history) version allowed within =
     let rest = none-yet (before ++ Withdraw m ∷ []) history version allowed.1 (omega (arith, within, length-append before (Withdraw m ∷ []))) in
     ⊎_elim

@@ -1,13 +1,14 @@
 -- The withdrawals of a list of changes.
 use Rattle.std.specs.Prelude.{ℕ, suc, List, [], ◌∷◌, ◌++◌}
 use Rattle.decl_index.specs.declared.change.Change.{Change}
-use Rattle.decl_index.specs.declared.change.Change.TheVariants.{Publish, Withdraw}
+use Rattle.decl_index.specs.declared.change.Change.TheVariants.{Publish, Withdraw, SetWeights}
 use Rattle.version_board.specs.declared.journal.Withdrawal.{Withdrawal}
 
--- A withdrawal under the number of its change; a publication is none.
+-- A withdrawal under the number of its change; other changes are none.
 abbrev pub withdrawal_of : ℕ → Change → List Withdrawal
 withdrawal_of number (Publish puts removes counts) = []
 withdrawal_of number (Withdraw through) = record { number = number; through = through } ∷ []
+withdrawal_of number (SetWeights w) = []
 
 -- The withdrawals among changes that come after so many others.
 unfoldable pub withdrawals_after : ℕ → List Change → List Withdrawal

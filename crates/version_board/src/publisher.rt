@@ -1,6 +1,7 @@
 ghost use Rattle.std.specs.Prelude.{◌≡◌, ◌≤◌, ◌∷◌, ◌++◌, [], None, length, IfOk, IfErr, MatchOption, MatchResult};
 ghost use Rattle.std.specs.Arc.{arc_value};
 ghost use Rattle.decl_index.specs.declared.change.ChangeFault.TheVariants.{JournalFull, OutOfMemory};
+ghost use Rattle.decl_index.specs.History.{KeepsRanges};
 ghost use Rattle.decl_index.specs.Refusals.{most_changes};
 ghost use Rattle.version_board.specs.Publications.{IsRefusal, MayFollow};
 ghost use Rattle.version_board.specs.Versions.{IsVersion};
@@ -47,6 +48,7 @@ fn prepare<J: Naming>(
     alloc: Global,
     change: Change,
 ) -> Result<(Arc<Snapshot, Global>, Prefix<J>, Change), Refusal<J>>
+    requires ranges { KeepsRanges change }
     ensures next { IfOk result (λ r. IsVersion (shown.now ++ change ∷ []) (arc_value r.0) × (J.first ++ r.1 ≡ shown.now) × (r.2 ≡ change)) }
     ensures lawful { IfOk result (λ _. MayFollow shown.now change) }
     ensures refused { IfErr result (λ e. IsRefusal shown.now change e.change e.cause) }
@@ -98,6 +100,7 @@ impl<J: Naming, R: Wait + Drop> Publisher<J, R> {
     /// leaves the journal as it is. The refusal's receipt is None exactly where there was no memory. A full journal
     /// refuses as `Snapshot::after` does. It may wait for the passes that are reading.
     pub fn publish(&mut self, alloc: Global, change: Change) -> Result<Receipt<J>, Refusal<J>>
+        requires ranges { KeepsRanges change }
         ensures published { IfOk result (λ r. (self.new ≡ self.old ++ change ∷ []) × (J.first ++ r.prefix ≡ self.new)) }
         ensures number { IfOk result (λ r. r.number ≡ length self.new) }
         ensures lawful { IfOk result (λ _. MayFollow self.old change) }

@@ -1,6 +1,7 @@
 ghost use Rattle.std.specs.Prelude.{◌≡◌, ◌⊎◌, ◌++◌, IfOk, IfErr, IsTrue};
 ghost use mathlib.Core.List.{IsPrefix};
 ghost use Rattle.decl_index.specs.declared.change.ChangeFault.TheVariants.{OutOfMemory};
+ghost use Rattle.decl_index.specs.History.{KeepsRanges};
 ghost use Rattle.decl_index.specs.Refusals.{Refuses};
 ghost use Rattle.version_board.specs.Accepted.{IsAccepted};
 
@@ -36,6 +37,7 @@ fn ask<J: Naming, R: Wait + Drop>(
     pass: &mut Pass<J>,
     change: Change,
 ) -> Result<u32, ChangeFault>
+    requires ranges { KeepsRanges change }
     ensures later { IsPrefix pass.old.seen pass.new.seen }
     ensures reads { pass.new.reads ≡ pass.old.reads }
     ensures accepted { IfOk result (λ number. IsAccepted pass.new.seen change number) }
@@ -79,6 +81,7 @@ pub fn publish_and_learn<J: Naming, R: Wait + Drop>(
     pass: &mut Pass<J>,
     change: Change,
 ) -> Result<u32, ChangeFault>
+    requires ranges { KeepsRanges change }
     ensures later { IsPrefix pass.old.seen pass.new.seen }
     ensures reads { pass.new.reads ≡ pass.old.reads }
     ensures accepted { IfOk result (λ number. IsAccepted pass.new.seen change number) }

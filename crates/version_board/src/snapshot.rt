@@ -2,7 +2,7 @@ ghost use Rattle.std.specs.Prelude.{◌≡◌, ◌≤◌, ◌⊎◌, [], ◌∷�
 ghost use Rattle.decl_index.specs.declared.change.Change.{Change};
 ghost use Rattle.decl_index.specs.declared.change.ChangeFault.{ChangeFault};
 ghost use Rattle.decl_index.specs.declared.change.ChangeFault.TheVariants.{JournalFull, OutOfMemory};
-ghost use Rattle.decl_index.specs.History.{first_withdrawal};
+ghost use Rattle.decl_index.specs.History.{KeepsRanges, first_withdrawal};
 ghost use Rattle.decl_index.specs.Refusals.{Refuses, most_changes};
 ghost use Rattle.version_board.specs.Versions.{IsVersion};
 
@@ -37,6 +37,7 @@ impl Snapshot {
     /// The version with the change added; the receiver stays. `JournalFull` comes first and takes no memory, at
     /// 100,000 changes; the other refusals are those of `Index::apply`.
     pub fn after(&self, alloc: Global, change: &Change) -> Result<Snapshot, ChangeFault>
+        requires ranges { KeepsRanges change.now }
         ensures version { (history : List Change) → IsVersion history self.now → IfOk result (λ next. IsVersion (history ++ change.now ∷ []) next) }
         ensures lawful { (history : List Change) → IsVersion history self.now → IfOk result (λ next. (fault : ChangeFault) → Refuses history change.now fault → ⊥) }
         ensures refused { (history : List Change) → IsVersion history self.now → IfErr result (λ fault. (fault ≡ OutOfMemory) ⊎ Refuses history change.now fault) }

@@ -1,4 +1,4 @@
-use Rattle.std.proofs.Common.{rules, ◌≡◌, ◌∙◌, true, Some, None, Contains}
+use Rattle.std.proofs.Common.{rules, ◌≡◌, ◌∙◌, Some, None, Contains}
 use Rattle.known_classes.specs.Known.{class_named, IsPlaceOf}
 use Rattle.decl_index.specs.Changed.{IsReached}
 use Rattle.decl_index.proofs.Searches.{avoids-unknown, avoids-reached, not-one}

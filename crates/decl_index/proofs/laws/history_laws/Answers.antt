@@ -1,4 +1,4 @@
-use Rattle.decl_index.proofs.HistoryLaws.{has_state, one_state, one_classes, one_refusal, uses_of_state}
+use Rattle.decl_index.proofs.HistoryLaws.{has_state, one_state, one_classes, one_refusal, uses_of_state, weights_in_range}
 use Rattle.decl_index.proofs.laws.history_laws.Goals as goal
 
 pub returns : goal.returns
@@ -8,4 +8,5 @@ returns c = record {
   one_list = one_classes;
   one_refusal = one_refusal;
   uses = uses_of_state;
+  weights = weights_in_range;
 }

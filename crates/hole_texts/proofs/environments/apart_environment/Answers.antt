@@ -1,4 +1,5 @@
 use Rattle.std.proofs.Common.{subst}
+use Rattle.decl_index.specs.Weighing.{AreWeights}
 use Rattle.scopes.proofs.HoleSites.{hole_site}
 use Rattle.hole_texts.specs.Texts.{HasTexts}
 use Rattle.hole_texts.proofs.Apart.{apart}
@@ -16,6 +17,7 @@ returns-clause-apart c =
       limit = c.args.limit;
       depth = c.args.depth;
       once = c.count-count.ensures.once;
+      weights = subst AreWeights c.weights-weights.ensures.last c.weights-weights.ensures.ranges;
       hole = c.requires.hole.hole;
       utf8 = c.requires.hole.utf8;
       limits = c.requires.limit;
