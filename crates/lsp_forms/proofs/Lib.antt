@@ -4,3 +4,4 @@ pub mod Cuts
 pub mod Lists
 pub mod Refusals
 pub mod Texts
+pub mod Weighing

@@ -1,14 +1,16 @@
 -- The parameters of `workspace/executeCommand` (LSP 3.17): the command and its one argument, an object.
-use Rattle.std.specs.Prelude.{ℕ, List, codes, bytes_eq, Bool, true, ◌&&◌, is_some, Option, Some, None, Result, Ok, Err, if◌then◌else◌}
+use Rattle.std.specs.Prelude.{ℕ, List, codes, bytes_eq, Bool, true, ◌&&◌, is_some, Option, Some, None, option_map, Result, Ok, Err, if◌then◌else◌}
 use Rattle.serde_json.specs.Data.{Data, Num, null, boolean, number, string, array, object, Items, no_items}
 use Rattle.serde_json.specs.Find.{get, at, as_str}
 use Rattle.type_names.specs.Names.{is_internal}
+use Rattle.lsp_forms.specs.Forms.{optional}
 use Rattle.lsp_forms.specs.Params.{member_of, text_of, number_of, whole, every, fault, numbered}
 use Rattle.lsp_forms.specs.Paths.{path_of}
 use Rattle.lsp_forms.specs.Keys.{is_key}
+use Rattle.lsp_forms.specs.Weighing.{weights_of}
 use Rattle.lsp_forms.specs.declared.forms.ParamFault.{ParamFault}
 use Rattle.lsp_forms.specs.declared.forms.Command.{Command}
-use Rattle.lsp_forms.specs.declared.forms.Command.TheVariants.{Page, Close, Publish, Withdraw}
+use Rattle.lsp_forms.specs.declared.forms.Command.TheVariants.{Page, Close, Explain, Publish, Withdraw}
 
 -- The one item of a list of one object.
 unfoldable pub object_alone : Option Data → Option Data → Option Data
@@ -59,6 +61,25 @@ close_of o = one_from Close (number_of (member_of (codes "cursor") o))
 -- `insynth.withdraw`
 abbrev pub withdraw_of : Option Data → Result Command ParamFault
 withdraw_of o = one_from Withdraw (number_of (member_of (codes "through") o))
+
+-- An optional number of 32 bits: none where it is out of the range, `Some None` where it is left out.
+unfoldable pub word_if : Option Num → Option (Option ℕ)
+word_if None = Some None
+word_if (Some n) = option_map Some (word n)
+
+-- `insynth.explain`: what is missing or of another kind comes before what is out of its range.
+unfoldable pub explain_at : Option ℕ → Option (Option ℕ) → Result Command ParamFault
+explain_at None i = Err (fault 2)
+explain_at (Some cursor) None = Err (fault 2)
+explain_at (Some cursor) (Some i) = Ok (Explain cursor i)
+
+unfoldable pub explain_from : Option Num → Option (Option Num) → Result Command ParamFault
+explain_from None i = Err (fault 1)
+explain_from (Some cursor) None = Err (fault 1)
+explain_from (Some cursor) (Some i) = explain_at (word cursor) (word_if i)
+
+abbrev pub explain_of : Option Data → Result Command ParamFault
+explain_of o = explain_from (number_of (member_of (codes "cursor") o)) (optional (member_of (codes "item") o))
 
 -- An optional list, empty where it is left out.
 unfoldable pub list_of : Option Data → Option Items
@@ -140,7 +161,9 @@ unfoldable pub named_command : List ℕ → Option Data → Result Command Param
 named_command name argument =
     if bytes_eq name (codes "insynth.page") then page_of argument
     else if bytes_eq name (codes "insynth.close") then close_of argument
+    else if bytes_eq name (codes "insynth.explain") then explain_of argument
     else if bytes_eq name (codes "insynth.publish") then publish_of argument
+    else if bytes_eq name (codes "insynth.weights") then weights_of argument
     else if bytes_eq name (codes "insynth.withdraw") then withdraw_of argument
     else Err (fault 7)
 

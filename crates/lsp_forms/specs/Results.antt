@@ -9,14 +9,18 @@ use Rattle.lsp_forms.specs.declared.forms.ItemForm.{ItemForm}
 abbrev pub whole_number : ℕ → Data
 whole_number n = number (unsigned n)
 
+-- The commands of `workspace/executeCommand`.
+abbrev pub commands : Data
+commands =
+    array (item (string (codes "insynth.close")) (item (string (codes "insynth.explain")) (item (string (codes "insynth.page"))
+    (item (string (codes "insynth.publish")) (item (string (codes "insynth.weights")) (item (string (codes "insynth.withdraw")) no_items))))))
+
 -- The answer to `initialize`.
 abbrev pub capabilities : Data
 capabilities =
     object (member (codes "capabilities") (object
     (member (codes "completionProvider") (object no_members)
-    (member (codes "executeCommandProvider") (object (member (codes "commands") (array
-    (item (string (codes "insynth.close")) (item (string (codes "insynth.page"))
-    (item (string (codes "insynth.publish")) (item (string (codes "insynth.withdraw")) no_items))))) no_members))
+    (member (codes "executeCommandProvider") (object (member (codes "commands") commands no_members))
     (member (codes "positionEncoding") (string (codes "utf-16"))
     (member (codes "textDocumentSync") (object
     (member (codes "change") (whole_number 2) (member (codes "openClose") (boolean true) no_members))) no_members)))))

@@ -2,13 +2,15 @@ ghost use Rattle.std.specs.Prelude.{◌≡◌, Ok, Err, IfOk, IfErr, Option, Som
 ghost use Rattle.serde_json.specs.Find.{get};
 ghost use Rattle.serde_json.specs.View.{view, number_view};
 ghost use Rattle.lsp_forms.specs.Params.{RefusedAs, whole};
-ghost use Rattle.lsp_forms.specs.Commands.{close_of, command_of, named_command, only_object, page_at, page_of, withdraw_of, word};
+ghost use Rattle.lsp_forms.specs.Commands.{close_of, command_of, explain_at, explain_of, named_command, only_object, page_at, page_of, withdraw_of, word, word_if};
+ghost use Rattle.lsp_forms.specs.Weighing.{weights_of};
 
 use crate::forms::{Command, ParamFault};
 use crate::params::{
-    MISSING, MOST_WORD, OUT_OF_RANGE, UNKNOWN, number_of, refused, text_of, whole, within,
+    MISSING, MOST_WORD, OUT_OF_RANGE, UNKNOWN, number_of, optional, refused, text_of, whole, within,
 };
 use crate::publishing::read_publish;
+use crate::weights::read_weights;
 use json_rpc::Refused;
 use serde_json::{Number, Value};
 use std::alloc::Global;
@@ -80,6 +82,47 @@ fn read_close(argument: Option<&Value>) -> Result<Command, Refused<ParamFault>>
     Ok(Command::Close { cursor })
 }
 
+/// An optional number of 32 bits: None where it is out of the range, `Some(None)` where it is left out.
+#[tactic(auto, unfolding(crate::specs::Commands::word_if))]
+fn word_if(number: Option<&Number>) -> Option<Option<u32>>
+    ensures { result ≡ word_if (option_map (λ n. number_view n.now) number.entry) }
+{
+    match number {
+        Some(number) => word(number).map(Some),
+        None => Some(None),
+    }
+}
+
+/// An explanation whose numbers are there.
+#[tactic(auto, unfolding(crate::specs::Commands::explain_at))]
+fn explain_at(cursor: &Number, item: Option<&Number>) -> Result<Command, Refused<ParamFault>>
+    ensures form { IfOk result (λ c. explain_at (word (number_view cursor.now)) (word_if (option_map (λ n. number_view n.now) item.entry)) ≡ Ok c) }
+    ensures refusal { IfErr result (λ e. RefusedAs (explain_at (word (number_view cursor.now)) (word_if (option_map (λ n. number_view n.now) item.entry))) e) }
+{
+    let Some(cursor) = word(cursor) else {
+        return Err(refused(OUT_OF_RANGE));
+    };
+    let Some(item) = word_if(item) else {
+        return Err(refused(OUT_OF_RANGE));
+    };
+    Ok(Command::Explain { cursor, item })
+}
+
+/// The object of `insynth.explain`.
+#[tactic(auto, unfolding(crate::specs::Commands::explain_from))]
+fn read_explain(argument: Option<&Value>) -> Result<Command, Refused<ParamFault>>
+    ensures form { IfOk result (λ c. explain_of (option_map (λ v. view v.now) argument.entry) ≡ Ok c) }
+    ensures refusal { IfErr result (λ e. RefusedAs (explain_of (option_map (λ v. view v.now) argument.entry)) e) }
+{
+    let Some(cursor) = number_of(within(argument, "cursor")) else {
+        return Err(refused(MISSING));
+    };
+    let Some(item) = optional(within(argument, "item")) else {
+        return Err(refused(MISSING));
+    };
+    explain_at(cursor, item)
+}
+
 /// The object of `insynth.withdraw`.
 #[tactic(auto, unfolding(crate::specs::Commands::one_from, crate::specs::Commands::one_at))]
 fn read_withdraw(argument: Option<&Value>) -> Result<Command, Refused<ParamFault>>
@@ -111,8 +154,14 @@ fn named_command(
     if name == "insynth.close" {
         return read_close(argument);
     }
+    if name == "insynth.explain" {
+        return read_explain(argument);
+    }
     if name == "insynth.publish" {
         return read_publish(alloc, argument);
+    }
+    if name == "insynth.weights" {
+        return read_weights(argument);
     }
     if name == "insynth.withdraw" {
         return read_withdraw(argument);

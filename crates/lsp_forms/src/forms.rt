@@ -1,3 +1,4 @@
+use decl_index::Weights;
 use lists::{Items, Text};
 
 /// Why parameters are refused: the cause, and the number in its list that it speaks of, 0 where no list
@@ -69,6 +70,12 @@ pub enum Command {
     Close {
         cursor: u32,
     },
+    /// `insynth.explain`: why the item of this number, among those that a cursor has answered, weighs what it does; where
+    /// none is named, why none weighs less than the first.
+    Explain {
+        cursor: u32,
+        item: Option<u32>,
+    },
     /// `insynth.publish`: the decoded paths of class files to put, internal names of classes to remove,
     /// and how often members are used, each by its key.
     Publish {
@@ -76,6 +83,8 @@ pub enum Command {
         removes: Items<Text>,
         counts: Items<(Text, u32)>,
     },
+    /// `insynth.weights`: from here on these are the weights.
+    SetWeights(Weights),
     /// `insynth.withdraw`: the versions up to this one are withdrawn; lists of them get no further page.
     Withdraw {
         through: u32,

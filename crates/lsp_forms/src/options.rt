@@ -7,7 +7,7 @@ ghost use Rattle.lsp_forms.specs.Params.{FaultedAs};
 ghost use Rattle.lsp_forms.specs.Forms.{initialize_from, initialize_of, optional, options_from, options_in, whole_or};
 
 use crate::forms::{Initialize, ParamFault};
-use crate::params::{MISSING, OUT_OF_RANGE, refused, whole};
+use crate::params::{MISSING, OUT_OF_RANGE, optional, refused, whole};
 use json_rpc::Refused;
 use serde_json::{Number, Value};
 use terms::GREATEST_DEPTH;
@@ -17,18 +17,6 @@ const LIMIT: u64 = 4000;
 const DEPTH: u64 = 1;
 
 const COUNT: u64 = 20;
-
-/// An optional number: None where it is of another kind, `Some(None)` where it is left out.
-#[tactic(auto, unfolding(crate::specs::Forms::optional))]
-fn optional<'a>(options: &'a Value, key: &str) -> Option<Option<&'a Number>>
-    ensures { option_map (λ o. option_map (λ n. number_view n.now) o) result ≡ optional (get key.now (view options.now)) }
-{
-    match options.get(key) {
-        None | Some(Value::Null) => Some(None),
-        Some(Value::Number(number)) => Some(Some(number)),
-        Some(_) => None,
-    }
-}
 
 /// The number, or what stands in its place where it is left out.
 #[tactic(auto, unfolding(crate::specs::Forms::whole_or))]
@@ -75,13 +63,13 @@ fn options_from(options: &Value) -> Result<Initialize, Refused<ParamFault>>
     ensures form { IfOk result (λ form. options_from (optional (get (codes "limit") (view options.now))) (optional (get (codes "depth") (view options.now))) (optional (get (codes "count") (view options.now))) ≡ Ok form) }
     ensures refusal { IfErr result (λ e. FaultedAs (options_from (optional (get (codes "limit") (view options.now))) (optional (get (codes "depth") (view options.now))) (optional (get (codes "count") (view options.now)))) e) }
 {
-    let Some(limit) = optional(options, "limit") else {
+    let Some(limit) = optional(options.get("limit")) else {
         return Err(refused(MISSING));
     };
-    let Some(depth) = optional(options, "depth") else {
+    let Some(depth) = optional(options.get("depth")) else {
         return Err(refused(MISSING));
     };
-    let Some(count) = optional(options, "count") else {
+    let Some(count) = optional(options.get("count")) else {
         return Err(refused(MISSING));
     };
     options_in(limit, depth, count)

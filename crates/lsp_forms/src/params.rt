@@ -1,6 +1,7 @@
 ghost use Rattle.std.specs.Prelude.{◌≡◌, ◌≤◌, ◌<◌, IfSome, Option, Some, None, option_map};
 ghost use Rattle.serde_json.specs.Find.{get};
 ghost use Rattle.serde_json.specs.View.{view, number_view};
+ghost use Rattle.lsp_forms.specs.Forms.{optional};
 ghost use Rattle.lsp_forms.specs.Params.{member_of, text_of, number_of, whole, fault};
 
 use crate::forms::ParamFault;
@@ -82,5 +83,17 @@ pub fn whole(number: &Number, low: u64, high: u64) -> Option<u64>
     match number.as_u64() {
         Some(n) if low <= n && n <= high => Some(n),
         _ => None,
+    }
+}
+
+/// An optional number: None where it is of another kind, `Some(None)` where it is left out.
+#[tactic(auto, unfolding(crate::specs::Forms::optional))]
+pub fn optional(value: Option<&Value>) -> Option<Option<&Number>>
+    ensures { option_map (λ o. option_map (λ n. number_view n.now) o) result ≡ optional (option_map (λ v. view v.now) value.entry) }
+{
+    match value {
+        None | Some(Value::Null) => Some(None),
+        Some(Value::Number(number)) => Some(Some(number)),
+        Some(_) => None,
     }
 }

@@ -2,23 +2,36 @@ ghost use Rattle.std.specs.Prelude.{◌≡◌, ℕ, ◌+◌, Some, slice_get, de
 ghost use Rattle.serde_json.specs.Data.{array, member, no_members, object, string};
 ghost use Rattle.serde_json.specs.View.{items_of, view};
 ghost use Rattle.lsp_forms.specs.declared.forms.ItemForm.{ItemForm};
-ghost use Rattle.lsp_forms.specs.Results.{capabilities, item_answer, item_answers, item_at, list_answer, page_answer, position, range, state_answer, ten_digits, version_answer};
+ghost use Rattle.lsp_forms.specs.Results.{capabilities, commands, item_answer, item_answers, item_at, list_answer, page_answer, position, range, state_answer, ten_digits, version_answer};
 
 use crate::forms::ItemForm;
 use itoa::Buffer;
 use serde_json::{Map, Value, json};
 use std::alloc::{AllocError, Global};
 
+/// The commands of `workspace/executeCommand`.
+fn make_commands(alloc: Global) -> Result<Value, AllocError>
+    ensures { IfOk result (λ v. view v ≡ commands) }
+{
+    json!(in alloc; [
+        "insynth.close",
+        "insynth.explain",
+        "insynth.page",
+        "insynth.publish",
+        "insynth.weights",
+        "insynth.withdraw"
+    ])
+}
+
 /// What the server can do: the answer to `initialize`.
 pub fn make_capabilities(alloc: Global) -> Result<Value, AllocError>
     ensures value { IfOk result (λ v. view v ≡ capabilities) }
 {
+    let commands = make_commands(alloc)?;
     json!(in alloc; {
         "capabilities": {
             "completionProvider": {},
-            "executeCommandProvider": {
-                "commands": ["insynth.close", "insynth.page", "insynth.publish", "insynth.withdraw"]
-            },
+            "executeCommandProvider": {"commands": commands},
             "positionEncoding": "utf-16",
             "textDocumentSync": {"change": 2u64, "openClose": true}
         },
@@ -26,7 +39,7 @@ pub fn make_capabilities(alloc: Global) -> Result<Value, AllocError>
     })
 }
 
-/// The answer to `insynth.publish` and to `insynth.withdraw`.
+/// The answer to `insynth.publish`, to `insynth.weights` and to `insynth.withdraw`.
 pub fn make_version(alloc: Global, number: u32) -> Result<Value, AllocError>
     ensures value { IfOk result (λ v. view v ≡ version_answer number) }
 {

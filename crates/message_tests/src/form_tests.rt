@@ -40,7 +40,7 @@ fn outcome(alloc: Global, method: Method, params: &Value) -> (u32, u32) {
 }
 
 /// Parameters of a method, and the cause and the index with which they are refused, or 0.
-const ROWS: [(Method, &str, u32, u32); 68] = [
+const ROWS: [(Method, &str, u32, u32); 78] = [
     (Method::Initialize, "{}", 0, 0),
     (Method::Initialize, "null", 0, 0),
     (Method::Initialize, "[1]", 0, 0),
@@ -374,6 +374,66 @@ const ROWS: [(Method, &str, u32, u32); 68] = [
         2,
         0,
     ),
+    (
+        Method::Execute,
+        "{\"command\":\"insynth.explain\",\"arguments\":[{\"cursor\":1}]}",
+        0,
+        0,
+    ),
+    (
+        Method::Execute,
+        "{\"command\":\"insynth.explain\",\"arguments\":[{\"cursor\":4294967295,\"item\":null}]}",
+        0,
+        0,
+    ),
+    (
+        Method::Execute,
+        "{\"command\":\"insynth.explain\",\"arguments\":[{\"cursor\":1,\"item\":4294967295}]}",
+        0,
+        0,
+    ),
+    (
+        Method::Execute,
+        "{\"command\":\"insynth.explain\",\"arguments\":[{\"item\":0}]}",
+        1,
+        0,
+    ),
+    (
+        Method::Execute,
+        "{\"command\":\"insynth.explain\",\"arguments\":[{\"cursor\":1,\"item\":\"0\"}]}",
+        1,
+        0,
+    ),
+    (
+        Method::Execute,
+        "{\"command\":\"insynth.explain\",\"arguments\":[{\"cursor\":4294967296,\"item\":[]}]}",
+        1,
+        0,
+    ),
+    (
+        Method::Execute,
+        "{\"command\":\"insynth.explain\",\"arguments\":[{\"cursor\":1,\"item\":4294967296}]}",
+        2,
+        0,
+    ),
+    (
+        Method::Execute,
+        "{\"command\":\"insynth.explain\",\"arguments\":[{\"cursor\":1,\"item\":0.0}]}",
+        2,
+        0,
+    ),
+    (
+        Method::Execute,
+        "{\"command\":\"insynth.explain\",\"arguments\":[{\"cursor\":1,\"item\":-1}]}",
+        2,
+        0,
+    ),
+    (
+        Method::Execute,
+        "{\"command\":\"insynth.explain\",\"arguments\":[{\"cursor\":-1,\"item\":0}]}",
+        2,
+        0,
+    ),
 ];
 
 #[test]
@@ -539,7 +599,7 @@ fn a_publication_is_read(rt: HostRuntime) -> Result<(), Fail> {
 }
 
 const CAPABILITIES: &str =
-    "{\"capabilities\":{\"completionProvider\":{},\"executeCommandProvider\":{\"commands\":[\"insynth.close\",\"insynth.page\",\"insynth.publish\",\"insynth.withdraw\"]},\"positionEncoding\":\"utf-16\",\"textDocumentSync\":{\"change\":2,\"openClose\":true}},\"serverInfo\":{\"name\":\"insynthd\"}}";
+    "{\"capabilities\":{\"completionProvider\":{},\"executeCommandProvider\":{\"commands\":[\"insynth.close\",\"insynth.explain\",\"insynth.page\",\"insynth.publish\",\"insynth.weights\",\"insynth.withdraw\"]},\"positionEncoding\":\"utf-16\",\"textDocumentSync\":{\"change\":2,\"openClose\":true}},\"serverInfo\":{\"name\":\"insynthd\"}}";
 
 const EMPTY_PAGE: &str =
     "{\"insynth\":{\"cursor\":1,\"from\":3,\"grown\":0,\"last\":true,\"version\":2},\"isIncomplete\":false,\"items\":[]}";

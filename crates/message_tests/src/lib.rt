@@ -4,6 +4,10 @@
 #![tactic(auto)]
 
 #[cfg(test)]
+mod certificate_tests;
+#[cfg(test)]
 mod form_tests;
 #[cfg(test)]
 mod rpc_tests;
+#[cfg(test)]
+mod weight_tests;
