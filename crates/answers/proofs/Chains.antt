@@ -3,7 +3,7 @@ use Rattle.std.proofs.Common.{◌≡◌, List, [], ◌∷◌, ◌++◌, refl, sy
 use Rattle.decl_index.specs.declared.change.Change.{Change}
 use Rattle.answers.specs.Histories.{IsPrefix}
 use Rattle.answers.specs.Cursors.{Lists}
-use Rattle.answers.specs.Asks.{Answer, opened, turned, withdrawn, accepted, refused, quiet, ended}
+use Rattle.answers.specs.Asks.{Answer, opened, turned, withdrawn, explained, accepted, refused, quiet, ended}
 use Rattle.answers.specs.Turns.{Turn, answer, next, change_of, Sees, AllSee, told_by, Includes, IncludesSome, AllInclude, IsChain}
 
 pub prefix_self : (xs : List Change) → IsPrefix xs xs
@@ -24,6 +24,7 @@ sees_later (turned cursor p) known at c after s = s.1
 sees_later (withdrawn k v n) known at c after s = s.1
 sees_later (refused f) known at c after s = s.1
 sees_later (accepted v) known at c after s = s.1
+sees_later (explained cursor x) known at c after s = s
 sees_later quiet known at c after s = s
 sees_later ended known at c after s = s
 
@@ -36,6 +37,7 @@ includes (turned cursor p) earlier known at c after below s = read_includes earl
 includes (withdrawn k v n) earlier known at c after below s = read_includes earlier known at after below s
 includes (refused f) earlier known at c after below s = read_includes earlier known at after below s
 includes (accepted v) earlier known at c after below s = tt
+includes (explained cursor x) earlier known at c after below s = tt
 includes quiet earlier known at c after below s = tt
 includes ended earlier known at c after below s = tt
 
@@ -60,6 +62,7 @@ told_below (turned cursor p) known at c after s = prefix_is at after s.0
 told_below (withdrawn k v n) known at c after s = prefix_is at after s.0
 told_below (refused f) known at c after s = prefix_is at after s.0
 told_below (accepted v) known at c after s = s.0
+told_below (explained cursor x) known at c after s = tt
 told_below quiet known at c after s = tt
 told_below ended known at c after s = tt
 

@@ -14,7 +14,7 @@ use Rattle.json_rpc.specs.declared.message.Id.TheVariants.{Number}
 use Rattle.answers.specs.declared.types.Page.{Page}
 use Rattle.answers.specs.declared.types.Cursor.{Cursor}
 use Rattle.answers.specs.Cursors.{Lists, look, moved, without, with_cursor}
-use Rattle.answers.specs.Asks.{page, Met, turned, withdrawn, turned_or, is_used_up}
+use Rattle.answers.specs.Asks.{page, Met, turned, withdrawn, quiet, turned_or, spelled_or, item_explained, is_used_up}
 use Rattle.answers.specs.Replies.{reply_text, reply_of}
 
 abbrev cursor : Parts → ℕ → ℕ → Cursor
@@ -73,6 +73,15 @@ stands-row = refl
 
 refused-row : (l : Lists) (m : Met) (g : Parts) → turned_or l m (cursor g 1 20) (Some 4) ≡ (l, withdrawn 1 3 4)
 refused-row l m g = refl
+
+-- Of six items that were answered the last is explained, and none after it.
+answered-row : (l : Lists) (m : Met) (g : Parts) → item_explained l m (cursor g 1 6) 5 ≡ spelled_or l (cursor g 1 6) m.term
+unfolding item_explained
+answered-row l m g = refl
+
+unanswered-row : (l : Lists) (m : Met) (g : Parts) → item_explained l m (cursor g 1 6) 6 ≡ (l, quiet)
+unfolding item_explained
+unanswered-row l m g = refl
 
 item : Term → Item
 item t = record { weight = 12; text = codes "in.read()"; term = t }

@@ -4,7 +4,7 @@ use Rattle.std.specs.Prelude.{if◌then◌else◌, Some, None}
 use Rattle.decl_index.specs.declared.change.Change.TheVariants.{Publish}
 use Rattle.json_rpc.specs.declared.message.Id.{Id}
 use Rattle.answers.specs.Cursors.{Lists}
-use Rattle.answers.specs.Asks.{Short, Enough, Lacking, Ending, Met, Loaded, classes, missing, too_long, no_class_file, unreadable, by_ask, by_short, lacking, complete, page, close, change, exit, other}
+use Rattle.answers.specs.Asks.{Short, Enough, Lacking, Ending, Met, Loaded, classes, missing, too_long, no_class_file, unreadable, by_ask, by_short, lacking, complete, page, close, explain, change, exit, other}
 use Rattle.answers.specs.Turns.{next}
 use Rattle.answers.specs.Sessions.{Seen, start}
 use Rattle.answers.specs.Messages.{Meaning, asks, publishes, says, lacks, starts, stops, edits, leaves, drops, meaning_of, ask_by, ask_in, published, by_memory}
@@ -47,6 +47,7 @@ lists_by Enough s drops m is = refl
 lists_by Lacking s (asks id (complete hole count)) m is = refl
 lists_by Lacking s (asks id (page k count)) m is = refl
 lists_by Lacking s (asks id (close k)) m is = refl
+lists_by Lacking s (asks id (explain k item)) m is = refl
 lists_by Lacking s (asks id (change c)) m is = refl
 lists_by Lacking s (asks id exit) m is = refl
 lists_by Lacking s (asks id other) m is = refl

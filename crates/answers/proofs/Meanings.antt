@@ -21,7 +21,7 @@ use Rattle.answers.specs.declared.types.Phase.TheVariants.{Fresh, Running, Stopp
 use Rattle.answers.specs.declared.types.DocumentState.{DocumentState}
 use Rattle.answers.specs.declared.types.DocumentState.TheVariants.{Sure, Unsure, NoMemory}
 use Rattle.answers.specs.Failures.{unknown_method, invalid_request, not_initialized}
-use Rattle.answers.specs.Asks.{Ask, complete, page, close, change, exit, other}
+use Rattle.answers.specs.Asks.{Ask, complete, page, close, explain, change, exit, other}
 use Rattle.answers.specs.Sessions.{Seen, document_of}
 use Rattle.answers.specs.Messages.{DocumentEdit, closing, changing, Meaning, asks, publishes, says, lacks, starts, stops, edits, leaves, drops, fails, completion_at, completion_in, completion_by, command_by, initialize_by, running_request, fresh_request, request_by, open_by, edit_if_open, change_by, close_by, running_notice, notice_by, notice_in, meaning_in, meaning_of}
 use Rattle.answers.specs.Tells.{IsPlain}
@@ -31,6 +31,7 @@ abbrev pub IsQuestion : Ask → Type 0
 IsQuestion (complete hole count) = Unit {0}
 IsQuestion (page k count) = Unit {0}
 IsQuestion (close k) = Unit {0}
+IsQuestion (explain k item) = Unit {0}
 IsQuestion (change c) = Unit {0}
 IsQuestion exit = ⊥
 IsQuestion other = ⊥
@@ -68,8 +69,10 @@ command_form : (id : Id) (r : Result Command ParamFault) → CanBe (command_by i
 command_form id (Err f) = tt
 command_form id (Ok (command.Page cursor count)) = tt
 command_form id (Ok (command.Close cursor)) = tt
+command_form id (Ok (command.Explain cursor item)) = tt
 command_form id (Ok (command.Publish names removes counts)) = tt
 command_form id (Ok (command.Withdraw through)) = tt
+command_form id (Ok (command.SetWeights weights)) = tt
 
 initialize_form : (id : Id) (r : Result Initialize ParamFault) → CanBe (initialize_by id r)
 initialize_form id (Err f) = tt

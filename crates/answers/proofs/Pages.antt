@@ -16,7 +16,7 @@ use Rattle.listing.specs.Found.{term_of, terms_of, IsItem}
 use Rattle.answers.specs.declared.types.Page.{Page}
 use Rattle.answers.specs.declared.types.Cursor.{Cursor}
 use Rattle.answers.specs.Cursors.{IsPageOf, Lists, look, moved, without}
-use Rattle.answers.specs.Asks.{Ask, Answer, opened, turned, withdrawn, accepted, refused, quiet, ended}
+use Rattle.answers.specs.Asks.{Ask, Answer, opened, turned, withdrawn, explained, accepted, refused, quiet, ended}
 use Rattle.answers.specs.Turns.{Turn, answer, next, answers_to, AllMet}
 use Rattle.answers.specs.Told.{items_of, joined, last_by, newest, IsTold, Heeds, AllHeed, IsPaged, PagedBy, AllPaged}
 use Rattle.answers.specs.Sessions.{start}
@@ -114,6 +114,7 @@ goes : (k : ℕ) (g : Parts) (v : ℕ) (given : List Item) (last : Bool) (l t : 
 goes k g v given last l t ask at (opened c p) so step = on_opened k g v given last l t ask at c p so step
 goes k g v given last l t ask at (turned c p) so step = on_turned k g v given last l t at c p so step
 goes k g v given last l t ask at (withdrawn j x n) so step = same_still k g v given last l t so step.gives
+goes k g v given last l t ask at (explained c x) so step = same_still k g v given last l t so step.gives
 goes k g v given last l t ask at (accepted x) so step = same_still k g v given last l t so step
 goes k g v given last l t ask at (refused f) so step = same_still k g v given last l t so step
 goes k g v given last l t ask at quiet so step = on_quiet k g v given last l t so step
@@ -136,6 +137,7 @@ heeds_by k g v given last l t ask at (withdrawn j x n) so step = λ e.
     let fits = is_same (look k l.cursors) g v given step.cursor (subst (λ i. look i l.cursors ≡ Some step.cursor) e step.is) so.cursor in
     (step.version ∙ fits.2, ap (first_withdrawal at) (sym fits.2) ∙ step.gone)
 heeds_by k g v given last l t ask at (opened c p) so step = tt
+heeds_by k g v given last l t ask at (explained c x) so step = tt
 heeds_by k g v given last l t ask at (accepted x) so step = tt
 heeds_by k g v given last l t ask at (refused f) so step = tt
 heeds_by k g v given last l t ask at quiet so step = tt
@@ -212,6 +214,7 @@ stays_fresh : (l t : Lists) (ask : Ask) (at : List Change) (a : Answer) → IsFr
 stays_fresh l t ask at (opened c p) fresh step = fresh_opened l t ask at c p fresh step
 stays_fresh l t ask at (turned c p) fresh step = fresh_turned l t at c p fresh step
 stays_fresh l t ask at (withdrawn j x n) fresh step = fresh_same l t (withdrawn j x n) fresh step.gives (λ k. refl) (λ k b. refl)
+stays_fresh l t ask at (explained c x) fresh step = fresh_same l t (explained c x) fresh step.gives (λ k. refl) (λ k b. refl)
 stays_fresh l t ask at (accepted x) fresh step = fresh_same l t (accepted x) fresh step (λ k. refl) (λ k b. refl)
 stays_fresh l t ask at (refused f) fresh step = fresh_same l t (refused f) fresh step (λ k. refl) (λ k b. refl)
 stays_fresh l t ask at quiet fresh step = fresh_quiet l t fresh step
@@ -267,6 +270,7 @@ paged_by : (all : List Answer) (l t : Lists) (ask : Ask) (at : List Change) (a :
 paged_by all l t ask at (opened c p) ts step met items last = let new : l.made < c.number = omega (arith, step.number) in paged_opened all l t ask at c p ts step met (items c.number new) (last c.number new)
 paged_by all l t ask at (turned c p) ts step met items last = tt
 paged_by all l t ask at (withdrawn j x n) ts step met items last = tt
+paged_by all l t ask at (explained c x) ts step met items last = tt
 paged_by all l t ask at (accepted x) ts step met items last = tt
 paged_by all l t ask at (refused f) ts step met items last = tt
 paged_by all l t ask at quiet ts step met items last = tt

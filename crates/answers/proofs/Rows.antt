@@ -1,11 +1,13 @@
 -- Worked replies, byte by byte.
-use Rattle.std.proofs.Common.{◌≡◌, refl, Some, None}
+use Rattle.std.proofs.Common.{◌≡◌, refl, Some, None, [], ◌∷◌}
 use Rattle.std.specs.Prelude.{codes, pos, negsuc}
 use Rattle.std.specs.Fmt.{digits}
 use Rattle.json.specs.Print.{escape_byte}
 use Rattle.serde_json.specs.Data.{null}
 use Rattle.decl_index.specs.declared.change.ChangeFault.TheVariants.{Cyclic, TooHigh, JournalFull}
 use Rattle.json_rpc.specs.declared.message.Id.TheVariants.{Number, Text}
+use Rattle.terms.specs.declared.parts.Parts.{Parts}
+use Rattle.answers.specs.Certificates.{bounded, certificate_data}
 use Rattle.answers.specs.Failures.{parse_error, unknown_method, invalid_params, no_class, change_refused, version_withdrawn, read_fault}
 use Rattle.answers.specs.Replies.{result, failure, reply_text}
 
@@ -48,3 +50,8 @@ withdrawn-row = refl
 read-row : reply_text (Some (Number (pos 3))) (failure (read_fault 1)) ≡ codes "{\"error\":{\"code\":-32803,\"data\":{\"index\":1},\"message\":\"read fault\"},\"id\":3,\"jsonrpc\":\"2.0\"}"
 unfolding escape_byte digits
 read-row = refl
+
+-- A list whose least weight is 15 where no variable is in scope.
+floors-row : (g : Parts) → reply_text (Some (Number (pos 2))) (result (certificate_data g (bounded (record { set = []; left = 1; goal = 1; floor = 15 } ∷ [])))) ≡ codes "{\"id\":2,\"jsonrpc\":\"2.0\",\"result\":{\"floor\":15,\"rows\":[[[],1,1,15]]}}"
+unfolding escape_byte digits
+floors-row g = refl

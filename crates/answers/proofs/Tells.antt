@@ -1,6 +1,6 @@
 -- Each outcome of a run tells its answer, and nothing else of lists and versions.
 use Rattle.std.proofs.Common.{◌≡◌, ℕ, Bool, true, false, List, [], ◌∷◌, refl, sym, subst, Option, None, Some, inl, inr}
-use Rattle.std.specs.Prelude.{if◌then◌else◌, is_some}
+use Rattle.std.specs.Prelude.{if◌then◌else◌, is_some, leb}
 use Rattle.decl_index.specs.declared.change.Change.TheVariants.{Publish}
 use Rattle.decl_index.specs.declared.change.ChangeFault.{ChangeFault}
 use Rattle.decl_index.specs.History.{first_withdrawal}
@@ -10,12 +10,13 @@ use Rattle.json_rpc.specs.declared.message.Id.{Id}
 use Rattle.lsp_forms.specs.Results.{capabilities}
 use Rattle.answers.specs.declared.types.Hole.{Hole}
 use Rattle.answers.specs.declared.types.Cursor.{Cursor}
+use Rattle.terms.specs.Expr.{Expr}
 use Rattle.answers.specs.Failures.{invalid_params, no_class, read_fault}
 use Rattle.answers.specs.Cursors.{Lists, look, with_cursor}
-use Rattle.answers.specs.Asks.{Ask, complete, page, close, change, exit, other, Short, Enough, Lacking, Ending, Met, Loaded, classes, missing, too_long, no_class_file, unreadable, Answer, opened, turned, withdrawn, accepted, refused, quiet, ended, new_cursor, is_used_up, completed_at, completed, turned_or, paged, changed, by_ask, by_short, lacking}
+use Rattle.answers.specs.Asks.{Ask, complete, page, close, explain, change, exit, other, Short, Enough, Lacking, Ending, Met, Loaded, classes, missing, too_long, no_class_file, unreadable, Answer, opened, turned, withdrawn, explained, accepted, refused, quiet, ended, new_cursor, is_used_up, completed_at, completed, turned_or, paged, spelled_or, item_explained, explained_by, explained_in, changed, by_ask, by_short, lacking}
 use Rattle.answers.specs.Turns.{answer, next, answers_to}
 use Rattle.answers.specs.Sessions.{Seen}
-use Rattle.answers.specs.Replies.{result, failure, reply_text, without_list, quiet_reply, reply_of}
+use Rattle.answers.specs.Replies.{result, failure, reply_text, without_list, not_explained, quiet_reply, reply_of}
 use Rattle.answers.specs.Messages.{Meaning, asks, publishes, says, lacks, starts, stops, edits, leaves, drops, replied, no_memory, meaning_of, ask_by, ask_in, published, by_memory}
 use Rattle.answers.specs.Runs.{Message, outcome, session_after, ends, replies_to, turn_of, turns_of}
 use Rattle.answers.specs.Tells.{IsPlain, Tells, AllTell}
@@ -31,10 +32,15 @@ plain_close : (b : Bool) → IsPlain (if b then result null else failure (invali
 plain_close true = inl refl
 plain_close false = tt
 
+plain_unexplained : (o : Option Cursor) → IsPlain (not_explained o)
+plain_unexplained None = tt
+plain_unexplained (Some c) = tt
+
 plain_quiet : (l : Lists) (m : Met) (ask : Ask) → IsPlain (quiet_reply l m ask)
 plain_quiet l m (complete hole count) = plain_without m.site
 plain_quiet l m (page k count) = tt
 plain_quiet l m (close k) = plain_close (is_some (look k l.cursors))
+plain_quiet l m (explain k item) = plain_unexplained (look k l.cursors)
 plain_quiet l m (change c) = inl refl
 plain_quiet l m exit = inl refl
 plain_quiet l m other = inl refl
@@ -44,6 +50,7 @@ abbrev GoesOn : Answer → Type 0
 GoesOn (opened c p) = Unit {0}
 GoesOn (turned c p) = Unit {0}
 GoesOn (withdrawn k v n) = Unit {0}
+GoesOn (explained c x) = Unit {0}
 GoesOn (accepted v) = Unit {0}
 GoesOn (refused fault) = Unit {0}
 GoesOn quiet = Unit {0}
@@ -69,6 +76,20 @@ on_paging : (l : Lists) (m : Met) (o : Option Cursor) → GoesOn (paged l m o).1
 on_paging l m None = tt
 on_paging l m (Some c) = on_turning l m c (first_withdrawal m.at c.version)
 
+on_spelling : (l : Lists) (c : Cursor) (o : Option Expr) → GoesOn (spelled_or l c o).1
+on_spelling l c None = tt
+on_spelling l c (Some term) = tt
+
+on_item : (b : Bool) (l : Lists) (c : Cursor) (o : Option Expr) → Continues (if b then (l, quiet) else spelled_or l c o)
+on_item true l c o = tt
+on_item false l c o = on_spelling l c o
+
+on_explaining : (l : Lists) (m : Met) (item : Option ℕ) (o : Option Cursor) → GoesOn (explained_in l m item o).1
+unfolding item_explained
+on_explaining l m item None = tt
+on_explaining l m None (Some c) = tt
+on_explaining l m (Some i) (Some c) = on_item (leb c.answered i) l c m.term
+
 on_changing : (l : Lists) (m : Met) (o : Option ChangeFault) → GoesOn (changed l m o).1
 on_changing l m None = tt
 on_changing l m (Some fault) = tt
@@ -77,6 +98,7 @@ goes_on : (l : Lists) (m : Met) (ask : Ask) → IsQuestion ask → GoesOn (by_as
 goes_on l m (complete hole count) q = on_completing l m hole m.site
 goes_on l m (page k count) q = on_paging l m (look k l.cursors)
 goes_on l m (close k) q = tt
+goes_on l m (explain k item) q = on_explaining l m item (look k l.cursors)
 goes_on l m (change c) q = on_changing l m m.fault
 goes_on l m exit q = absurd q
 goes_on l m other q = absurd q
@@ -85,6 +107,7 @@ reply_tells : (l : Lists) (m : Met) (id : Id) (ask : Ask) (a : Answer) → GoesO
 reply_tells l m id ask (opened c p) on = (id, refl)
 reply_tells l m id ask (turned c p) on = (id, refl)
 reply_tells l m id ask (withdrawn k v n) on = (id, refl)
+reply_tells l m id ask (explained c x) on = (id, refl)
 reply_tells l m id ask (accepted v) on = (id, refl)
 reply_tells l m id ask (refused fault) on = (id, refl)
 reply_tells l m id ask quiet on = record { id = Some id; reply = quiet_reply l m ask; is = refl; plain = plain_quiet l m ask }
@@ -125,6 +148,7 @@ tells_by Enough s drops m is can = tt
 tells_by Lacking s (asks id (complete hole count)) m is can = tt
 tells_by Lacking s (asks id (page k count)) m is can = tt
 tells_by Lacking s (asks id (close k)) m is can = tt
+tells_by Lacking s (asks id (explain k item)) m is can = tt
 tells_by Lacking s (asks id (change c)) m is can = tt
 tells_by Lacking s (asks id exit) m is can = absurd can
 tells_by Lacking s (asks id other) m is can = absurd can

@@ -4,7 +4,7 @@ use Rattle.decl_index.specs.declared.change.Change.{Change}
 use Rattle.decl_index.specs.History.{first_withdrawal}
 use Rattle.version_board.proofs.WithdrawalLaws.{withdrawals_stay}
 use Rattle.answers.specs.Histories.{IsPrefix}
-use Rattle.answers.specs.Asks.{Answer, opened, turned, withdrawn, accepted, refused, quiet, ended}
+use Rattle.answers.specs.Asks.{Answer, opened, turned, withdrawn, explained, accepted, refused, quiet, ended}
 use Rattle.answers.specs.Turns.{answer, next, change_of, Sees, AllSee}
 use Rattle.answers.specs.Told.{Heeds, AllHeed, Shuts, AllShut}
 use Rattle.answers.specs.Laws.{WithdrawnStays}
@@ -27,6 +27,7 @@ shuts : (k v n : ℕ) (a : Answer) (known at made after : List Change) → Sees 
 shuts k v n (turned c p) known at made after sees heeds gone = λ e. none_some n (first_withdrawal at v) (heeds e).1 (read_gone known at after v n sees gone)
 shuts k v n (withdrawn j x m) known at made after sees heeds gone = λ e. some_same m n (first_withdrawal at v) (heeds e).1 (read_gone known at after v n sees gone)
 shuts k v n (opened c p) known at made after sees heeds gone = tt
+shuts k v n (explained c x) known at made after sees heeds gone = tt
 shuts k v n (accepted x) known at made after sees heeds gone = tt
 shuts k v n (refused f) known at made after sees heeds gone = tt
 shuts k v n quiet known at made after sees heeds gone = tt

@@ -9,18 +9,22 @@ use Rattle.decl_index.specs.Refusals.{Refuses}
 use Rattle.documents.specs.Places.{position_of}
 use Rattle.java_bodies.specs.declared.site.HoleSite.{HoleSite}
 use Rattle.terms.specs.declared.parts.Parts.{Parts}
+use Rattle.terms.specs.Expr.{Expr}
+use Rattle.checker.specs.declared.floor.Floor.{Floor}
 use Rattle.answers.specs.declared.types.Hole.{Hole}
 use Rattle.answers.specs.declared.types.Page.{Page}
 use Rattle.answers.specs.declared.types.Cursor.{Cursor}
 use Rattle.answers.specs.Holes.{IsSite, IsEnvironmentIn}
 use Rattle.answers.specs.Cursors.{IsPageOf, Lists, look, moved, without, with_cursor}
+use Rattle.answers.specs.Certificates.{Certificate, spelled, bounded, IsItemAt, AreFloorsOf}
 
--- What is asked of lists and versions: the first page of a new list, a further page, to close a list, to make a change, to
--- end the session, or nothing of these.
+-- What is asked of lists and versions: the first page of a new list, a further page, to close a list, to explain an item of a
+-- list or its least weight, to make a change, to end the session, or nothing of these.
 pub data Ask : Type 0 where
   complete : (hole : Hole) (count : ℕ) → Ask
   page : (number count : ℕ) → Ask
   close : (number : ℕ) → Ask
+  explain : (number : ℕ) (item : Option ℕ) → Ask
   change : (made : Change) → Ask
   exit : Ask
   other : Ask
@@ -41,13 +45,15 @@ pub data Loaded : Type 0 where
   unreadable : (index : ℕ) → Loaded
 
 -- What a message met outside the session: the history at which it is decided, what its files gave, the site of its hole, its
--- environment, its page, why its change is refused, and whether memory was wanting.
+-- environment, its page, the term and the floors of its certificate, why its change is refused, and whether memory was wanting.
 pub record Met : Type 0 where
   pub at : List Change
   pub loads : Loaded
   pub site : Option HoleSite
   pub env : Parts
   pub page : Page
+  pub term : Option Expr
+  pub floors : List Floor
   pub fault : Option ChangeFault
   pub short : Short
 
@@ -56,6 +62,7 @@ pub data Answer : Type 0 where
   opened : (cursor : Cursor) (page : Page) → Answer
   turned : (cursor : Cursor) (page : Page) → Answer
   withdrawn : (number version through : ℕ) → Answer
+  explained : (cursor : Cursor) (certificate : Certificate) → Answer
   accepted : (version : ℕ) → Answer
   refused : (fault : ChangeFault) → Answer
   quiet : Answer
@@ -94,6 +101,24 @@ abbrev pub paged : Lists → Met → Option Cursor → Lists × Answer
 paged l m None = (l, quiet)
 paged l m (Some c) = turned_or l m c (first_withdrawal m.at c.version)
 
+-- The item's term is told, where the list has it.
+abbrev pub spelled_or : Lists → Cursor → Option Expr → Lists × Answer
+spelled_or l c None = (l, quiet)
+spelled_or l c (Some term) = (l, explained c (spelled term))
+
+-- An item is explained where it is among those that its cursor has answered, a list by its floors.
+unfoldable pub item_explained : Lists → Met → Cursor → ℕ → Lists × Answer
+item_explained l m c i = if leb c.answered i then (l, quiet) else spelled_or l c m.term
+
+abbrev pub explained_by : Lists → Met → Cursor → Option ℕ → Lists × Answer
+explained_by l m c None = (l, explained c (bounded m.floors))
+explained_by l m c (Some i) = item_explained l m c i
+
+-- A list that is kept is explained, whether its version is withdrawn or not.
+abbrev pub explained_in : Lists → Met → Option ℕ → Option Cursor → Lists × Answer
+explained_in l m item None = (l, quiet)
+explained_in l m item (Some c) = explained_by l m c item
+
 -- A change is accepted where it isn't refused; its version is the length of the history with it.
 abbrev pub changed : Lists → Met → Option ChangeFault → Lists × Answer
 changed l m None = (l, accepted (length m.at + 1))
@@ -103,6 +128,7 @@ abbrev pub by_ask : Lists → Met → Ask → Lists × Answer
 by_ask l m (complete hole count) = completed l m hole m.site
 by_ask l m (page k count) = paged l m (look k l.cursors)
 by_ask l m (close k) = (record l { cursors = without k l.cursors }, quiet)
+by_ask l m (explain k item) = explained_in l m item (look k l.cursors)
 by_ask l m (change c) = changed l m m.fault
 by_ask l m exit = (l, ended)
 by_ask l m other = (l, quiet)
@@ -112,6 +138,7 @@ abbrev pub lacking : Lists → Ask → Lists × Answer
 lacking l (complete hole count) = (l, quiet)
 lacking l (page k count) = (l, quiet)
 lacking l (close k) = (l, quiet)
+lacking l (explain k item) = (l, quiet)
 lacking l (change c) = (l, quiet)
 lacking l exit = (l, ended)
 lacking l other = (l, quiet)
@@ -135,11 +162,17 @@ abbrev pub OpensBy : Lists → Met → Hole → ℕ → Option HoleSite → Type
 OpensBy l m hole count None = Unit {0}
 OpensBy l m hole count (Some site) = is_used_up l ≡ false → IsEnvironmentIn m.at hole site m.env × IsPageOf m.env 0 count m.page
 
+-- The term, or the floors, that an explanation meets: of an item that was answered, the term at its place.
+abbrev pub ExplainsBy : Met → Cursor → Option ℕ → Type 0
+ExplainsBy m c None = AreFloorsOf c.env m.floors
+ExplainsBy m c (Some i) = leb c.answered i ≡ false → IsItemAt c.env i m.term
+
 -- What a question may meet.
 abbrev pub MetBy : Lists → Met → Ask → Type 0
 MetBy l m (complete hole count) = IsSite hole m.site × OpensBy l m hole count m.site
 MetBy l m (page k count) = (c : Cursor) → look k l.cursors ≡ Some c → first_withdrawal m.at c.version ≡ None → IsPageOf c.env c.answered count m.page
 MetBy l m (close k) = Unit {0}
+MetBy l m (explain k item) = (c : Cursor) → look k l.cursors ≡ Some c → ExplainsBy m c item
 MetBy l m (change c) = IsDecided m.at c m.fault
 MetBy l m exit = Unit {0}
 MetBy l m other = Unit {0}

@@ -2,6 +2,7 @@ pub mod Histories
 pub mod Holes
 pub mod Failures
 pub mod Cursors
+pub mod Certificates
 pub mod Asks
 pub mod Turns
 pub mod Told

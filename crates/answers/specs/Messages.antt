@@ -2,7 +2,7 @@
 use Rattle.std.specs.Prelude.{ℕ, List, [], codes, bytes_eq, Bool, true, false, if◌then◌else◌, Option, Some, None, Result, Ok, Err}
 use Rattle.std.specs.Str.{chars}
 use Rattle.serde_json.specs.Data.{Data, null}
-use Rattle.decl_index.specs.declared.change.Change.TheVariants.{Publish, Withdraw}
+use Rattle.decl_index.specs.declared.change.Change.TheVariants.{Publish, Withdraw, SetWeights}
 use Rattle.documents.specs.Edits.{within}
 use Rattle.documents.specs.Places.{offset_of}
 use Rattle.json_rpc.specs.declared.message.Id.{Id}
@@ -25,7 +25,7 @@ use Rattle.answers.specs.declared.types.DocumentState.{DocumentState}
 use Rattle.answers.specs.declared.types.DocumentState.TheVariants.{Sure, Unsure, NoMemory}
 use Rattle.answers.specs.declared.types.OpenDocument.{OpenDocument}
 use Rattle.answers.specs.Failures.{Failure, parse_error, invalid_request, unknown_method, not_initialized, invalid_params, no_class, read_fault}
-use Rattle.answers.specs.Asks.{Ask, complete, page, close, change, exit, other, Loaded, classes, missing, too_long, no_class_file, unreadable, Short, Enough, Lacking, Ending, Met, list_answer_to}
+use Rattle.answers.specs.Asks.{Ask, complete, page, close, explain, change, exit, other, Loaded, classes, missing, too_long, no_class_file, unreadable, Short, Enough, Lacking, Ending, Met, list_answer_to}
 use Rattle.answers.specs.Sessions.{Seen, document_of, with_document, without_document, state_of, state_by}
 use Rattle.answers.specs.Replies.{Reply, result, failure, reply_text, reply_of}
 
@@ -76,8 +76,10 @@ abbrev pub command_by : Id → Result Command ParamFault → Meaning
 command_by id (Err f) = fault_of id f
 command_by id (Ok (command.Page cursor count)) = asks id (page cursor count)
 command_by id (Ok (command.Close cursor)) = asks id (close cursor)
+command_by id (Ok (command.Explain cursor item)) = asks id (explain cursor item)
 command_by id (Ok (command.Publish names removes counts)) = publishes id names removes counts
 command_by id (Ok (command.Withdraw through)) = asks id (change (Withdraw through))
+command_by id (Ok (command.SetWeights weights)) = asks id (change (SetWeights weights))
 
 abbrev pub initialize_by : Id → Result Initialize ParamFault → Meaning
 initialize_by id (Err f) = fault_of id f

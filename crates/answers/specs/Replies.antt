@@ -12,7 +12,8 @@ use Rattle.answers.specs.declared.types.Page.{Page}
 use Rattle.answers.specs.declared.types.Cursor.{Cursor}
 use Rattle.answers.specs.Failures.{Failure, invalid_params, change_refused, version_withdrawn, code_of, message_of, data_of}
 use Rattle.answers.specs.Cursors.{Lists, look}
-use Rattle.answers.specs.Asks.{Ask, complete, page, close, change, exit, other, Met, Answer, opened, turned, withdrawn, accepted, refused, quiet, ended}
+use Rattle.answers.specs.Certificates.{certificate_data}
+use Rattle.answers.specs.Asks.{Ask, complete, page, close, explain, change, exit, other, Met, Answer, opened, turned, withdrawn, explained, accepted, refused, quiet, ended}
 
 -- What a request is answered: a result or an error.
 pub data Reply : Type 0 where
@@ -61,11 +62,17 @@ abbrev pub without_list : Option HoleSite → Reply
 without_list None = result null
 without_list (Some site) = failure (invalid_params 2 0)
 
+-- No explanation: cause 6 is for a cursor that isn't kept, 20 for an item that wasn't answered.
+abbrev pub not_explained : Option Cursor → Reply
+not_explained None = failure (invalid_params 6 0)
+not_explained (Some c) = failure (invalid_params 20 0)
+
 -- A question of which no list or version is told: cause 6 is for a cursor that isn't kept.
 abbrev pub quiet_reply : Lists → Met → Ask → Reply
 quiet_reply l m (complete hole count) = without_list m.site
 quiet_reply l m (page k count) = failure (invalid_params 6 0)
 quiet_reply l m (close k) = if is_some (look k l.cursors) then result null else failure (invalid_params 6 0)
+quiet_reply l m (explain k item) = not_explained (look k l.cursors)
 quiet_reply l m (change c) = result null
 quiet_reply l m exit = result null
 quiet_reply l m other = result null
@@ -75,6 +82,7 @@ abbrev pub reply_of : Lists → Met → Ask → Answer → Reply
 reply_of l m a (opened c p) = result (page_data c 0 p)
 reply_of l m a (turned c p) = result (page_data c c.answered p)
 reply_of l m a (withdrawn k v n) = failure (version_withdrawn n v)
+reply_of l m a (explained c x) = result (certificate_data c.env x)
 reply_of l m a (accepted v) = result (version_answer v)
 reply_of l m a (refused fault) = failure (change_refused fault)
 reply_of l m a quiet = quiet_reply l m a

@@ -4,7 +4,8 @@ use Rattle.serde_json.specs.Data.{null}
 use Rattle.json_rpc.specs.declared.message.Id.{Id}
 use Rattle.lsp_forms.specs.Results.{capabilities, version_answer}
 use Rattle.answers.specs.Failures.{Failure, parse_error, invalid_request, unknown_method, not_initialized, invalid_params, no_class, change_refused, version_withdrawn, read_fault}
-use Rattle.answers.specs.Asks.{Answer, opened, turned, withdrawn, accepted, refused, quiet, ended}
+use Rattle.answers.specs.Asks.{Answer, opened, turned, withdrawn, explained, accepted, refused, quiet, ended}
+use Rattle.answers.specs.Certificates.{certificate_data}
 use Rattle.answers.specs.Replies.{Reply, result, failure, reply_text, page_data}
 use Rattle.answers.specs.Messages.{Outcome, replied, no_memory, silent, exited, lost}
 
@@ -53,11 +54,13 @@ abbrev pub Replies : Reply → Outcome → Type 0
 Replies reply o = (id : Id) × (o ≡ replied (reply_text (Some id) reply))
 
 -- The outcome tells the answer: a page as a list whose first item has the number of those answered before it, a withdrawal
--- and a refused change as their errors, an accepted change as its version, and nothing else where there is none of these.
+-- and a refused change as their errors, an explanation as its certificate, an accepted change as its version, and nothing else
+-- where there is none of these.
 abbrev pub Tells : Answer → Outcome → Type 0
 Tells (opened c p) o = Replies (result (page_data c 0 p)) o
 Tells (turned c p) o = Replies (result (page_data c c.answered p)) o
 Tells (withdrawn k v n) o = Replies (failure (version_withdrawn n v)) o
+Tells (explained c x) o = Replies (result (certificate_data c.env x)) o
 Tells (accepted v) o = Replies (result (version_answer v)) o
 Tells (refused fault) o = Replies (failure (change_refused fault)) o
 Tells quiet o = IsQuiet o

@@ -12,7 +12,7 @@ use Rattle.answers.specs.declared.types.Hole.{Hole}
 use Rattle.answers.specs.declared.types.Cursor.{Cursor}
 use Rattle.answers.specs.Holes.{IsSite, IsEnvironmentIn}
 use Rattle.answers.specs.Cursors.{Lists}
-use Rattle.answers.specs.Asks.{Ask, complete, Answer, opened, turned, withdrawn, accepted, refused, quiet, ended}
+use Rattle.answers.specs.Asks.{Ask, complete, Answer, opened, turned, withdrawn, explained, accepted, refused, quiet, ended}
 use Rattle.answers.specs.Turns.{Turn, answer, next}
 
 -- The items of a page of the list of a number.
@@ -20,6 +20,7 @@ abbrev pub items_of : ℕ → Answer → List Item
 items_of k (opened c p) = if c.number == k then p.items else []
 items_of k (turned c p) = if c.number == k then p.items else []
 items_of k (withdrawn j v n) = []
+items_of k (explained c x) = []
 items_of k (accepted v) = []
 items_of k (refused fault) = []
 items_of k quiet = []
@@ -35,6 +36,7 @@ abbrev pub last_by : ℕ → Bool → Answer → Bool
 last_by k b (opened c p) = if c.number == k then p.last else b
 last_by k b (turned c p) = if c.number == k then p.last else b
 last_by k b (withdrawn j v n) = b
+last_by k b (explained c x) = b
 last_by k b (accepted v) = b
 last_by k b (refused fault) = b
 last_by k b quiet = b
@@ -56,6 +58,7 @@ abbrev pub Heeds : ℕ → ℕ → Answer → List Change → Type 0
 Heeds k v (turned c p) at = c.number ≡ k → (c.version ≡ v) × (first_withdrawal at v ≡ None)
 Heeds k v (withdrawn j x n) at = j ≡ k → (x ≡ v) × (first_withdrawal at v ≡ Some n)
 Heeds k v (opened c p) at = Unit {0}
+Heeds k v (explained c x) at = Unit {0}
 Heeds k v (accepted x) at = Unit {0}
 Heeds k v (refused fault) at = Unit {0}
 Heeds k v quiet at = Unit {0}
@@ -83,6 +86,7 @@ abbrev pub PagedBy : Answer → Ask → List Change → List Answer → Lists �
 PagedBy (opened c p) ask at all after later = IsPaged ask at c all after later
 PagedBy (turned c p) ask at all after later = Unit {0}
 PagedBy (withdrawn k v n) ask at all after later = Unit {0}
+PagedBy (explained c x) ask at all after later = Unit {0}
 PagedBy (accepted v) ask at all after later = Unit {0}
 PagedBy (refused fault) ask at all after later = Unit {0}
 PagedBy quiet ask at all after later = Unit {0}
@@ -98,6 +102,7 @@ abbrev pub Shuts : ℕ → ℕ → Answer → Type 0
 Shuts k n (turned c p) = c.number ≡ k → ⊥
 Shuts k n (withdrawn j v m) = j ≡ k → m ≡ n
 Shuts k n (opened c p) = Unit {0}
+Shuts k n (explained c x) = Unit {0}
 Shuts k n (accepted x) = Unit {0}
 Shuts k n (refused fault) = Unit {0}
 Shuts k n quiet = Unit {0}

@@ -3,7 +3,7 @@ use Rattle.std.specs.Prelude.{◌≡◌, List, [], ◌∷◌, ◌++◌, Option, 
 use Rattle.decl_index.specs.declared.change.Change.{Change}
 use Rattle.answers.specs.Histories.{IsPrefix}
 use Rattle.answers.specs.Cursors.{Lists}
-use Rattle.answers.specs.Asks.{Ask, complete, page, close, change, exit, other, Met, Answer, opened, turned, withdrawn, accepted, refused, quiet, ended, list_answer_to, IsMetBy}
+use Rattle.answers.specs.Asks.{Ask, complete, page, close, explain, change, exit, other, Met, Answer, opened, turned, withdrawn, explained, accepted, refused, quiet, ended, list_answer_to, IsMetBy}
 
 -- A question and what it met.
 pub record Turn : Type 0 where
@@ -33,6 +33,7 @@ change_of (change c) = c ∷ []
 change_of (complete hole count) = []
 change_of (page k count) = []
 change_of (close k) = []
+change_of (explain k item) = []
 change_of exit = []
 change_of other = []
 
@@ -43,6 +44,7 @@ Sees known (opened c p) at made after = (at ≡ after) × IsPrefix known after
 Sees known (turned c p) at made after = (at ≡ after) × IsPrefix known after
 Sees known (withdrawn k v n) at made after = (at ≡ after) × IsPrefix known after
 Sees known (refused fault) at made after = (at ≡ after) × IsPrefix known after
+Sees known (explained c x) at made after = IsPrefix known after
 Sees known (accepted v) at made after = IsPrefix (at ++ made) after × IsPrefix known after
 Sees known quiet at made after = IsPrefix known after
 Sees known ended at made after = IsPrefix known after
@@ -58,6 +60,7 @@ told_by (opened c p) at made = Some at
 told_by (turned c p) at made = Some at
 told_by (withdrawn k v n) at made = Some at
 told_by (refused fault) at made = Some at
+told_by (explained c x) at made = None
 told_by (accepted v) at made = Some (at ++ made)
 told_by quiet at made = None
 told_by ended at made = None
@@ -68,6 +71,7 @@ Includes (opened c p) earlier at = IsPrefix earlier at
 Includes (turned c p) earlier at = IsPrefix earlier at
 Includes (withdrawn k v n) earlier at = IsPrefix earlier at
 Includes (refused fault) earlier at = IsPrefix earlier at
+Includes (explained c x) earlier at = Unit {0}
 Includes (accepted v) earlier at = Unit {0}
 Includes quiet earlier at = Unit {0}
 Includes ended earlier at = Unit {0}

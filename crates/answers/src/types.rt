@@ -1,7 +1,7 @@
 use documents::Document;
+use fingerprint::Fingerprinted;
 use listing::Item;
 use lists::{Items, Text};
-use terms::Env;
 
 /// A place in a Java text, by its byte offset, with the greatest weight and the depth of lambdas that terms may
 /// have there. The text has at most 16,777,216 bytes.
@@ -22,13 +22,13 @@ pub struct Page {
     pub grown: u64,
 }
 
-/// A list that a client pages through: its environment, the version from which that was made, how many items
+/// A list that a client pages through: its environment, with the fingerprint that is made once for it, the version from which that was made, how many items
 /// were answered, and the range of the text that an item replaces. `start` and `end` are each a line and a
 /// UTF-16 unit of it, both counted from 0, as the text was when the cursor was made.
 #[derive(Drop)]
 pub struct Cursor {
     pub number: u32,
-    pub env: Env,
+    pub env: Fingerprinted,
     pub version: u32,
     pub start: (u32, u32),
     pub end: (u32, u32),

@@ -21,9 +21,10 @@ use Rattle.sessions.specs.Loads.{Give, IsLoaded}
 use Rattle.sessions.specs.Questions.{Answers, MayLeave, Touches}
 use Rattle.sessions.specs.Outcomes.{replied_or}
 use Rattle.sessions.specs.Meets.{Meets, Answered}
+use Rattle.terms.specs.Weights.{usual_steps}
 
 abbrev pub met_with : Short → Met
-met_with short = record { at = []; loads = classes []; site = None; env = record { types = []; pairs = []; decls = []; goal = 0; limit = 0; depth = 0; binder = [] }; page = record { items = []; last = false; grown = 0 }; fault = None; short = short }
+met_with short = record { at = []; loads = classes []; site = None; env = record { types = []; pairs = []; decls = []; goal = 0; limit = 0; depth = 0; binder = []; steps = usual_steps }; page = record { items = []; last = false; grown = 0 }; term = None; floors = []; fault = None; short = short }
 
 -- No file is named.
 give_none : (holds : Option (List HeldFile)) → Give holds [] (classes [])

@@ -11,6 +11,7 @@ use Rattle.java_units.specs.declared.types.Unit as unit
 use Rattle.java_bodies.specs.declared.site.HoleSite.{HoleSite}
 use Rattle.json_rpc.specs.declared.message.Id.{Id}
 use Rattle.lsp_forms.specs.declared.forms.Initialize.{Initialize}
+use Rattle.terms.specs.Weights.{usual_steps}
 use Rattle.terms.specs.declared.parts.Parts.{Parts}
 use Rattle.answers.specs.declared.types.Page.{Page}
 use Rattle.answers.specs.declared.types.Cursor.{Cursor}
@@ -30,14 +31,14 @@ use Rattle.sessions.proofs.KeptCursors.{look_at, numbered}
 use Rattle.sessions.proofs.WorldReads.{read_then, may_read, stays, read_and, may_then}
 
 abbrev no_env : Parts
-no_env = record { types = []; pairs = []; decls = []; goal = 0; limit = 0; depth = 0; binder = [] }
+no_env = record { types = []; pairs = []; decls = []; goal = 0; limit = 0; depth = 0; binder = []; steps = usual_steps }
 
 abbrev no_page : Page
 no_page = record { items = []; last = false; grown = 0 }
 
 -- What is met where the world isn't touched.
 abbrev met_at : Option HoleSite → Met
-met_at site = record { at = []; loads = classes []; site = site; env = no_env; page = no_page; fault = None; short = Enough }
+met_at site = record { at = []; loads = classes []; site = site; env = no_env; page = no_page; term = None; floors = []; fault = None; short = Enough }
 
 site_of : (text : List ℕ) (place : ℕ) (options : Initialize) (u : unit.Unit) (site : Option HoleSite) → IsSpot text place u site → IsSite (hole_in text place options) site
 site_of text place options u site h = record { tokens = h.tokens; unit = u; lexed = h.lexed; parsed = h.parsed; is = h.is }
@@ -92,7 +93,7 @@ opens l next id text place options u site s c reply old mid new h some e made re
     let hole : Hole = hole_in text place options in
     let start : ℕ × ℕ = position_of (chars text) s.prefix.0 in
     let end : ℕ × ℕ = position_of (chars text) s.prefix.1 in
-    let met : Met = record { at = mid.known; loads = classes []; site = Some s; env = c.env; page = op.page; fault = None; short = Enough } in
+    let met : Met = record { at = mid.known; loads = classes []; site = Some s; env = c.env; page = op.page; term = None; floors = []; fault = None; short = Enough } in
     let spot : IsSpot text place u (Some s) = subst (λ o. IsSpot text place u o) some h in
     let cursor : answering c op.page ≡ new_cursor l met hole s =
     let n : ℕ = length op.page.items in
@@ -130,7 +131,7 @@ pub turns : (l next : Lists) (id : Id) (k i n : ℕ) (c : Cursor) (p : Page) (re
     → next ≡ record l { cursors = moved k (length p.items) l.cursors } → reply ≡ reply_text (Some id) (result (page_data c c.answered p))
     → Answers l (page k n) id next reply old new
 turns l next id k i n c p reply old mid new stands at stays_on read same is_page to told =
-    let met : Met = record { at = mid.known; loads = classes []; site = None; env = no_env; page = p; fault = None; short = Enough } in
+    let met : Met = record { at = mid.known; loads = classes []; site = None; env = no_env; page = p; term = None; floors = []; fault = None; short = Enough } in
     let here : look k l.cursors ≡ Some c = look_at k i l.cursors c stands at in
     let number : c.number ≡ k = numbered k i l.cursors c stands at in
     let answer : paged l met (look k l.cursors) ≡ (record l { cursors = moved c.number (length p.items) l.cursors }, turned c p) = found l met k c None here (sym stays_on) in
@@ -153,7 +154,7 @@ pub gone : (l : Lists) (id : Id) (k i n through : ℕ) (c : Cursor) (reply : Lis
     → reply ≡ reply_text (Some id) (failure (version_withdrawn through c.version))
     → Answers l (page k n) id l reply old new
 gone l id k i n through c reply old new stands at out read told =
-    let met : Met = record { at = new.known; loads = classes []; site = None; env = no_env; page = no_page; fault = None; short = Enough } in
+    let met : Met = record { at = new.known; loads = classes []; site = None; env = no_env; page = no_page; term = None; floors = []; fault = None; short = Enough } in
     let here : look k l.cursors ≡ Some c = look_at k i l.cursors c stands at in
     let answer : paged l met (look k l.cursors) ≡ (l, withdrawn c.number c.version through) = found l met k c (Some through) here (sym out) in
     record {

@@ -25,13 +25,14 @@ use Rattle.sessions.specs.Texts.{version_text}
 use Rattle.sessions.specs.Outcomes.{replied_or}
 use Rattle.sessions.specs.Meets.{Answered}
 use Rattle.sessions.proofs.Answering.{met_with, none_loaded, asked_in_vain}
+use Rattle.terms.specs.Weights.{usual_steps}
 
 -- What a change meets that is made at a history, and one that is refused after it.
 abbrev made_at : Loaded → List Change → Met
-made_at loads at = record { at = at; loads = loads; site = None; env = record { types = []; pairs = []; decls = []; goal = 0; limit = 0; depth = 0; binder = [] }; page = record { items = []; last = false; grown = 0 }; fault = None; short = Enough }
+made_at loads at = record { at = at; loads = loads; site = None; env = record { types = []; pairs = []; decls = []; goal = 0; limit = 0; depth = 0; binder = []; steps = usual_steps }; page = record { items = []; last = false; grown = 0 }; term = None; floors = []; fault = None; short = Enough }
 
 abbrev refused_at : Loaded → List Change → ChangeFault → Met
-refused_at loads at fault = record { at = at; loads = loads; site = None; env = record { types = []; pairs = []; decls = []; goal = 0; limit = 0; depth = 0; binder = [] }; page = record { items = []; last = false; grown = 0 }; fault = Some fault; short = Enough }
+refused_at loads at fault = record { at = at; loads = loads; site = None; env = record { types = []; pairs = []; decls = []; goal = 0; limit = 0; depth = 0; binder = []; steps = usual_steps }; page = record { items = []; last = false; grown = 0 }; term = None; floors = []; fault = Some fault; short = Enough }
 
 -- The session and the reply are those of the change.
 made_answer : (s t : Seen) (id : Id) (c : Change) (loads : Loaded) (reply : List ℕ) (old new : WorldState) (m : IsChangeMade c id reply old new) → t ≡ s
@@ -149,7 +150,7 @@ classes_told s id names removes counts files puts r old mid new h is changed lea
     published_by s id names removes counts puts r old mid new (told_here names files (variant.Classes puts) old mid h is) h.leaves h.none changed learns
 
 abbrev met_files : Loaded → Met
-met_files loads = record { at = []; loads = loads; site = None; env = record { types = []; pairs = []; decls = []; goal = 0; limit = 0; depth = 0; binder = [] }; page = record { items = []; last = false; grown = 0 }; fault = None; short = Enough }
+met_files loads = record { at = []; loads = loads; site = None; env = record { types = []; pairs = []; decls = []; goal = 0; limit = 0; depth = 0; binder = []; steps = usual_steps }; page = record { items = []; last = false; grown = 0 }; term = None; floors = []; fault = None; short = Enough }
 
 -- One of its files gave no class.
 file_told : (s : Seen) (id : Id) (names removes : List (List ℕ)) (counts : List (List ℕ × ℕ)) (o : Loaded) (f : Failure) (r : Result (Vec ℕ Global) AllocError) (old new : WorldState) {P : Type 0}

@@ -1,16 +1,17 @@
 -- The reply to a command, and to a request by its method.
-use Rattle.std.proofs.Common.{◌≡◌, ℕ, sym, ap, subst, refl, List, true, false, Some, Result, Ok, Err, Vec, Global}
+use Rattle.std.proofs.Common.{◌≡◌, ℕ, sym, ap, subst, refl, List, true, false, Option, Some, Result, Ok, Err, Vec, Global}
 use Rattle.std.specs.Prelude.{IfOk, OnErr, codes, bytes_eq}
 use Rattle.std.specs.declared.alloc.AllocError.{AllocError}
 use Rattle.serde_json.specs.Data.{Data}
-use Rattle.decl_index.specs.declared.change.Change.TheVariants.{Withdraw}
+use Rattle.decl_index.specs.declared.change.Change.TheVariants.{Withdraw, SetWeights}
+use Rattle.decl_index.specs.declared.weights.Weights.{Weights}
 use Rattle.json_rpc.specs.declared.message.Id.{Id}
 use Rattle.lsp_forms.specs.declared.forms.Command.{Command}
 use Rattle.lsp_forms.specs.declared.forms.Command.TheVariants as command
 use Rattle.lsp_forms.specs.Forms.{completion_of}
 use Rattle.lsp_forms.specs.Commands.{command_of}
 use Rattle.answers.specs.Cursors.{Lists}
-use Rattle.answers.specs.Asks.{page, close}
+use Rattle.answers.specs.Asks.{page, close, explain}
 use Rattle.answers.specs.Sessions.{Seen}
 use Rattle.answers.specs.Replies.{failure, reply_text}
 use Rattle.answers.specs.Failures.{invalid_request, unknown_method}
@@ -50,6 +51,14 @@ untouched : (r : Result (Vec ℕ Global) AllocError) (w : WorldState) → OnErr 
 untouched (Ok b) w = tt
 untouched (Err e) w = refl
 
+stays_put : (r : Result (Vec ℕ Global) AllocError) (l : Lists) → OnErr r (l ≡ l)
+stays_put (Ok b) l = tt
+stays_put (Err e) l = refl
+
+untouched_by : (r : Result (Vec ℕ Global) AllocError) (old new : WorldState) → new ≡ old → OnErr r (new ≡ old)
+untouched_by (Ok b) old new same = tt
+untouched_by (Err e) old new same = same
+
 pub closes : (s t : Seen) (id : Id) (d : Data) (k : ℕ) (lists next : Lists) (r : Result (Vec ℕ Global) AllocError) (w : WorldState)
     → command_of d ≡ Ok (command.Close k) → lists ≡ s.lists
     → IfOk r (λ reply. (v : WorldState) → Answers lists (close k) id next reply.items v v) → OnErr r (next ≡ lists) → t ≡ record s { lists = next }
@@ -58,6 +67,15 @@ closes s t id d k lists next r w is from answers unchanged to =
     let here : IfOk r (λ reply. Answers s.lists (close k) id next reply.items w w) = subst (λ l. IfOk r (λ reply. Answers l (close k) id next reply.items w w)) from (closed_at lists id k next r w answers) in
     let kept : OnErr r (next ≡ s.lists) = subst (λ l. OnErr r (next ≡ l)) from unchanged in
     formed s t id d (command.Close k) (replied_or id r) w w is (asked_by s t id (close k) next r w w here kept (untouched r w) to)
+
+-- An item of a list, or a list, is explained, and the world isn't touched.
+pub explains : (s t : Seen) (id : Id) (d : Data) (k : ℕ) (item : Option ℕ) (lists : Lists) (r : Result (Vec ℕ Global) AllocError) (old new : WorldState)
+    → command_of d ≡ Ok (command.Explain k item) → lists ≡ s.lists
+    → IfOk r (λ reply. Answers lists (explain k item) id lists reply.items old new) → new ≡ old → t ≡ s
+    → Answered s (command_by id (command_of d)) t (replied_or id r) old new
+explains s t id d k item lists r old new is from answers same to =
+    let here : IfOk r (λ reply. Answers s.lists (explain k item) id s.lists reply.items old new) = subst (λ l. IfOk r (λ reply. Answers l (explain k item) id l reply.items old new)) from answers in
+    formed s t id d (command.Explain k item) (replied_or id r) old new is (asked_by s t id (explain k item) s.lists r old new here (stays_put r s.lists) (untouched_by r old new same) to)
 
 -- A publication.
 pub publishes_so : (s t : Seen) (id : Id) (d : Data) (names removes : List (List ℕ)) (counts : List (List ℕ × ℕ)) (r : Result (Vec ℕ Global) AllocError) (old new : WorldState)
@@ -72,6 +90,13 @@ pub withdraws_so : (s t : Seen) (id : Id) (d : Data) (through : ℕ) (r : Result
     → Answered s (command_by id (command_of d)) t (replied_or id r) old new
 withdraws_so s t id d through r old new is changed learns to =
     formed s t id d (command.Withdraw through) (replied_or id r) old new is (changed_by s t id (Withdraw through) r old new changed learns to)
+
+-- A setting of weights.
+pub sets_so : (s t : Seen) (id : Id) (d : Data) (w : Weights) (r : Result (Vec ℕ Global) AllocError) (old new : WorldState)
+    → command_of d ≡ Ok (command.SetWeights w) → IfOk r (λ reply. IsChanged (SetWeights w) id reply.items old new) → OnErr r (Learns old new) → t ≡ s
+    → Answered s (command_by id (command_of d)) t (replied_or id r) old new
+sets_so s t id d w r old new is changed learns to =
+    formed s t id d (command.SetWeights w) (replied_or id r) old new is (changed_by s t id (SetWeights w) r old new changed learns to)
 
 -- A request by its method.
 pub by_completion : (s t : Seen) (id : Id) (method : List ℕ) (d : Data) (said : Outcome) (old new : WorldState)

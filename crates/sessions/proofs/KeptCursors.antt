@@ -7,6 +7,7 @@ use Rattle.std.proofs.lemmas.List.Quantifiers.{position-Some}
 use Rattle.answers.specs.declared.types.Cursor.{Cursor}
 use Rattle.answers.specs.Cursors.{look, moved, without}
 use Rattle.sessions.proofs.Cases.{find_there, find_nowhere}
+use Rattle.terms.specs.Weights.{usual_steps}
 
 look_find : (k : ℕ) (cs : List Cursor) → look k cs ≡ find (λ c. c.number == k) cs
 unfolding look
@@ -23,7 +24,7 @@ pub look_nowhere : (k : ℕ) (cs : List Cursor) → position (λ c. c.number == 
 look_nowhere k cs e = look_find k cs ∙ find_nowhere (λ c. c.number == k) cs e
 
 abbrev nobody : Cursor
-nobody = record { number = 0; env = record { types = []; pairs = []; decls = []; goal = 0; limit = 0; depth = 0; binder = [] }; version = 0; start = (0, 0); end = (0, 0); answered = 0 }
+nobody = record { number = 0; env = record { types = []; pairs = []; decls = []; goal = 0; limit = 0; depth = 0; binder = []; steps = usual_steps }; version = 0; start = (0, 0); end = (0, 0); answered = 0 }
 
 -- It stands within the list.
 pub within : (k i : ℕ) (cs : List Cursor) → position (λ c. c.number == k) cs ≡ Some i → i < length cs

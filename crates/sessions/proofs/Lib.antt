@@ -20,6 +20,7 @@ pub mod Finishing
 pub mod MemWorlds
 pub mod Statuses
 pub mod Completed
+pub mod Explained
 pub mod Changing
 pub mod Commanded
 pub mod Versions

@@ -24,10 +24,11 @@ use Rattle.sessions.specs.Outcomes.{silent_or}
 use Rattle.sessions.specs.Meets.{Answered}
 use Rattle.sessions.proofs.Answering.{none_loaded, lacking_loaded, ending_loaded}
 use Rattle.sessions.proofs.Cases.{by_test}
+use Rattle.terms.specs.Weights.{usual_steps}
 
 -- What is met where no question is asked.
 abbrev met_by : Short → Met
-met_by short = record { at = []; loads = classes []; site = None; env = record { types = []; pairs = []; decls = []; goal = 0; limit = 0; depth = 0; binder = [] }; page = record { items = []; last = false; grown = 0 }; fault = None; short = short }
+met_by short = record { at = []; loads = classes []; site = None; env = record { types = []; pairs = []; decls = []; goal = 0; limit = 0; depth = 0; binder = []; steps = usual_steps }; page = record { items = []; last = false; grown = 0 }; term = None; floors = []; fault = None; short = short }
 
 -- A session whose documents are as they were.
 documents_same : (s t : Seen) (ds : List OpenDocument) → t ≡ record s { documents = ds } → ds ≡ s.documents → t ≡ s

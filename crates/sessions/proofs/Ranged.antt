@@ -1,6 +1,7 @@
--- Options and counts that are well formed are in their ranges.
+-- Options, counts and weights that are well formed are in their ranges.
 use Rattle.std.proofs.Common.{◌≡◌, ℕ, ◌≤◌, ◌&&◌, Bool, true, false, nat_le, subst, refl, arith, List, Option, Some, None, Result, Ok, Err}
 use Rattle.std.specs.Prelude.{if◌then◌else◌, codes, bytes_eq}
+use Rattle.std.specs.List.{list_all}
 use Rattle.std.proofs.lemmas.Bool.{leb-true, and_parts}
 use Rattle.serde_json.specs.Data.{Data, Num, unsigned, negative, float, Items, no_items, item, null, boolean, number, string, array, object}
 use Rattle.serde_json.specs.Find.{get, as_str}
@@ -8,10 +9,14 @@ use Rattle.terms.specs.Faults.{greatest_depth}
 use Rattle.lsp_forms.specs.declared.forms.ParamFault.{ParamFault}
 use Rattle.lsp_forms.specs.declared.forms.Initialize.{Initialize}
 use Rattle.lsp_forms.specs.declared.forms.Command.{Command}
-use Rattle.lsp_forms.specs.declared.forms.Command.TheVariants.{Page, Close, Publish, Withdraw}
+use Rattle.lsp_forms.specs.declared.forms.Command.TheVariants.{Page, Close, Explain, Publish, Withdraw, SetWeights}
 use Rattle.lsp_forms.specs.Params.{whole, every, fault, numbered, number_of, member_of, text_of}
 use Rattle.lsp_forms.specs.Forms.{whole_or, options_in, options_from, initialize_from, initialize_of, optional}
-use Rattle.lsp_forms.specs.Commands.{word, page_at, page_from, page_of, one_at, one_from, close_of, withdraw_of, published, publish_at, publish_from, publish_of, list_of, named_command, command_from, command_of, only_object, is_text, is_pair, counts, pair_of, path_from_text, name_from_text, use_from_pair}
+use Rattle.lsp_forms.specs.Commands.{word, page_at, page_from, page_of, one_at, one_from, close_of, word_if, explain_at, explain_from, explain_of, withdraw_of, published, publish_at, publish_from, publish_of, list_of, named_command, command_from, command_of, only_object, is_text, is_pair, counts, pair_of, path_from_text, name_from_text, use_from_pair}
+use Rattle.decl_index.specs.declared.weights.Weights.{Weights}
+use Rattle.decl_index.specs.Weighing.{AreWeights}
+use Rattle.lsp_forms.specs.Weighing.{weight_names, is_number, is_word, weights_in, may_weigh, weights_of}
+use Rattle.lsp_forms.proofs.Weighing.{are-from-may}
 use Rattle.sessions.specs.Options.{AreInRange}
 
 chosen : (b : Bool) (n x : ℕ) → (if b then Some n else None) ≡ Some x → (b ≡ true) × (n ≡ x)
@@ -76,13 +81,15 @@ initialize_ranged (Some (object ms)) o e = from_ranged (optional (get (codes "li
 pub options_in_range : (d : Data) (o : Initialize) → initialize_of d ≡ Ok o → AreInRange o
 options_in_range d o e = initialize_ranged (get (codes "initializationOptions") d) o e
 
--- A page that is asked for has from 1 to 1000 items.
+-- A page that is asked for has from 1 to 1000 items, and weights that are set are in their ranges.
 abbrev IsFair : Result Command ParamFault → Type 0
 IsFair (Err f) = Unit {0}
 IsFair (Ok (Page k n)) = (1 ≤ n) × (n ≤ 1000)
 IsFair (Ok (Close k)) = Unit {0}
+IsFair (Ok (Explain k i)) = Unit {0}
 IsFair (Ok (Publish a b c)) = Unit {0}
 IsFair (Ok (Withdraw k)) = Unit {0}
+IsFair (Ok (SetWeights w)) = AreWeights w
 
 fair_page : (cursor count : Option ℕ) → Within 1 1000 count → IsFair (page_at cursor count)
 unfolding page_at
@@ -105,6 +112,18 @@ fair_one_from : (f : ℕ → Command) (o : Option Num) → ((n : ℕ) → IsFair
 unfolding one_from
 fair_one_from f None p = tt
 fair_one_from f (Some n) p = fair_one f (word n) p
+
+fair_explain : (cursor : Option ℕ) (i : Option (Option ℕ)) → IsFair (explain_at cursor i)
+unfolding explain_at
+fair_explain None i = tt
+fair_explain (Some k) None = tt
+fair_explain (Some k) (Some i) = tt
+
+fair_explain_from : (cursor : Option Num) (i : Option (Option Num)) → IsFair (explain_from cursor i)
+unfolding explain_from
+fair_explain_from None i = tt
+fair_explain_from (Some k) None = tt
+fair_explain_from (Some k) (Some i) = fair_explain (word k) (word_if i)
 
 fair_published : (a : Result (List (List ℕ)) ParamFault) (b : Result (List (List ℕ)) ParamFault) (c : Result (List (List ℕ × ℕ)) ParamFault) → IsFair (published a b c)
 unfolding published
@@ -143,20 +162,43 @@ fair_publish (Some d) = fair_publish_from (list_of (get (codes "put") d)) (list_
 abbrev or_withdraw : List ℕ → Option Data → Result Command ParamFault
 or_withdraw name o = if bytes_eq name (codes "insynth.withdraw") then withdraw_of o else Err (fault 7)
 
+abbrev or_weights : List ℕ → Option Data → Result Command ParamFault
+or_weights name o = if bytes_eq name (codes "insynth.weights") then weights_of o else or_withdraw name o
+
 abbrev or_publish : List ℕ → Option Data → Result Command ParamFault
-or_publish name o = if bytes_eq name (codes "insynth.publish") then publish_of o else or_withdraw name o
+or_publish name o = if bytes_eq name (codes "insynth.publish") then publish_of o else or_weights name o
+
+abbrev or_explain : List ℕ → Option Data → Result Command ParamFault
+or_explain name o = if bytes_eq name (codes "insynth.explain") then explain_of o else or_publish name o
 
 abbrev or_close : List ℕ → Option Data → Result Command ParamFault
-or_close name o = if bytes_eq name (codes "insynth.close") then close_of o else or_publish name o
+or_close name o = if bytes_eq name (codes "insynth.close") then close_of o else or_explain name o
 
 fair_withdraw : (name : List ℕ) (o : Option Data) → IsFair (or_withdraw name o)
 fair_withdraw name o = fair_if (bytes_eq name (codes "insynth.withdraw")) (withdraw_of o) (Err (fault 7)) (fair_one_from Withdraw (number_of (member_of (codes "through") o)) (λ n. tt)) tt
 
+fair_set : (o : Option Data) (b : Bool) → (list_all (is_word o) weight_names && may_weigh (weights_in o)) ≡ b → IsFair (if b then Ok (SetWeights (weights_in o)) else Err (fault 2))
+fair_set o true e = are-from-may (weights_in o) (and_parts (list_all (is_word o) weight_names) (may_weigh (weights_in o)) e).1
+fair_set o false e = tt
+
+fair_weights_of : (o : Option Data) → IsFair (weights_of o)
+unfolding weights_of
+fair_weights_of o =
+    fair_if (list_all (is_number o) weight_names) (if list_all (is_word o) weight_names && may_weigh (weights_in o) then Ok (SetWeights (weights_in o)) else Err (fault 2)) (Err (fault 1))
+    (fair_set o (list_all (is_word o) weight_names && may_weigh (weights_in o)) refl) tt
+
+fair_or_weights : (name : List ℕ) (o : Option Data) → IsFair (or_weights name o)
+fair_or_weights name o = fair_if (bytes_eq name (codes "insynth.weights")) (weights_of o) (or_withdraw name o) (fair_weights_of o) (fair_withdraw name o)
+
 fair_or_publish : (name : List ℕ) (o : Option Data) → IsFair (or_publish name o)
-fair_or_publish name o = fair_if (bytes_eq name (codes "insynth.publish")) (publish_of o) (or_withdraw name o) (fair_publish o) (fair_withdraw name o)
+fair_or_publish name o = fair_if (bytes_eq name (codes "insynth.publish")) (publish_of o) (or_weights name o) (fair_publish o) (fair_or_weights name o)
+
+fair_or_explain : (name : List ℕ) (o : Option Data) → IsFair (or_explain name o)
+fair_or_explain name o =
+    fair_if (bytes_eq name (codes "insynth.explain")) (explain_of o) (or_publish name o) (fair_explain_from (number_of (member_of (codes "cursor") o)) (optional (member_of (codes "item") o))) (fair_or_publish name o)
 
 fair_close : (name : List ℕ) (o : Option Data) → IsFair (or_close name o)
-fair_close name o = fair_if (bytes_eq name (codes "insynth.close")) (close_of o) (or_publish name o) (fair_one_from Close (number_of (member_of (codes "cursor") o)) (λ n. tt)) (fair_or_publish name o)
+fair_close name o = fair_if (bytes_eq name (codes "insynth.close")) (close_of o) (or_explain name o) (fair_one_from Close (number_of (member_of (codes "cursor") o)) (λ n. tt)) (fair_or_explain name o)
 
 fair_named : (name : List ℕ) (o : Option Data) → IsFair (named_command name o)
 unfolding named_command
@@ -168,5 +210,11 @@ unfolding command_from
 fair_from None o = tt
 fair_from (Some name) o = fair_named name o
 
+fair : (d : Data) → IsFair (command_of d)
+fair d = fair_from (text_of (get (codes "command") d)) (only_object (get (codes "arguments") d))
+
+pub fair_weights : (d : Data) (w : Weights) → command_of d ≡ Ok (SetWeights w) → AreWeights w
+fair_weights d w e = subst IsFair e (fair d)
+
 pub fair_count : (d : Data) (k n : ℕ) → command_of d ≡ Ok (Page k n) → (1 ≤ n) × (n ≤ 1000)
-fair_count d k n e = subst IsFair e (fair_from (text_of (get (codes "command") d)) (only_object (get (codes "arguments") d)))
+fair_count d k n e = subst IsFair e (fair d)

@@ -19,7 +19,7 @@ use Rattle.lsp_forms.specs.Commands.{command_of}
 use Rattle.answers.specs.declared.types.Phase.TheVariants.{Fresh, Running, Stopped}
 use Rattle.answers.specs.declared.types.DocumentState.{DocumentState}
 use Rattle.answers.specs.declared.types.DocumentState.TheVariants.{Sure, Unsure, NoMemory}
-use Rattle.answers.specs.Asks.{Ask, complete, page, close, change, exit, other, Lacking, classes}
+use Rattle.answers.specs.Asks.{Ask, complete, page, close, explain, change, exit, other, Lacking, classes}
 use Rattle.answers.specs.Sessions.{Seen, document_of}
 use Rattle.answers.specs.Replies.{failure, reply_text}
 use Rattle.answers.specs.Failures.{invalid_request, not_initialized, invalid_params}
@@ -39,6 +39,7 @@ leaves_same : (ask : Ask) (old new : WorldState) → new ≡ old → MayLeave as
 leaves_same (complete hole count) old new e = stays old new e
 leaves_same (page k count) old new e = stays old new e
 leaves_same (close k) old new e = e
+leaves_same (explain k item) old new e = e
 leaves_same (change c) old new e = nothing_learnt old new e
 leaves_same exit old new e = e
 leaves_same other old new e = e
@@ -76,8 +77,10 @@ lacks_command : (s : Seen) (id : Id) (r : Result Command ParamFault) → lacking
 lacks_command s id (Err f) = refl
 lacks_command s id (Ok (command.Page k n)) = refl
 lacks_command s id (Ok (command.Close k)) = refl
+lacks_command s id (Ok (command.Explain k i)) = refl
 lacks_command s id (Ok (command.Publish a b c)) = refl
 lacks_command s id (Ok (command.Withdraw k)) = refl
+lacks_command s id (Ok (command.SetWeights w)) = refl
 
 -- Parameters that were refused, whatever form was wanted.
 refused : {X : Type 0} (s t : Seen) (id : Id) (means : Result X ParamFault → Meaning) (wanted : Result X ParamFault) (e : Refused ParamFault) (r : Result (Vec ℕ Global) AllocError) (old new : WorldState)

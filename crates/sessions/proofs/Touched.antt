@@ -3,7 +3,7 @@ use Rattle.std.proofs.Common.{◌≡◌, inl, inr, ⊎_elim, List, ◌∷◌, �
 use Rattle.std.specs.Prelude.{option_map}
 use Rattle.decl_index.specs.declared.change.Change.{Change}
 use Rattle.answers.specs.Cursors.{Lists}
-use Rattle.answers.specs.Asks.{Ask, complete, page, close, change, exit, other, Short, Enough, Lacking, Ending, Met, Answer, opened, turned, withdrawn, accepted, refused, quiet, ended, by_ask, by_short, lacking}
+use Rattle.answers.specs.Asks.{Ask, complete, page, close, explain, change, exit, other, Short, Enough, Lacking, Ending, Met, Answer, opened, turned, withdrawn, explained, accepted, refused, quiet, ended, by_ask, by_short, lacking}
 use Rattle.answers.specs.Turns.{change_of, Sees}
 use Rattle.answers.proofs.Chains.{prefix_is}
 use Rattle.sessions.specs.Worlds.{WorldState, IsRead, MayRead}
@@ -18,12 +18,14 @@ leaves_sees (withdrawn k v n) at made old new w = (w.0, w.1.later)
 leaves_sees (accepted v) at made old new w = (w.stands, w.later)
 leaves_sees (refused f) at made old new w = (w.0, w.2.later)
 leaves_sees quiet at made old new w = prefix_is old.known new.known (ap (λ (x : WorldState). x.known) (sym w))
+leaves_sees (explained c x) at made old new w = prefix_is old.known new.known (ap (λ (x : WorldState). x.known) (sym w))
 leaves_sees ended at made old new w = prefix_is old.known new.known (ap (λ (x : WorldState). x.known) (sym w))
 
 may_sees : (ask : Ask) (l : Lists) (at made : List Change) (old new : WorldState) → MayLeave ask old new → Sees old.known (lacking l ask).1 at made new.known
 may_sees (complete hole count) l at made old new w = w.later
 may_sees (page k count) l at made old new w = w.later
 may_sees (close k) l at made old new w = prefix_is old.known new.known (ap (λ (x : WorldState). x.known) (sym w))
+may_sees (explain k item) l at made old new w = prefix_is old.known new.known (ap (λ (x : WorldState). x.known) (sym w))
 may_sees (change c) l at made old new w = w.later
 may_sees exit l at made old new w = prefix_is old.known new.known (ap (λ (x : WorldState). x.known) (sym w))
 may_sees other l at made old new w = prefix_is old.known new.known (ap (λ (x : WorldState). x.known) (sym w))
@@ -45,6 +47,7 @@ leaves_adds (withdrawn k v n) at made old new w = read_adds at old new w
 leaves_adds (accepted v) at made old new w = w.reads
 leaves_adds (refused f) at made old new w = w.2.reads
 leaves_adds quiet at made old new w = ap (λ (x : WorldState). x.reads) w
+leaves_adds (explained c x) at made old new w = ap (λ (x : WorldState). x.reads) w
 leaves_adds ended at made old new w = ap (λ (x : WorldState). x.reads) w
 
 may_read_adds : (old new : WorldState) → MayRead old new → MayAddRead old.reads new.reads
@@ -54,6 +57,7 @@ may_adds : (ask : Ask) (old new : WorldState) → MayLeave ask old new → MayAd
 may_adds (complete hole count) old new w = may_read_adds old new w
 may_adds (page k count) old new w = may_read_adds old new w
 may_adds (close k) old new w = ap (λ (x : WorldState). x.reads) w
+may_adds (explain k item) old new w = ap (λ (x : WorldState). x.reads) w
 may_adds (change c) old new w = w.reads
 may_adds exit old new w = ap (λ (x : WorldState). x.reads) w
 may_adds other old new w = ap (λ (x : WorldState). x.reads) w
@@ -75,12 +79,14 @@ leaves_whole (withdrawn k v n) at made old new w = w.1.whole
 leaves_whole (accepted v) at made old new w = grown_whole old.whole at made new.known new.whole w.grown
 leaves_whole (refused f) at made old new w = w.2.whole
 leaves_whole quiet at made old new w = ap (λ (x : WorldState). x.whole) w
+leaves_whole (explained c x) at made old new w = ap (λ (x : WorldState). x.whole) w
 leaves_whole ended at made old new w = ap (λ (x : WorldState). x.whole) w
 
 may_whole : (ask : Ask) (l : Lists) (made : List Change) (old new : WorldState) → MayLeave ask old new → new.whole ≡ whole_after old.whole (lacking l ask).1 made
 may_whole (complete hole count) l made old new w = w.whole
 may_whole (page k count) l made old new w = w.whole
 may_whole (close k) l made old new w = ap (λ (x : WorldState). x.whole) w
+may_whole (explain k item) l made old new w = ap (λ (x : WorldState). x.whole) w
 may_whole (change c) l made old new w = w.whole
 may_whole exit l made old new w = ap (λ (x : WorldState). x.whole) w
 may_whole other l made old new w = ap (λ (x : WorldState). x.whole) w
@@ -99,12 +105,14 @@ leaves_files (withdrawn k v n) at made old new w = (w.1.holds, w.1.faults)
 leaves_files (accepted v) at made old new w = (w.holds, w.faults)
 leaves_files (refused f) at made old new w = (w.2.holds, w.2.faults)
 leaves_files quiet at made old new w = (ap (λ (x : WorldState). x.holds) w, ap (λ (x : WorldState). x.faults) w)
+leaves_files (explained c x) at made old new w = (ap (λ (x : WorldState). x.holds) w, ap (λ (x : WorldState). x.faults) w)
 leaves_files ended at made old new w = (ap (λ (x : WorldState). x.holds) w, ap (λ (x : WorldState). x.faults) w)
 
 may_files : (ask : Ask) (old new : WorldState) → MayLeave ask old new → (new.holds ≡ old.holds) × (new.faults ≡ old.faults)
 may_files (complete hole count) old new w = (w.holds, w.faults)
 may_files (page k count) old new w = (w.holds, w.faults)
 may_files (close k) old new w = (ap (λ (x : WorldState). x.holds) w, ap (λ (x : WorldState). x.faults) w)
+may_files (explain k item) old new w = (ap (λ (x : WorldState). x.holds) w, ap (λ (x : WorldState). x.faults) w)
 may_files (change c) old new w = (w.holds, w.faults)
 may_files exit old new w = (ap (λ (x : WorldState). x.holds) w, ap (λ (x : WorldState). x.faults) w)
 may_files other old new w = (ap (λ (x : WorldState). x.holds) w, ap (λ (x : WorldState). x.faults) w)

@@ -11,6 +11,7 @@ pub mod Loading
 pub mod Changed
 pub mod Spots
 pub mod Opened
+pub mod Explained
 pub mod Questions
 pub mod Outcomes
 pub mod Refusing

@@ -3,7 +3,7 @@ use Rattle.std.specs.Prelude.{◌≡◌, ℕ, List, [], Some}
 use Rattle.decl_index.specs.declared.change.Change.{Change}
 use Rattle.json_rpc.specs.declared.message.Id.{Id}
 use Rattle.answers.specs.Cursors.{Lists}
-use Rattle.answers.specs.Asks.{Ask, complete, page, close, change, exit, other, Short, Enough, Lacking, Ending, Met, classes, Answer, opened, turned, withdrawn, accepted, refused, quiet, ended, list_answer_to, IsMetBy}
+use Rattle.answers.specs.Asks.{Ask, complete, page, close, explain, change, exit, other, Short, Enough, Lacking, Ending, Met, classes, Answer, opened, turned, withdrawn, explained, accepted, refused, quiet, ended, list_answer_to, IsMetBy}
 use Rattle.answers.specs.Turns.{change_of}
 use Rattle.answers.specs.Replies.{reply_text, reply_of}
 use Rattle.sessions.specs.Worlds.{WorldState, IsWholeOf, IsRead, MayRead}
@@ -16,6 +16,7 @@ abbrev pub Leaves : Answer → List Change → List Change → WorldState → Wo
 Leaves (opened c p) at made old new = (at ≡ new.known) × IsRead old new
 Leaves (turned c p) at made old new = (at ≡ new.known) × IsRead old new
 Leaves (withdrawn k v n) at made old new = (at ≡ new.known) × IsRead old new
+Leaves (explained c x) at made old new = new ≡ old
 Leaves (accepted v) at made old new = Adds at made old new
 Leaves (refused fault) at made old new = (at ≡ new.known) × IsWholeOf new.whole at × Learns old new
 Leaves quiet at made old new = new ≡ old
@@ -27,6 +28,7 @@ abbrev pub MayLeave : Ask → WorldState → WorldState → Type 0
 MayLeave (complete hole count) old new = MayRead old new
 MayLeave (page k count) old new = MayRead old new
 MayLeave (close k) old new = new ≡ old
+MayLeave (explain k item) old new = new ≡ old
 MayLeave (change c) old new = Learns old new
 MayLeave exit old new = new ≡ old
 MayLeave other old new = new ≡ old

@@ -9,7 +9,7 @@ use Rattle.json_rpc.specs.declared.fault.FrameFault.TheVariants.{Header, NoLengt
 use Rattle.json_rpc.specs.Whole.{Reads, BeginFramesOf}
 use Rattle.json_rpc.specs.Replies.{frame_of, no_memory_reply}
 use Rattle.decl_index.specs.declared.change.Change.{Change}
-use Rattle.answers.specs.Asks.{Ask, complete, page, close, change, exit, other, Short, Enough, Lacking, Ending, Answer, opened, turned, withdrawn, accepted, refused, quiet, ended}
+use Rattle.answers.specs.Asks.{Ask, complete, page, close, explain, change, exit, other, Short, Enough, Lacking, Ending, Answer, opened, turned, withdrawn, explained, accepted, refused, quiet, ended}
 use Rattle.answers.specs.Turns.{answer, change_of, AllMet, AllSee, IsChain}
 use Rattle.answers.specs.Sessions.{Seen, start}
 use Rattle.answers.specs.Messages.{Outcome, replied, no_memory, silent, exited, lost, meaning_of, files_in}
@@ -100,6 +100,7 @@ abbrev pub AddsRead : Answer → ℕ → List ℕ → List ℕ → Type 0
 AddsRead (opened c p) n old new = new ≡ old ++ n ∷ []
 AddsRead (turned c p) n old new = new ≡ old ++ n ∷ []
 AddsRead (withdrawn k v through) n old new = new ≡ old ++ n ∷ []
+AddsRead (explained c x) n old new = new ≡ old
 AddsRead (accepted v) n old new = new ≡ old
 AddsRead (refused fault) n old new = new ≡ old
 AddsRead quiet n old new = new ≡ old
@@ -114,6 +115,7 @@ abbrev pub MayAdd : Ask → List ℕ → List ℕ → Type 0
 MayAdd (complete hole count) old new = MayAddRead old new
 MayAdd (page k count) old new = MayAddRead old new
 MayAdd (close k) old new = new ≡ old
+MayAdd (explain k item) old new = new ≡ old
 MayAdd (change c) old new = new ≡ old
 MayAdd exit old new = new ≡ old
 MayAdd other old new = new ≡ old
@@ -138,6 +140,7 @@ abbrev pub whole_after : Option (List Change) → Answer → List Change → Opt
 whole_after whole (opened c p) made = whole
 whole_after whole (turned c p) made = whole
 whole_after whole (withdrawn k v through) made = whole
+whole_after whole (explained c x) made = whole
 whole_after whole (accepted v) made = option_map (λ history. history ++ made) whole
 whole_after whole (refused fault) made = whole
 whole_after whole quiet made = whole

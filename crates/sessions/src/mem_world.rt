@@ -3,15 +3,16 @@ ghost use Rattle.std.specs.Arc.{arc_value};
 ghost use Rattle.decl_index.specs.declared.change.Change.{Change};
 ghost use Rattle.decl_index.specs.declared.change.ChangeFault.{ChangeFault};
 ghost use Rattle.decl_index.specs.declared.change.ChangeFault.TheVariants.{OutOfMemory};
+ghost use Rattle.decl_index.specs.History.{KeepsRanges};
 ghost use Rattle.decl_index.specs.Refusals.{Refuses};
 ghost use Rattle.version_board.specs.Versions.{IsVersion};
 ghost use Rattle.sessions.specs.MemStates.{mem_state};
 
-use crate::fingerprint::print_of;
 use crate::shared_pages::shared_page;
 use crate::world::World;
 use answers::Page;
 use decl_index::{Change, ChangeFault};
+use fingerprint::Fingerprinted;
 use listing::Listing;
 use lists::{Copies, Items};
 use outside::{LoadFault, Loaded, MemShelf, Shelf};
@@ -20,7 +21,6 @@ use shared_shelf::SharedShelf;
 use std::alloc::{AllocError, Global};
 use std::marker::Model;
 use std::sync::{Arc, Wait};
-use terms::Env;
 use version_board::Snapshot;
 
 /// How many listings a session keeps.
@@ -78,6 +78,7 @@ fn next_version(
     at: &Arc<Snapshot, Global>,
     change: &Change,
 ) -> Result<Arc<Snapshot, Global>, ChangeFault>
+    requires ranges { KeepsRanges change.now }
     ensures version { (history : List Change) → IsVersion history (arc_value at.now) → IfOk result (λ next. IsVersion (history ++ change.now ∷ []) (arc_value next)) }
     ensures lawful { (history : List Change) → IsVersion history (arc_value at.now) → IfOk result (λ _. (fault : ChangeFault) → Refuses history change.now fault → ⊥) }
     ensures refused { (history : List Change) → IsVersion history (arc_value at.now) → IfErr result (λ fault. (fault ≡ OutOfMemory) ⊎ Refuses history change.now fault) }
@@ -119,7 +120,7 @@ impl<R: Wait> World for MemWorld<'_, R> {
     fn page(
         &mut self,
         alloc: Global,
-        env: &Env,
+        env: &Fingerprinted,
         from: u64,
         count: u64,
     ) -> Result<Page, AllocError> {
@@ -127,8 +128,8 @@ impl<R: Wait> World for MemWorld<'_, R> {
             self.rt,
             alloc,
             &self.listings,
-            print_of(env),
-            env,
+            env.print(),
+            env.env(),
             from,
             count,
         )

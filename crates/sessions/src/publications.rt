@@ -1,5 +1,6 @@
 ghost use Rattle.std.specs.Prelude.{◌≡◌, ◌≤◌, ◌+◌, ◌++◌, length, codes, decimal, IfOk, OnErr};
 ghost use Rattle.std.specs.Vec.{vec_len, vec_capacity};
+ghost use Rattle.decl_index.specs.History.{KeepsRanges};
 ghost use Rattle.answers.specs.Messages.{publishes};
 ghost use Rattle.answers.specs.Sessions.{Seen};
 ghost use Rattle.sessions.specs.Changed.{IsChanged, OpensVersion};
@@ -66,6 +67,7 @@ pub fn make_change<W: World>(
     change: Change,
     world: &mut W,
 ) -> Result<Vec<u8>, AllocError>
+    requires ranges { KeepsRanges change }
     ensures changed { IfOk result (λ reply. IsChanged change id.now reply.items (W.state world.old) (W.state world.new)) }
     ensures no_memory { OnErr result (Learns (W.state world.old) (W.state world.new)) }
 {

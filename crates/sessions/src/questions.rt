@@ -16,6 +16,7 @@ use crate::replies::{failure_reply, null_reply, page_reply};
 use crate::world::World;
 use answers::Cursor;
 use documents::Document;
+use fingerprint::Fingerprinted;
 use java_bodies::{HoleSite, hole_at};
 use java_tokens::tokens;
 use java_units::{Unit, read_unit};
@@ -132,7 +133,7 @@ impl Cursors {
         let (env, version) = environment_now(alloc, unit, site, options, world)?;
         Ok(Cursor {
             number: self.made() + 1,
-            env,
+            env: Fingerprinted::new(env),
             version,
             start: document.position(site.prefix.0),
             end: document.position(site.prefix.1),

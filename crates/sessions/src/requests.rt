@@ -215,6 +215,9 @@ impl Session {
                 self.cursors.page(alloc, id, cursor, count, world)
             }
             Ok(Command::Close { cursor }) => self.cursors.shut(alloc, id, cursor),
+            Ok(Command::Explain { cursor, item }) => {
+                self.cursors.explain(alloc, id, cursor, item, world)
+            }
             Ok(
                 Command::Publish {
                     puts,
@@ -224,6 +227,9 @@ impl Session {
             ) => publish(alloc, id, puts, removes, counts, world),
             Ok(Command::Withdraw { through }) => {
                 make_change(alloc, id, Change::Withdraw(through), world)
+            }
+            Ok(Command::SetWeights(weights)) => {
+                make_change(alloc, id, Change::SetWeights(weights), world)
             }
             Err(refused) => refusal_reply(alloc, id, refused),
         }

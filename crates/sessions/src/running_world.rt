@@ -1,16 +1,15 @@
 ghost use Rattle.std.specs.Prelude.{◌≡◌, ◌⊎◌, IfOk, IfErr};
 ghost use Rattle.decl_index.specs.declared.change.ChangeFault.TheVariants.{OutOfMemory};
 
-use crate::fingerprint::print_of;
 use crate::hub::Hub;
 use crate::shared_pages::shared_page;
 use crate::world::World;
 use answers::Page;
 use decl_index::{Change, ChangeFault};
+use fingerprint::Fingerprinted;
 use outside::{LoadFault, Loaded, Shelf};
 use std::alloc::{AllocError, Global};
 use std::sync::{Arc, Wait};
-use terms::Env;
 use version_board::{Naming, Pass, Snapshot, publish_and_learn};
 
 /// The world of one client of a running program: the versions that all clients publish, listings that they share, and
@@ -48,7 +47,7 @@ impl<J: Naming, R: Wait + Drop, H: Shelf + Drop> World for RunningWorld<'_, J, R
     fn page(
         &mut self,
         alloc: Global,
-        env: &Env,
+        env: &Fingerprinted,
         from: u64,
         count: u64,
     ) -> Result<Page, AllocError> {
@@ -56,8 +55,8 @@ impl<J: Naming, R: Wait + Drop, H: Shelf + Drop> World for RunningWorld<'_, J, R
             self.rt,
             alloc,
             &self.hub.shelf,
-            print_of(env),
-            env,
+            env.print(),
+            env.env(),
             from,
             count,
         )

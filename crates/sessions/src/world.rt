@@ -1,6 +1,7 @@
 ghost use Rattle.std.specs.Prelude.{◌≡◌, ◌<◌, ◌≤◌, ◌+◌, ◌^◌, [], length, IfOk, IfErr, IfSome, OnOk, OnErr, IsErrOf};
 ghost use Rattle.std.specs.Arc.{arc_value};
 ghost use Rattle.outside.specs.Held.{held_under, Gives, Leaves};
+ghost use Rattle.decl_index.specs.History.{KeepsRanges};
 ghost use Rattle.version_board.specs.Versions.{IsVersion};
 ghost use Rattle.answers.specs.Cursors.{IsPageOf};
 ghost use Rattle.sessions.specs.Worlds.{IsRead, MayRead};
@@ -8,10 +9,10 @@ ghost use Rattle.sessions.specs.Publications.{Accepts, Declines, LeavesFiles};
 
 use answers::Page;
 use decl_index::{Change, ChangeFault};
+use fingerprint::Fingerprinted;
 use outside::{LoadFault, Loaded};
 use std::alloc::{AllocError, Global};
 use std::sync::Arc;
-use terms::Env;
 use version_board::Snapshot;
 
 /// What a session asks of the world around it. A world has one client.
@@ -35,6 +36,7 @@ pub trait World {
     /// Makes a change, and answers its number, or why it is refused; the cause `OutOfMemory` says nothing of the change.
     /// It may wait. From then on the client has seen the change, or a history that refuses it. This is no read.
     fn publish(&mut self, alloc: Global, change: Change) -> Result<u32, ChangeFault>
+        requires ranges { KeepsRanges change }
         ensures accepted { IfOk result (λ number. Accepts change number (state self.old) (state self.new)) }
         ensures refused { IfErr result (λ fault. Declines change fault (state self.old) (state self.new)) };
 
@@ -48,7 +50,13 @@ pub trait World {
         ensures files { LeavesFiles (IsErrOf result LoadFault.Failed) (state self.old) (state self.new) };
 
     /// At most `count` items of the list of the environment, from the item `from` on. It may wait.
-    fn page(&mut self, alloc: Global, env: &Env, from: u64, count: u64) -> Result<Page, AllocError>
+    fn page(
+        &mut self,
+        alloc: Global,
+        env: &Fingerprinted,
+        from: u64,
+        count: u64,
+    ) -> Result<Page, AllocError>
         requires from { from < 2 ^ 62 }
         requires count { (1 ≤ count) × (count ≤ 1000) }
         ensures page { IfOk result (λ page. IsPageOf env.now from count page) }

@@ -2,7 +2,7 @@
 pub(crate) fn sheet_cause(cause: u32) -> &'static str {
     match cause {
         1 => "the bytes aren't UTF-8",
-        2 => "the first line isn't `insynth sheet 1`",
+        2 => "the first line isn't `insynth sheet 1` or `insynth sheet 2`",
         3 => "the line is none of a sheet's",
         4 => "a number isn't one to nine digits",
         5 => "a type isn't declared before",
@@ -25,6 +25,7 @@ fn environment_cause(cause: u32) -> &'static str {
         16 => "the pairs of types aren't transitive",
         17 => "the depth is too great",
         18 => "the arguments don't suit the form",
+        19 => "a weight of variables, binders or coercions is out of its range",
         _ => "the environment has a fault",
     }
 }

@@ -29,12 +29,12 @@ type Row = (
 );
 
 /// Causes of code 3 in a sheet, which number its lines.
-const SHEETS: [(u64, u32, &str); 17] = [
+const SHEETS: [(u64, u32, &str); 18] = [
     (2, 1, "line 2 of the sheet: the bytes aren't UTF-8"),
     (
         1,
         2,
-        "line 1 of the sheet: the first line isn't `insynth sheet 1`",
+        "line 1 of the sheet: the first line isn't `insynth sheet 1` or `insynth sheet 2`",
     ),
     (3, 3, "line 3 of the sheet: the line is none of a sheet's"),
     (
@@ -70,6 +70,11 @@ const SHEETS: [(u64, u32, &str); 17] = [
         2,
         18,
         "line 2 of the sheet: the arguments don't suit the form",
+    ),
+    (
+        10,
+        19,
+        "line 10 of the sheet: a weight of variables, binders or coercions is out of its range",
     ),
 ];
 
