@@ -1,0 +1,11 @@
+pub mod Units
+pub mod Backwards
+pub mod Gathered
+pub mod OutlineSteps
+pub mod Publishing
+pub mod Alike
+pub mod SameNames
+pub mod SameSummaries
+pub mod Same
+pub mod OrderOfTexts
+pub mod Whole

@@ -1,0 +1,4 @@
+pub mod TextUnits
+pub mod SourceClasses
+pub mod Laws
+pub mod Order
