@@ -24,7 +24,7 @@ stop_in silent = false
 stop_in (exited b) = b
 stop_in lost = false
 
-abbrev IsTrue : Bool → Type 0
+abbrev pub IsTrue : Bool → Type 0
 IsTrue true = Unit {0}
 IsTrue false = ⊥
 
@@ -45,7 +45,7 @@ rest_out [] = []
 rest_out (x ∷ xs) = xs
 
 -- A list with something in it isn't empty.
-not_empty : {X : Type 0} (before more : List X) (x : X) → [] ≡ before ++ x ∷ more → ⊥
+pub not_empty : {X : Type 0} (before more : List X) (x : X) → [] ≡ before ++ x ∷ more → ⊥
 not_empty before more x e = omega (arith, ap length e, length-append before (x ∷ more))
 
 -- A publication is no exit.
@@ -57,9 +57,9 @@ no_publication (no_class_file index class_fault place) s id removes counts m x =
 no_publication (unreadable index) s id removes counts m x = x
 
 -- Only an exit is answered by the end of the session that tells whether it was stopped, and it leaves the session as it is.
-record IsLeft (x : Short) (s : Seen) (meaning : Meaning) (m : Met) (b : Bool) : Type 0 where
-  meant : meaning ≡ leaves
-  stopped : b ≡ is_stopped (by_memory x s meaning m).0.phase
+pub record IsLeft (x : Short) (s : Seen) (meaning : Meaning) (m : Met) (b : Bool) : Type 0 where
+  pub meant : meaning ≡ leaves
+  pub stopped : b ≡ is_stopped (by_memory x s meaning m).0.phase
 
 left_by : (x : Short) (s : Seen) (meaning : Meaning) (m : Met) (b : Bool) → (by_memory x s meaning m).1 ≡ exited b → IsLeft x s meaning m b
 left_by Enough s (asks id ask) m b e = absurd (subst IsExited (sym e) tt)
@@ -83,11 +83,11 @@ left_by Lacking s leaves m b e = record { meant = refl; stopped = ap stop_in (sy
 left_by Lacking s drops m b e = absurd (subst IsExited (sym e) tt)
 left_by Ending s meaning m b e = absurd (subst IsExited (sym e) tt)
 
-left : (s : Seen) (m : Message) (b : Bool) → outcome s m ≡ exited b → IsLeft m.met.short s (meaning_of s m.body) m.met b
+pub left : (s : Seen) (m : Message) (b : Bool) → outcome s m ≡ exited b → IsLeft m.met.short s (meaning_of s m.body) m.met b
 left s m b e = left_by m.met.short s (meaning_of s m.body) m.met b e
 
 -- What follows a message, whether the session goes on or not.
-exit_if : (e : Bool) (o : Outcome) (rest : List Outcome) (before : List Outcome) (b : Bool) → (o ∷ (if e then [] else rest)) ≡ before ++ exited b ∷ []
+pub exit_if : (e : Bool) (o : Outcome) (rest : List Outcome) (before : List Outcome) (b : Bool) → (o ∷ (if e then [] else rest)) ≡ before ++ exited b ∷ []
     → (o ≡ exited b) ⊎ ((others : List Outcome) × (e ≡ false) × (rest ≡ others ++ exited b ∷ []))
 exit_if e o rest [] b is = inl (ap (first_out o) is)
 exit_if true o rest (y ∷ ys) b is = absurd (not_empty ys [] (exited b) (ap rest_out is))
@@ -120,7 +120,7 @@ ends_by Enough s m = refl
 ends_by Lacking s m = refl
 ends_by Ending s m = refl
 
-exit_ends : (s : Seen) (m : Message) → IsExit m.body → GoesOn (outcome s m) → ⊥
+pub exit_ends : (s : Seen) (m : Message) → IsExit m.body → GoesOn (outcome s m) → ⊥
 exit_ends s m is on =
     let e : ends (outcome s m) ≡ true = ap (λ x. ends (by_memory m.met.short s x m.met).1) (is s) ∙ ends_by m.met.short s m.met in
     subst IsTrue (sym e ∙ on) tt

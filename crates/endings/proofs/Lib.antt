@@ -1,4 +1,5 @@
 pub mod Readings
 pub mod Exits
 pub mod Stops
+pub mod Phases
 pub mod Decisions

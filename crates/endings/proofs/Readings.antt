@@ -1,7 +1,7 @@
 -- An input has one reading.
 use Rattle.std.proofs.Common.{◌≡◌, ◌⊎◌, inl, inr, ℕ, ◌+◌, ◌-◌, ◌<◌, ap, sym, ◌∙◌, take, arith, List, [], ◌∷◌, ◌++◌, refl, length, subst, Option, Some, None}
 use Rattle.json_rpc.specs.Streams.{Next, partial, whole, wrong, next_of, by_reading, budget}
-use Rattle.json_rpc.specs.Whole.{EndsBy, AreFirst, AreFrames}
+use Rattle.json_rpc.specs.Whole.{EndsBy, AreFirst, AreFrames, BeginFramesOf}
 use Rattle.json_rpc.specs.Heads.{scan_from}
 use Rattle.json_rpc.specs.declared.fault.FrameFault.{FrameFault}
 use Rattle.json_rpc.specs.declared.fault.FrameFault.TheVariants.{Header, NoLength, TooLong, Cut, ReadFault, Budget, OutOfMemory}
@@ -123,3 +123,21 @@ one_reading input bodies others end ending a b = frames_same 0 (take budget inpu
 
 pub first_of_all : FirstOfAll
 first_of_all input bodies firsts end a b = first_of 0 (take budget input) bodies firsts end a b
+
+-- Bodies are the same as far as both go.
+abbrev pub Agree : List (List ℕ) → List (List ℕ) → Type 0
+Agree [] ys = Unit {0}
+Agree (x ∷ xs) [] = Unit {0}
+Agree (x ∷ xs) (y ∷ ys) = (x ≡ y) × Agree xs ys
+
+firsts_agree : (at : ℕ) (bytes : List ℕ) (xs ys : List (List ℕ)) → AreFirst at bytes xs → AreFirst at bytes ys → Agree xs ys
+firsts_agree at bytes [] ys a b = tt
+firsts_agree at bytes (x ∷ xs) [] a b = tt
+firsts_agree at bytes (x ∷ xs) (y ∷ ys) a b =
+    let same : whole x a.0 ≡ whole y b.0 = sym a.1 ∙ b.1 in
+    let P : List ℕ → Type 0 = λ r. AreFirst (at + length bytes - length r) r ys in
+    (ap body_in same, firsts_agree (at + length bytes - length a.0) a.0 xs ys a.2 (subst P (sym (ap rest_in same)) b.2))
+
+-- What an input begins with.
+pub all_agree : (input : List ℕ) (xs ys : List (List ℕ)) → BeginFramesOf input xs → BeginFramesOf input ys → Agree xs ys
+all_agree input xs ys a b = firsts_agree 0 (take budget input) xs ys a b

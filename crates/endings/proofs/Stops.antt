@@ -59,7 +59,7 @@ idle_keeps Lacking s (stops id) m i = absurd i
 idle_keeps Lacking s (edits uri edit) m i = absurd i
 idle_keeps Ending s meaning m i = refl
 
-keeps : (s : Seen) (m : Message) → s.phase ≡ Stopped → session_after s m ≡ s
+pub keeps : (s : Seen) (m : Message) → s.phase ≡ Stopped → session_after s m ≡ s
 keeps s m e = idle_keeps m.met.short s (meaning_of s m.body) m.met (idle s (message_of m.body) e)
 
 stays_if : (b : Bool) (s next : Seen) → s.phase ≡ Stopped → next.phase ≡ Stopped → (if b then s else next).phase ≡ Stopped
@@ -77,7 +77,7 @@ shutdown_row : (s : Seen) (id : Id) (params : Data) → running_request s id (co
 unfolding running_request
 shutdown_row s id params = refl
 
-means_stop : (s : Seen) (body : List ℕ) (id : Id) (params : Data) → s.phase ≡ Running → message_of body ≡ Some (request id (codes "shutdown") params) → meaning_of s body ≡ stops id
+pub means_stop : (s : Seen) (body : List ℕ) (id : Id) (params : Data) → s.phase ≡ Running → message_of body ≡ Some (request id (codes "shutdown") params) → meaning_of s body ≡ stops id
 means_stop s body id params p e =
     ap (meaning_in s) e ∙ ap (λ (x : Phase). request_by x s id (codes "shutdown") params) p ∙ shutdown_row s id params
 
