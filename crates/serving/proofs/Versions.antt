@@ -4,7 +4,7 @@ use Rattle.std.proofs.Common.{◌≡◌, Bool, true, false, List, [], ◌∷◌,
 use Rattle.std.specs.Prelude.{if◌then◌else◌}
 use Rattle.known_classes.specs.declared.summary.ClassSummary.{ClassSummary}
 use Rattle.known_classes.specs.Known.{class_named}
-use Rattle.decl_index.specs.History.{Name, put, decided, told, class_in, Rises}
+use Rattle.decl_index.specs.History.{Name, put, decided, told, class_in, weights_set, Rises}
 use Rattle.decl_index.proofs.Names.{same-true, apart_back}
 use Rattle.decl_index.proofs.Sorted.{Above}
 use Rattle.version_board.specs.declared.snapshot.Snapshot.{Snapshot}
@@ -39,13 +39,14 @@ published n cs h = said-of n cs h ∙ ap (λ es. told (decided n es)) (sym (appe
 
 -- the version after one publication is that after the publication of its classes
 pub same_version : (classes : List ClassSummary) (s : Snapshot) → IsVersion (publication classes ∷ []) s → IsVersion (publication s.index.classes ∷ []) s
-unfolding withdrawals_after
+unfolding withdrawals_after weights_set
 same_version classes s v = record {
   number = v.number;
   withdrawals = v.withdrawals;
   state = record {
     classes = record { rises = v.state.classes.rises; named = λ n. published n s.index.classes v.state.classes.rises };
     counts = record { rises = v.state.counts.rises; keyed = v.state.counts.keyed };
+    weights = v.state.weights;
     number = v.state.number;
   };
 }

@@ -14,8 +14,9 @@ ghost use Rattle.counting.specs.declared.fault.CountFault.{CountFault};
 ghost use Rattle.samples.specs.Runs.{SamplesBy, IsSilent as IsMute};
 ghost use Rattle.samples.specs.declared.sampling.Sampling.{Sampling};
 ghost use Rattle.outside.specs.declared.shelf.HeldFile.{HeldFile};
-ghost use Rattle.sheets.specs.Sheets.{IsSheet};
+ghost use Rattle.sheets.specs.Sheets.{Fault, IsSheet, sheet_fault};
 ghost use Rattle.serving.specs.declared.status.Ending.{Ending};
+ghost use Rattle.serving.specs.declared.status.Ending.TheVariants.{NotSheet};
 ghost use Rattle.serving.specs.declared.status.Serving.{Serving};
 ghost use Rattle.statuses.specs.declared.status.Status.{Status};
 ghost use Rattle.terms.specs.declared.parts.Parts.{Parts};
@@ -83,6 +84,9 @@ pub fn run_plain<S: Source, K: Sink, H: Shelf>(
     ensures complete { (bytes : List ℕ) (parts : Parts) → AskFor listed (map string_bytes words.now) → S.left end.old.source ≡ Some bytes → IsSheet bytes parts
         → ¬ (Rose (S.faults end.old.source) (S.faults end.new.source)) → ¬ (Rose (K.faults end.old.sink) (K.faults end.new.sink))
         → (result.code ≡ 0) ⊎ (result.code ≡ 6) }
+    ensures refuses { (bytes : List ℕ) (fault : Fault) → AskFor listed (map string_bytes words.now) → S.left end.old.source ≡ Some bytes → sheet_fault bytes ≡ Some fault
+        → ¬ (Rose (S.faults end.old.source) (S.faults end.new.source))
+        → (result ≡ status_of (NotSheet fault.line fault.cause)) ⊎ (result.code ≡ 6) }
     ensures complete_count { (files : List HeldFile) (start : List ℕ) → AskFor (counted start) (map string_bytes words.now) → H.holds end.old.shelf ≡ Some files
         → ((fault : CountFault) → IsFaultOf files start fault → ⊥)
         → ¬ (Rose (H.faults end.old.shelf) (H.faults end.new.shelf)) → ¬ (Rose (K.faults end.old.sink) (K.faults end.new.sink))
@@ -150,6 +154,10 @@ pub fn run<
         → map string_bytes words.now ≡ codes "list" ∷ [] → S.left e.source ≡ Some bytes → IsSheet bytes parts
         → ¬ (Rose (S.faults e.source) (S.faults f.source)) → ¬ (Rose (K.faults e.sink) (K.faults f.sink))
         → (result.code ≡ 0) ⊎ (result.code ≡ 6) }
+    ensures refuses { (e f : End S K H) (bytes : List ℕ) (fault : Fault) → ends.old.items ≡ e ∷ [] → ends.new.items ≡ f ∷ []
+        → map string_bytes words.now ≡ codes "list" ∷ [] → S.left e.source ≡ Some bytes → sheet_fault bytes ≡ Some fault
+        → ¬ (Rose (S.faults e.source) (S.faults f.source))
+        → (result ≡ status_of (NotSheet fault.line fault.cause)) ⊎ (result.code ≡ 6) }
     ensures complete_count { (e f : End S K H) (files : List HeldFile) (start : List ℕ) → ends.old.items ≡ e ∷ [] → ends.new.items ≡ f ∷ []
         → AskFor (counted start) (map string_bytes words.now) → H.holds e.shelf ≡ Some files → ((fault : CountFault) → IsFaultOf files start fault → ⊥)
         → ¬ (Rose (H.faults e.shelf) (H.faults f.shelf)) → ¬ (Rose (K.faults e.sink) (K.faults f.sink))

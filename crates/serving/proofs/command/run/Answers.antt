@@ -27,6 +27,9 @@ returns-in-Err-clause-serving g c = λ start pairs words many. absurd (c.in-Err.
 pub returns-in-Err-clause-complete : goal.returns-in-Err-clause-complete
 returns-in-Err-clause-complete g c = λ e f bytes parts before after words left sheet source sink. absurd (c.in-Err.ensures.command.nothing list words)
 
+pub returns-in-Err-clause-refuses : goal.returns-in-Err-clause-refuses
+returns-in-Err-clause-refuses g c = λ e f bytes fault before after words left wrong source. absurd (c.in-Err.ensures.command.nothing list words)
+
 pub returns-in-Err-clause-counting : goal.returns-in-Err-clause-counting
 returns-in-Err-clause-counting g c = λ start words one. absurd (c.in-Err.ensures.command.nothing (count start) words)
 
@@ -116,6 +119,16 @@ returns-in-List-clause-complete g c = λ e f bytes parts before after words left
     let steady : ¬ (Rose (g.S.Source.faults was.source) (g.S.Source.faults is.source)) = rw (old, new) source in
     let taken : ¬ (Rose (g.K.Sink.faults was.sink) (g.K.Sink.faults is.sink)) = rw (old, new) sink in
     c.run_plain.ensures.complete bytes parts words told sheet steady taken
+
+pub returns-in-List-clause-refuses : goal.returns-in-List-clause-refuses
+returns-in-List-clause-refuses g c = λ e f bytes fault before after words left wrong source.
+    let was = c.index_mut.result.now in
+    let is = c.run_plain.new.end in
+    let old : was ≡ e = c.index_mut.ensures.value ∙ ap (λ xs. get_or xs 0 was) before in
+    let new : is ≡ f = head-is is f (ap (λ xs. slice_set xs 0 is) (sym before) ∙ after) in
+    let told : g.S.Source.left was.source ≡ Some bytes = ap (λ x. g.S.Source.left x.source) old ∙ left in
+    let steady : ¬ (Rose (g.S.Source.faults was.source) (g.S.Source.faults is.source)) = rw (old, new) source in
+    c.run_plain.ensures.refuses bytes fault words told wrong steady
 
 pub returns-in-List-clause-counting : goal.returns-in-List-clause-counting
 returns-in-List-clause-counting g c = λ start words one.
@@ -246,6 +259,11 @@ returns-in-Count-clause-complete g c = λ e f bytes parts before after words.
     let h : AskFor (count c.in-Count.start.now) (map string_bytes c.args.words.now) = search rules in
     absurd (not-counted (map string_bytes c.args.words.now) _ words h)
 
+pub returns-in-Count-clause-refuses : goal.returns-in-Count-clause-refuses
+returns-in-Count-clause-refuses g c = λ e f bytes fault before after words.
+    let h : AskFor (count c.in-Count.start.now) (map string_bytes c.args.words.now) = search rules in
+    absurd (not-counted (map string_bytes c.args.words.now) _ words h)
+
 pub returns-in-Count-clause-complete_count : goal.returns-in-Count-clause-complete_count
 returns-in-Count-clause-complete_count g c = λ e f files start before after words held sound shelf sink.
     let was = c.index_mut-in-Count.result.now in
@@ -317,6 +335,11 @@ returns-in-Sample-clause-shelf_stays g c = λ i e f words.
 
 pub returns-in-Sample-clause-complete : goal.returns-in-Sample-clause-complete
 returns-in-Sample-clause-complete g c = λ e f bytes parts before after words.
+    let h : AskFor (sample c.in-Sample.number) (map string_bytes c.args.words.now) = search rules in
+    absurd (not-sampled (map string_bytes c.args.words.now) _ words h)
+
+pub returns-in-Sample-clause-refuses : goal.returns-in-Sample-clause-refuses
+returns-in-Sample-clause-refuses g c = λ e f bytes fault before after words.
     let h : AskFor (sample c.in-Sample.number) (map string_bytes c.args.words.now) = search rules in
     absurd (not-sampled (map string_bytes c.args.words.now) _ words h)
 

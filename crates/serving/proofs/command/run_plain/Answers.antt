@@ -2,9 +2,11 @@ use Rattle.std.proofs.Common.{rules, ◌≡◌, ◌⊎◌, ◌∙◌, sym, ap, s
 use Rattle.std.specs.Prelude.{string_bytes}
 use Rattle.command_line.specs.Words.{AskFor, list, count, sample}
 use Rattle.command_line.proofs.Asked.{not-counted, not-sampled, count-not-sampled, one-counted, one-sampled}
+use Rattle.serving.specs.Runs.{status_of}
+use Rattle.serving.specs.declared.status.Ending.TheVariants.{NotSheet}
 use Rattle.statuses.specs.declared.status.Status.{Status}
 use Rattle.serving.proofs.Counts.{no-usage-counted, counted-or-no-memory}
-use Rattle.serving.proofs.Endings.{complete, no-usage}
+use Rattle.serving.proofs.Endings.{complete, refuses, no-usage}
 use Rattle.serving.proofs.Samplings.{no-usage-sampled, sampled-or-no-memory}
 use Rattle.serving.proofs.command.run_plain.Goals as goal
 
@@ -28,6 +30,14 @@ returns-in-List-clause-complete g c = λ bytes parts words left sheet source sin
     let P : Status → Type 0 = λ s. (s.code ≡ 0) ⊎ (s.code ≡ 6) in
     subst P (sym c.of_listing.ensures) (complete c.list.result bytes parts (g.S.Source.left was.source) (g.S.Source.left is.source) (g.K.Sink.written was.sink) (g.K.Sink.written is.sink)
     (g.S.Source.faults was.source) (g.S.Source.faults is.source) (g.K.Sink.faults was.sink) (g.K.Sink.faults is.sink) left sheet source sink c.list.ensures.ending)
+
+pub returns-in-List-clause-refuses : goal.returns-in-List-clause-refuses
+returns-in-List-clause-refuses g c = λ bytes fault words left wrong source.
+    let was = c.args.end.now in
+    let is = c.list.new.end in
+    let P : Status → Type 0 = λ s. (s ≡ status_of (NotSheet fault.line fault.cause)) ⊎ (s.code ≡ 6) in
+    subst P (sym c.of_listing.ensures) (refuses c.list.result bytes fault (g.S.Source.left was.source) (g.S.Source.left is.source) (g.K.Sink.written was.sink) (g.K.Sink.written is.sink)
+    (g.S.Source.faults was.source) (g.S.Source.faults is.source) (g.K.Sink.faults was.sink) (g.K.Sink.faults is.sink) left wrong source c.list.ensures.ending)
 
 pub returns-in-List-clause-complete_count : goal.returns-in-List-clause-complete_count
 returns-in-List-clause-complete_count g c = λ files start words.
@@ -70,6 +80,11 @@ returns-in-Count-clause-fits g c = λ two. no-usage-counted c.count.result (sym 
 
 pub returns-in-Count-clause-complete : goal.returns-in-Count-clause-complete
 returns-in-Count-clause-complete g c = λ bytes parts words.
+    let h : AskFor (count c.in-Count.start.now) (map string_bytes c.args.words.now) = search rules in
+    absurd (not-counted (map string_bytes c.args.words.now) _ words h)
+
+pub returns-in-Count-clause-refuses : goal.returns-in-Count-clause-refuses
+returns-in-Count-clause-refuses g c = λ bytes fault words.
     let h : AskFor (count c.in-Count.start.now) (map string_bytes c.args.words.now) = search rules in
     absurd (not-counted (map string_bytes c.args.words.now) _ words h)
 
@@ -116,6 +131,11 @@ returns-in-Sample-clause-fits g c = λ two. no-usage-sampled c.tell_sample.resul
 
 pub returns-in-Sample-clause-complete : goal.returns-in-Sample-clause-complete
 returns-in-Sample-clause-complete g c = λ bytes parts words.
+    let h : AskFor (sample c.in-Sample.number) (map string_bytes c.args.words.now) = search rules in
+    absurd (not-sampled (map string_bytes c.args.words.now) _ words h)
+
+pub returns-in-Sample-clause-refuses : goal.returns-in-Sample-clause-refuses
+returns-in-Sample-clause-refuses g c = λ bytes fault words.
     let h : AskFor (sample c.in-Sample.number) (map string_bytes c.args.words.now) = search rules in
     absurd (not-sampled (map string_bytes c.args.words.now) _ words h)
 
