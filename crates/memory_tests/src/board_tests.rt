@@ -1,7 +1,8 @@
-ghost use Rattle.std.specs.Prelude.{◌≡◌};
+ghost use Rattle.std.specs.Prelude.{◌≡◌, IsTrue};
+ghost use Rattle.decl_index.specs.History.{KeepsRanges};
 ghost use Rattle.version_board.specs.Versions.{IsVersion};
 
-use decl_index::Change;
+use decl_index::{Change, Weights};
 use known_classes::{ClassSummary, FieldSummary};
 use lists::{Items, Text};
 use std::alloc::{AllocError, Global};
@@ -64,14 +65,29 @@ fn removes(alloc: Global, name: &str) -> Result<Change, AllocError> {
     })
 }
 
-/// The changes that are made: two classes, a withdrawal, and that the first class is gone.
+/// The changes that are made: two classes, a withdrawal, weights, and that the first class is gone.
 fn changes(alloc: Global) -> Result<Vec<Change>, AllocError> {
     let mut changes = Vec::new(alloc);
     changes.push(puts(alloc, "java/lang/Object", "p/A", "p/A.count:I")?)?;
     changes.push(puts(alloc, "p/A", "p/B", "p/B.count:I")?)?;
     changes.push(Change::Withdraw(1))?;
+    changes.push(Change::SetWeights(Weights::usual()))?;
     changes.push(removes(alloc, "p/A")?)?;
     Ok(changes)
+}
+
+/// Whether what the change sets may be set.
+fn keeps_ranges(change: &Change) -> bool
+    ensures { IsTrue result → KeepsRanges change.now }
+{
+    match change {
+        Change::Publish { .. } => true,
+        Change::Withdraw(_) => true,
+        Change::SetWeights(weights) => match Weights::checked(*weights) {
+            Some(_) => true,
+            None => false,
+        },
+    }
 }
 
 /// The number of the version that a pass reads, read again where memory was wanting.
@@ -103,7 +119,9 @@ fn is_made_again<J: Naming, R: Wait + Drop>(
     pass: &mut Pass<J>,
     refusal: Refusal<J>,
     number: u32,
-) -> Result<bool, AllocError> {
+) -> Result<bool, AllocError>
+    requires { KeepsRanges refusal.change }
+{
     if refusal.seen.is_some() || read_by(rt, pass)?.saturating_add(1) != number {
         return Ok(false);
     }
@@ -122,6 +140,9 @@ fn is_made<J: Naming, R: Wait + Drop>(
     change: Change,
     number: u32,
 ) -> Result<bool, AllocError> {
+    if !keeps_ranges(&change) {
+        return Ok(false);
+    }
     match publisher.publish(alloc, change) {
         Ok(receipt) => is_shown(rt, pass, receipt, number),
         Err(refusal) => is_made_again(rt, alloc, publisher, pass, refusal, number),

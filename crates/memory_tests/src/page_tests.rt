@@ -1,7 +1,8 @@
 use crate::level_tests::environment;
+use fingerprint::print_of;
 use listing::{Item, Listing};
 use reconstruction::Rebuild;
-use sessions::{print_of, shared_page};
+use sessions::shared_page;
 use shared_shelf::SharedShelf;
 use std::alloc::{AllocError, Global};
 use std::sync::Wait;
