@@ -1,6 +1,6 @@
 use lists::{Items, Text};
 use std::alloc::{AllocError, Global};
-use terms::{Arg, Decl, Env, EnvFault, Form, Parts};
+use terms::{Arg, Decl, Env, EnvFault, Form, Parts, Steps};
 
 /// A declaration: what it wants, and where that is a lambda the types of its parameters.
 #[derive(Clone, Copy)]
@@ -67,8 +67,13 @@ fn types(alloc: Global, count: u32) -> Result<Items<Text>, AllocError> {
     Ok(types)
 }
 
-/// The environment that is shown.
+/// The environment that is shown, with the usual steps.
 pub fn env(alloc: Global, shown: &Shown<'_>) -> Result<Env, EnvFault> {
+    stepped(alloc, shown, Steps::usual())
+}
+
+/// The environment that is shown, with these steps.
+pub fn stepped(alloc: Global, shown: &Shown<'_>, steps: Steps) -> Result<Env, EnvFault> {
     let parts = Parts {
         types: types(alloc, shown.types)?,
         pairs: Items::from_slice(alloc, shown.pairs)?,
@@ -77,6 +82,7 @@ pub fn env(alloc: Global, shown: &Shown<'_>) -> Result<Env, EnvFault> {
         limit: shown.limit,
         depth: shown.depth,
         binder: Text::from_str(alloc, "p")?,
+        steps,
     };
     if !parts.has_lengths() {
         return Err(EnvFault::OutOfMemory);

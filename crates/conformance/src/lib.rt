@@ -5,6 +5,8 @@
 #![tactic(auto)]
 
 #[cfg(test)]
+mod class_path_tests;
+#[cfg(test)]
 mod environments;
 #[cfg(test)]
 mod file_tests;

@@ -1,9 +1,9 @@
-use crate::environments::{Shown, call, env, lambda, name};
+use crate::environments::{Shown, call, lambda, name, stepped};
 use listing::{Item, Listing};
 use plain_listing::Plain;
 use reconstruction::Rebuild;
 use std::alloc::Global;
-use terms::{EnvFault, Levels};
+use terms::{Env, EnvFault, Levels, Steps};
 
 /// Whether the items have just these weights and texts, in this order.
 fn are_listed(items: &[Item], wanted: &[(u32, &str)]) -> bool {
@@ -21,12 +21,25 @@ fn are_listed(items: &[Item], wanted: &[(u32, &str)]) -> bool {
 /// Whether the list of this environment is just this.
 fn lists<E: Levels + Drop>(
     alloc: Global,
-    shown: &Shown<'_>,
+    env: Env,
     wanted: &[(u32, &str)],
 ) -> Result<bool, EnvFault> {
-    let mut listing: Listing<E> = Listing::new(alloc, env(alloc, shown)?)?;
+    let mut listing: Listing<E> = Listing::new(alloc, env)?;
     let page = listing.page(alloc, 0, 1000)?;
     Ok(page.last && are_listed(listing.items(&page), wanted))
+}
+
+/// Whether both searches give this list, where variables, binders and coercions weigh this.
+fn have_one_list_by(
+    alloc: Global,
+    shown: &Shown<'_>,
+    steps: Steps,
+    wanted: &[(u32, &str)],
+) -> Result<bool, EnvFault> {
+    Ok(
+        lists::<Rebuild>(alloc, stepped(alloc, shown, steps)?, wanted)?
+            && lists::<Plain>(alloc, stepped(alloc, shown, steps)?, wanted)?,
+    )
 }
 
 /// Whether both searches give this list.
@@ -35,7 +48,7 @@ fn have_one_list(
     shown: &Shown<'_>,
     wanted: &[(u32, &str)],
 ) -> Result<bool, EnvFault> {
-    Ok(lists::<Rebuild>(alloc, shown, wanted)? && lists::<Plain>(alloc, shown, wanted)?)
+    have_one_list_by(alloc, shown, Steps::usual(), wanted)
 }
 
 #[test]
@@ -50,6 +63,15 @@ fn coercions_are_listed_alike(rt: HostRuntime) -> Result<(), EnvFault> {
     };
     let wanted = [(15, "x"), (45, "f(x)"), (75, "f(f(x))")];
     assert!(rt; have_one_list(rt.alloc(), &shown, &wanted)?);
+    let usual = Steps::usual();
+    let light = Steps { step: 1, ..usual };
+    let wanted = [(6, "x"), (27, "f(x)"), (48, "f(f(x))"), (69, "f(f(f(x)))")];
+    assert!(rt; have_one_list_by(rt.alloc(), &shown, light, &wanted)?);
+    let heavy = Steps {
+        step: 10_000,
+        ..usual
+    };
+    assert!(rt; have_one_list_by(rt.alloc(), &shown, heavy, &[])?);
     Ok(())
 }
 
@@ -58,13 +80,71 @@ fn lambdas_are_listed_alike(rt: HostRuntime) -> Result<(), EnvFault> {
     let shown = Shown {
         types: 2,
         pairs: &[],
-        lines: &[name("x", 5, 0), lambda("m", 10, 1, &[0], &[0])],
+        lines: &[name("x", 5, 0), lambda("I", 10, 1, &[0], &[0])],
         goal: 1,
         limit: 20,
         depth: 1,
     };
-    let wanted = [(12, "(m) (p0) -> p0"), (16, "(m) (p0) -> x")];
+    let wanted = [(12, "(I) (p0) -> p0"), (16, "(I) (p0) -> x")];
     assert!(rt; have_one_list(rt.alloc(), &shown, &wanted)?);
+    let steps = Steps {
+        bound: 3,
+        binder: 2,
+        step: 10,
+    };
+    let wanted = [(15, "(I) (p0) -> p0"), (17, "(I) (p0) -> x")];
+    assert!(rt; have_one_list_by(rt.alloc(), &shown, steps, &wanted)?);
+    Ok(())
+}
+
+#[test]
+fn two_binders_are_listed_alike(rt: HostRuntime) -> Result<(), EnvFault> {
+    let shown = Shown {
+        types: 2,
+        pairs: &[],
+        lines: &[name("x", 5, 0), lambda("I", 10, 1, &[0], &[0, 0])],
+        goal: 1,
+        limit: 310,
+        depth: 1,
+    };
+    let greatest = Steps {
+        bound: 100,
+        binder: 100,
+        step: 10_000,
+    };
+    let wanted = [
+        (215, "(I) (p0, p1) -> x"),
+        (310, "(I) (p0, p1) -> p0"),
+        (310, "(I) (p0, p1) -> p1"),
+    ];
+    assert!(rt; have_one_list_by(rt.alloc(), &shown, greatest, &wanted)?);
+    Ok(())
+}
+
+/// Whether both searches give this list for a lambda of an `int` whose body is a `long`, a type above it, where the
+/// terms weigh at most 19, variables 2, binders 3 and coercions as told.
+fn has_long_body(alloc: Global, step: u32, wanted: &[(u32, &str)]) -> Result<bool, EnvFault> {
+    let shown = Shown {
+        types: 3,
+        pairs: &[(0, 1)],
+        lines: &[name("y", 5, 1), lambda("I", 10, 2, &[1], &[0])],
+        goal: 2,
+        limit: 19,
+        depth: 1,
+    };
+    let steps = Steps {
+        bound: 2,
+        binder: 3,
+        step,
+    };
+    have_one_list_by(alloc, &shown, steps, wanted)
+}
+
+#[test]
+fn a_lambdas_body_is_coerced_alike(rt: HostRuntime) -> Result<(), EnvFault> {
+    let both = [(18, "(I) (p0) -> y"), (19, "(I) (p0) -> p0")];
+    assert!(rt; has_long_body(rt.alloc(), 4, &both)?);
+    assert!(rt; has_long_body(rt.alloc(), 5, &both[..1])?);
     Ok(())
 }
 

@@ -1,6 +1,7 @@
 // Holes in small texts, and the environments at them among the classes of other texts.
 ghost use Rattle.std.specs.Prelude.{◌≡◌, ◌+◌, ◌<◌, ◌≤◌, ◌^◌, length, Some, IfOk};
 ghost use Rattle.std.specs.Str.{IsCharBoundary};
+ghost use Rattle.decl_index.specs.History.{KeepsRanges};
 ghost use Rattle.java_tokens.specs.Tokens.{AreTokensOf, Tile};
 ghost use Rattle.java_bodies.specs.Sites.{hole_of};
 ghost use Rattle.java_units.specs.Units.{IsUnit};
@@ -9,7 +10,7 @@ ghost use Rattle.java_units.specs.Dimensions.{dims_of_bounds, greatest, type_dim
 ghost use Rattle.scopes.specs.Holes.{IsHoleIn};
 
 use class_summary::Resolver;
-use decl_index::{Change, Index};
+use decl_index::{Change, Index, Weights};
 use java_bodies::{HoleSite, hole_at};
 use java_tokens::{Token, tokens};
 use java_units::{Unit, read_unit};
@@ -83,7 +84,9 @@ fn unit_of(alloc: Global, text: &str) -> Result<Unit, AllocError>
 }
 
 /// The publication of the classes of a text, which sees those of an index.
-fn publication(alloc: Global, index: &Index, text: &str) -> Result<Change, AllocError> {
+fn publication(alloc: Global, index: &Index, text: &str) -> Result<Change, AllocError>
+    ensures { IfOk result (λ change. KeepsRanges change) }
+{
     let unit = unit_of(alloc, text)?;
     Ok(Change::Publish {
         puts: Resolver::new(alloc, &unit, index)?.summaries(alloc)?,
@@ -93,7 +96,9 @@ fn publication(alloc: Global, index: &Index, text: &str) -> Result<Change, Alloc
 }
 
 /// The index after one more publication.
-fn with_change(alloc: Global, index: &Index, change: &Change) -> Result<Index, Fail> {
+fn with_change(alloc: Global, index: &Index, change: &Change) -> Result<Index, Fail>
+    requires { KeepsRanges change.now }
+{
     if index.number() == u32::MAX {
         return Err(Fail::from("few texts"));
     }
@@ -110,6 +115,14 @@ pub fn published(alloc: Global, texts: &[&str]) -> Result<Index, Fail> {
         index = with_change(alloc, &index, &change)?;
     }
     Ok(index)
+}
+
+/// The index after a setting of these weights.
+pub fn weighed(alloc: Global, index: &Index, weights: Weights) -> Result<Index, Fail> {
+    match Weights::checked(weights) {
+        Some(weights) => with_change(alloc, index, &Change::SetWeights(weights)),
+        None => Err(Fail::from("weights in their ranges")),
+    }
 }
 
 /// The environment at a place of a text.

@@ -1,6 +1,6 @@
 // From a text with a hole, and texts whose classes it sees, to the Java expressions that fit the hole.
-use crate::holes::{Hole, hole_in, made, published};
-use decl_index::Index;
+use crate::holes::{Hole, hole_in, made, published, weighed};
+use decl_index::{Index, Weights};
 use documents::Document;
 use listing::{Item, Listing};
 use reconstruction::Rebuild;
@@ -163,6 +163,71 @@ pub const READERS: Row<'static> = Row {
 #[test]
 fn readers_are_wrapped_as_far_as_the_limit_goes(rt: HostRuntime) -> Result<(), Fail> {
     assert!(rt; is_listed(rt.alloc(), &READERS)?);
+    Ok(())
+}
+
+/// Whether the whole list at the hole of a row has its items once these weights are set.
+fn is_listed_by(alloc: Global, row: &Row<'_>, weights: Weights) -> Result<bool, Fail> {
+    let index = weighed(alloc, &published(alloc, row.library)?, weights)?;
+    let env = env_of(alloc, &index, row)?;
+    Ok(lists(alloc, env, row.items)?)
+}
+
+#[test]
+fn a_member_weighs_the_same_however_often_it_is_used(rt: HostRuntime) -> Result<(), Fail> {
+    let row = Row {
+        limit: 700,
+        items: &[
+            (230, "new FileReader(name)"),
+            (425, "new FileReader(\"\")"),
+            (455, "new BufferedReader(new FileReader(name))"),
+            (650, "new BufferedReader(new FileReader(\"\"))"),
+            (
+                680,
+                "new BufferedReader(new BufferedReader(new FileReader(name)))",
+            ),
+        ],
+        ..READERS
+    };
+    let weights = Weights {
+        span: 0,
+        ..Weights::usual()
+    };
+    assert!(rt; is_listed_by(rt.alloc(), &row, weights)?);
+    Ok(())
+}
+
+#[test]
+fn a_coercion_weighs_as_it_is_set(rt: HostRuntime) -> Result<(), Fail> {
+    let row = Row {
+        items: &[(30, "T.m(s)"), (31, "T.m((Object) s)")],
+        ..OVERLOADS
+    };
+    let weights = Weights {
+        step: 1,
+        ..Weights::usual()
+    };
+    assert!(rt; is_listed_by(rt.alloc(), &row, weights)?);
+    Ok(())
+}
+
+/// A hole for a functional interface, where a use of the lambda's variable weighs 3 and its binder 2.
+const LAMBDA: Row<'static> = Row {
+    library: &["package q; public interface I { int f(int y); }"],
+    text: "package q; class Use { static void go(int x) { I i = ",
+    at: END,
+    limit: 20,
+    items: &[(15, "(I) (p0) -> p0"), (17, "(I) (p0) -> x")],
+};
+
+#[test]
+fn variables_and_binders_weigh_as_they_are_set(rt: HostRuntime) -> Result<(), Fail> {
+    let weights = Weights {
+        bound: 3,
+        binder: 2,
+        ..Weights::usual()
+    };
+    assert!(rt; is_listed_by(rt.alloc(), &LAMBDA, weights)?);
     Ok(())
 }
 

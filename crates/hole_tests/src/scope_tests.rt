@@ -92,7 +92,7 @@ fn shown(alloc: Global, env: &Env) -> Result<Text, AllocError> {
 
 /// Classes of published texts, a text that ends in a hole, and its environment: types, pairs, declarations, goal and
 /// binder.
-const ROWS: [([&str; 3], &str, &str); 9] = [
+const ROWS: [([&str; 3], &str, &str); 13] = [
     (
         [
             "package q; public class A { public int m() {} }",
@@ -165,6 +165,30 @@ const ROWS: [([&str; 3], &str, &str); 9] = [
         ],
         "package p; import q.I; class Use { static void go(I i) { long[] r = ",
         "int String Use q.A I boolean long[] \n\n5 name i -> I \n200 name 0 -> int \n200 name true -> boolean \n200 name false -> boolean \n200 name \"\" -> String \n20 new Use -> Use \n1000 method m I long[] -> q.A \n10 lambda I fun long[] q.A -> I \nlong[] p",
+    ),
+    (
+        [
+            "package q; public class A { public static int s; public A(int a, int b) {} }",
+            "",
+            "",
+        ],
+        "package q; class A { static void go(long l) { int r = ",
+        "int long String A boolean \nint < long \n5 name l -> long \n200 name 0 -> int \n200 name true -> boolean \n200 name false -> boolean \n200 name \"\" -> String \n20 new A -> A \nint p",
+    ),
+    (
+        ["", "", ""],
+        "class A extends A { int k; void f() { int r = ",
+        "int A String boolean \n\n5 this this -> A \n200 name 0 -> int \n200 name true -> boolean \n200 name false -> boolean \n200 name \"\" -> String \n20 field k A -> int \n20 new A -> A \nint p",
+    ),
+    (
+        ["", "", ""],
+        "class A { int k; } class A { int j; void f() { int r = ",
+        "int A String boolean \n\n5 this this -> A \n200 name 0 -> int \n200 name true -> boolean \n200 name false -> boolean \n200 name \"\" -> String \n20 field j A -> int \n20 new A -> A \nint p",
+    ),
+    (
+        ["", "", ""],
+        "import x.Y; import z.*; import static a.B.c; class A { void f() { int r = ",
+        "int A String boolean \n\n5 this this -> A \n200 name 0 -> int \n200 name true -> boolean \n200 name false -> boolean \n200 name \"\" -> String \n20 new A -> A \nint p",
     ),
 ];
 

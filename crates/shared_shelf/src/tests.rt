@@ -24,6 +24,13 @@ fn one_place_keeps_the_newest(rt: HostRuntime) -> Result<(), Fail> {
     }
     assert!(rt; slots.find(1)?.is_some());
     assert!(rt; slots.find(2)?.is_none());
+    let shelf = SharedShelf::new(rt.alloc(), 1);
+    for row in &ONE_PLACE {
+        let shared = shelf.share(&rt, rt.alloc(), row.0, row.0)?;
+        assert_eq!(rt; shared.fresh.is_some(), row.1);
+    }
+    assert!(rt; shelf.find(&rt, 1)?.is_some());
+    assert!(rt; shelf.find(&rt, 2)?.is_none());
     Ok(())
 }
 
