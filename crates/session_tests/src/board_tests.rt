@@ -1,8 +1,9 @@
-ghost use Rattle.std.specs.Prelude.{◌≡◌};
+ghost use Rattle.std.specs.Prelude.{◌≡◌, IfOk};
+ghost use Rattle.decl_index.specs.History.{KeepsRanges};
 ghost use Rattle.version_board.specs.Versions.{IsVersion};
 
 use crate::snapshot_tests::one_class;
-use decl_index::Change;
+use decl_index::{Change, Weights};
 use known_classes::Classes;
 use std::alloc::{AllocError, Global};
 use std::marker::Brand;
@@ -59,23 +60,24 @@ fn publish_and_read<J: Naming, R: Wait + Abort + Copy + Drop>(
     assert!(rt; are_new(passes.as_slice()));
     publish_rows(&rt, alloc, &mut board.lock(&rt))?;
     if let Some(pass) = passes.as_mut_slice().first_mut() {
-        assert!(rt; read_by(&rt, pass, "p/A")? == (3, true));
-        assert_eq!(rt; pass.seen(), 3);
-        assert_eq!(rt; pass.prefix().len(), 3);
+        assert!(rt; read_by(&rt, pass, "p/A")? == (4, true));
+        assert_eq!(rt; pass.seen(), 4);
+        assert_eq!(rt; pass.prefix().len(), 4);
     }
     board.into_inner().close();
     Ok(())
 }
 
-/// What is published: a class and its super class, or the withdrawal of the versions up to a number.
+/// What is published: a class and its super class, the withdrawal of the versions up to a number, or the usual weights.
 enum Asked {
     Class(&'static str, &'static str),
     Withdraw(u32),
+    Weigh,
 }
 
 /// Changes that are published one after the other, and what each is told: the number of the receipt, and the number
 /// of the cause where it is refused. A refusal changes nothing, and a withdrawal may reach the newest version.
-const ROWS: [(Asked, (u32, u32)); 7] = [
+const ROWS: [(Asked, (u32, u32)); 8] = [
     (Asked::Class("p/A", "p/A"), (0, 1)),
     (Asked::Withdraw(1), (0, 3)),
     (Asked::Class("p/A", "java/lang/Object"), (1, 0)),
@@ -83,12 +85,16 @@ const ROWS: [(Asked, (u32, u32)); 7] = [
     (Asked::Withdraw(1), (2, 0)),
     (Asked::Class("p/B", "p/B"), (2, 1)),
     (Asked::Withdraw(0), (3, 0)),
+    (Asked::Weigh, (4, 0)),
 ];
 
-fn change_of(alloc: Global, asked: &Asked) -> Result<Change, AllocError> {
+fn change_of(alloc: Global, asked: &Asked) -> Result<Change, AllocError>
+    ensures { IfOk result (λ change. KeepsRanges change) }
+{
     match asked {
         Asked::Class(name, parent) => one_class(alloc, name, parent),
         Asked::Withdraw(through) => Ok(Change::Withdraw(*through)),
+        Asked::Weigh => Ok(Change::SetWeights(Weights::usual())),
     }
 }
 

@@ -29,7 +29,7 @@ const TOO_EARLY: &str =
     r#"{"error":{"code":-32002,"message":"not initialized"},"id":1,"jsonrpc":"2.0"}"#;
 
 const CAPABILITIES: &str =
-    r#"{"id":1,"jsonrpc":"2.0","result":{"capabilities":{"completionProvider":{},"executeCommandProvider":{"commands":["insynth.close","insynth.page","insynth.publish","insynth.withdraw"]},"positionEncoding":"utf-16","textDocumentSync":{"change":2,"openClose":true}},"serverInfo":{"name":"insynthd"}}}"#;
+    r#"{"id":1,"jsonrpc":"2.0","result":{"capabilities":{"completionProvider":{},"executeCommandProvider":{"commands":["insynth.close","insynth.explain","insynth.page","insynth.publish","insynth.weights","insynth.withdraw"]},"positionEncoding":"utf-16","textDocumentSync":{"change":2,"openClose":true}},"serverInfo":{"name":"insynthd"}}}"#;
 
 /// What a client is left with: its status, and the bytes that were written.
 #[derive(Drop)]
@@ -144,6 +144,23 @@ const FAULTS: [(&str, u64, u32); 4] = [
 fn a_fault_of_frames_ends_the_session(rt: HostRuntime) -> Result<(), Fail> {
     for (input, place, cause) in FAULTS {
         assert!(rt; ends(&rt, rt.alloc(), input.as_bytes(), (3, place, cause), &[])?);
+    }
+    Ok(())
+}
+
+/// The same behind the 80 bytes of a request, which is answered. Of a length that is too great the length is told.
+#[test]
+fn a_fault_of_frames_comes_after_replies(rt: HostRuntime) -> Result<(), Fail> {
+    for (input, place, cause) in FAULTS {
+        let mut session = frames(rt.alloc(), &[INITIALIZE])?;
+        assert_eq!(rt; session.len(), 80);
+        session.extend_from_slice(input.as_bytes())?;
+        let told = if cause == 3 {
+            place
+        } else {
+            place.saturating_add(80)
+        };
+        assert!(rt; ends(&rt, rt.alloc(), &session, (3, told, cause), &[CAPABILITIES])?);
     }
     Ok(())
 }

@@ -113,8 +113,8 @@ const UNKNOWN: (usize, &str) = (
 // Bodies of replies.
 
 pub(crate) const CAPABILITIES: (usize, &str) = (
-    294,
-    r#"{"id":1,"jsonrpc":"2.0","result":{"capabilities":{"completionProvider":{},"executeCommandProvider":{"commands":["insynth.close","insynth.page","insynth.publish","insynth.withdraw"]},"positionEncoding":"utf-16","textDocumentSync":{"change":2,"openClose":true}},"serverInfo":{"name":"insynthd"}}}"#,
+    330,
+    r#"{"id":1,"jsonrpc":"2.0","result":{"capabilities":{"completionProvider":{},"executeCommandProvider":{"commands":["insynth.close","insynth.explain","insynth.page","insynth.publish","insynth.weights","insynth.withdraw"]},"positionEncoding":"utf-16","textDocumentSync":{"change":2,"openClose":true}},"serverInfo":{"name":"insynthd"}}}"#,
 );
 
 const NULL: (usize, &str) = (38, r#"{"id":3,"jsonrpc":"2.0","result":null}"#);

@@ -180,6 +180,7 @@ const WITH_USES: Part<'static> = Part {
 #[test]
 fn a_list_is_of_the_version_that_another_client_made(rt: HostRuntime) -> Result<(), Fail> {
     assert!(rt; are_told(&rt, rt.alloc(), OF_A_CLASS, AFTER_A_CLASS)?);
+    assert!(rt; are_told(&rt, rt.alloc(), AFTER_A_CLASS, OF_A_CLASS)?);
     assert!(rt; are_told(&rt, rt.alloc(), OF_USES, WITH_USES)?);
     Ok(())
 }

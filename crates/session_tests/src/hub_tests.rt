@@ -3,11 +3,12 @@ ghost use Rattle.version_board.specs.Versions.{IsVersion};
 
 use crate::shared_page_tests::{calls, names, pops};
 use answers::Page;
+use fingerprint::{Fingerprinted, print_of};
 use listing::Listing;
 use lists::Items;
 use outside::SteadyShelf;
 use reconstruction::Rebuild;
-use sessions::{Hub, RunningWorld, World, print_of, shared_page};
+use sessions::{Hub, RunningWorld, World, shared_page};
 use shared_shelf::SharedShelf;
 use std::alloc::{AllocError, Global};
 use std::marker::Brand;
@@ -51,17 +52,20 @@ fn env_of(alloc: Global, number: usize) -> Result<Env, EnvFault> {
     }
 }
 
-/// Whether each of so many pages of an environment, taken from a shelf that others use as well, is its whole list.
+/// Whether each of so many pages of an environment, taken from a shelf that others use as well, is its whole list. All
+/// environments stand under one fingerprint, or each under its own.
 fn gets_its_list<R: Wait>(
     rt: &R,
     alloc: Global,
     shelf: &SharedShelf<Listing<Rebuild>>,
     number: usize,
     texts: &[&str],
+    is_one_print: bool,
 ) -> Result<bool, EnvFault> {
     let env = env_of(alloc, number)?;
+    let print = if is_one_print { 7 } else { print_of(&env) };
     for _ in 0..50 {
-        let page = shared_page(rt, alloc, shelf, print_of(&env), &env, 0, 9)?;
+        let page = shared_page(rt, alloc, shelf, print, &env, 0, 9)?;
         if !has_texts(&page, texts) {
             return Ok(false);
         }
@@ -73,6 +77,7 @@ fn gets_its_list<R: Wait>(
 fn all_get_their_lists<R: Threads + Wait + Sync>(
     rt: &R,
     alloc: Global,
+    is_one_print: bool,
 ) -> Result<bool, AllocError> {
     let shelf: SharedShelf<Listing<Rebuild>> = SharedShelf::new(alloc, 2);
     let right = thread::map_indices(
@@ -81,7 +86,9 @@ fn all_get_their_lists<R: Threads + Wait + Sync>(
         4,
         &|number: usize| -> bool {
             match LISTS.get(number) {
-                Some(texts) => gets_its_list(rt, alloc, &shelf, number, texts).unwrap_or(false),
+                Some(texts) => {
+                    gets_its_list(rt, alloc, &shelf, number, texts, is_one_print).unwrap_or(false)
+                }
                 None => false,
             }
         },
@@ -91,7 +98,8 @@ fn all_get_their_lists<R: Threads + Wait + Sync>(
 
 #[test]
 fn each_thread_gets_the_list_of_its_environment(rt: HostRuntime) -> Result<(), Fail> {
-    assert!(rt; all_get_their_lists(&rt, rt.alloc())?);
+    assert!(rt; all_get_their_lists(&rt, rt.alloc(), false)?);
+    assert!(rt; all_get_their_lists(&rt, rt.alloc(), true)?);
     Ok(())
 }
 
@@ -101,7 +109,7 @@ fn take_pages<J: Naming, R: Wait + Drop>(
     alloc: Global,
     hub: &Hub<J, R>,
     pass: Pass<J>,
-    env: &Env,
+    env: &Fingerprinted,
 ) -> Result<bool, AllocError> {
     let mut world = RunningWorld {
         rt,
@@ -129,7 +137,7 @@ fn pops_of_clients<J: Naming, R: Wait + Abort + Copy + Drop>(
     alloc: Global,
     opened: Opened,
     first: Snapshot,
-    env: &Env,
+    env: &Fingerprinted,
     count: usize,
 ) -> Result<u64, AllocError>
     requires book { opened.seen.book ≡ J.book }
@@ -141,7 +149,7 @@ fn pops_of_clients<J: Naming, R: Wait + Abort + Copy + Drop>(
     for pass in passes {
         assert!(rt; take_pages(&rt, alloc, &hub, pass, env)?);
     }
-    pops(&rt, &hub.shelf, print_of(env))
+    pops(&rt, &hub.shelf, env.print())
 }
 
 /// The same of a new board.
@@ -153,14 +161,15 @@ fn pops_at_one_hole<R: Wait + Abort + Copy + Drop>(
     requires count { (0 < count) × (count ≤ 64) }
 {
     let first = Snapshot::empty(alloc)?;
-    let env = calls(alloc, "long", 1, 75)?;
+    let env = Fingerprinted::new(calls(alloc, "long", 1, 75)?);
     Ok(pops_of_clients::<Brand, R>(rt, alloc, Opened::new(), first, &env, count)?)
 }
 
 #[test]
-fn two_clients_at_one_hole_search_once(rt: HostRuntime) -> Result<(), Fail> {
+fn clients_at_one_hole_search_once(rt: HostRuntime) -> Result<(), Fail> {
     let one = pops_at_one_hole(&rt, rt.alloc(), 1)?;
     assert!(rt; one > 0);
     assert_eq!(rt; pops_at_one_hole(&rt, rt.alloc(), 2)?, one);
+    assert_eq!(rt; pops_at_one_hole(&rt, rt.alloc(), 64)?, one);
     Ok(())
 }

@@ -10,6 +10,8 @@ mod client_tests;
 #[cfg(test)]
 mod count_tests;
 #[cfg(test)]
+mod explain_tests;
+#[cfg(test)]
 mod frame_tests;
 #[cfg(test)]
 mod gated_tests;
@@ -41,5 +43,7 @@ mod step_tests;
 mod two_client_tests;
 #[cfg(test)]
 mod version_tests;
+#[cfg(test)]
+mod weight_tests;
 #[cfg(test)]
 mod words;

@@ -1,3 +1,6 @@
+ghost use Rattle.std.specs.Prelude.{IfOk};
+ghost use Rattle.decl_index.specs.History.{KeepsRanges};
+
 use crate::frame_tests::CAPABILITIES;
 use crate::version_tests::gives;
 use decl_index::Change;
@@ -157,7 +160,9 @@ fn class_of(alloc: Global, class: &Class) -> Result<ClassSummary, AllocError> {
 }
 
 /// The publication of these classes.
-fn publication(alloc: Global, classes: &[Class]) -> Result<Change, AllocError> {
+fn publication(alloc: Global, classes: &[Class]) -> Result<Change, AllocError>
+    ensures { IfOk result (λ change. KeepsRanges change) }
+{
     let mut puts = Items::new(alloc);
     for class in classes {
         puts.push(class_of(alloc, class)?)?;

@@ -1,6 +1,6 @@
 use crate::version_tests::readers;
 use lists::{Items, Text};
-use outside::{FaultPlan, HeldFile, MemShelf};
+use outside::{FaultPlan, HeldFile, LONGEST_LOAD, MemShelf};
 use sessions::{MemWorld, Outcome, Session, World};
 use std::alloc::{AllocError, Global};
 use std::sync::Wait;
@@ -39,8 +39,17 @@ const BA: [u8; 38] = [
     0x21, 0, 1, 0, 3, 0, 0, 0, 0, 0, 0, 0, 0,
 ];
 
+/// `public class A`, around itself by a row of `InnerClasses`.
+const OWN_OUTER: [u8; 84] = [
+    0xCA, 0xFE, 0xBA, 0xBE, 0, 0, 0, 0x34, 0, 6, 7, 0, 2, 1, 0, 1, 0x41, 7, 0, 4, 1, 0, 0x10, 0x6A,
+    0x61, 0x76, 0x61, 0x2F, 0x6C, 0x61, 0x6E, 0x67, 0x2F, 0x4F, 0x62, 0x6A, 0x65, 0x63, 0x74, 1, 0,
+    12, 0x49, 0x6E, 0x6E, 0x65, 0x72, 0x43, 0x6C, 0x61, 0x73, 0x73, 0x65, 0x73, 0, 0x21, 0, 1, 0,
+    3, 0, 0, 0, 0, 0, 0, 0, 1, 0, 5, 0, 0, 0, 10, 0, 1, 0, 1, 0, 1, 0, 0, 0, 0,
+];
+
 /// The files of these tests.
-const FILES: [(&str, &[u8]); 5] = [
+const FILES: [(&str, &[u8]); 6] = [
+    ("/nest.class", &OWN_OUTER),
     ("/A.class", &A),
     ("/long.class", &LONG),
     ("/cut.class", &CUT),
@@ -52,7 +61,7 @@ const FILES: [(&str, &[u8]); 5] = [
 const FILES_TOLD: [(&str, &str); 8] = [
     (
         r#"{"jsonrpc":"2.0","id":1,"method":"initialize","params":{}}"#,
-        r#"{"id":1,"jsonrpc":"2.0","result":{"capabilities":{"completionProvider":{},"executeCommandProvider":{"commands":["insynth.close","insynth.page","insynth.publish","insynth.withdraw"]},"positionEncoding":"utf-16","textDocumentSync":{"change":2,"openClose":true}},"serverInfo":{"name":"insynthd"}}}"#,
+        r#"{"id":1,"jsonrpc":"2.0","result":{"capabilities":{"completionProvider":{},"executeCommandProvider":{"commands":["insynth.close","insynth.explain","insynth.page","insynth.publish","insynth.weights","insynth.withdraw"]},"positionEncoding":"utf-16","textDocumentSync":{"change":2,"openClose":true}},"serverInfo":{"name":"insynthd"}}}"#,
     ),
     (
         r#"{"jsonrpc":"2.0","id":2,"method":"workspace/executeCommand","params":{"command":"insynth.publish","arguments":[{"put":["file:///cut.class"]}]}}"#,
@@ -85,10 +94,10 @@ const FILES_TOLD: [(&str, &str); 8] = [
 ];
 
 /// What changes are refused for, and versions.
-const CHANGES_TOLD: [(&str, &str); 7] = [
+const CHANGES_TOLD: [(&str, &str); 8] = [
     (
         r#"{"jsonrpc":"2.0","id":1,"method":"initialize","params":{}}"#,
-        r#"{"id":1,"jsonrpc":"2.0","result":{"capabilities":{"completionProvider":{},"executeCommandProvider":{"commands":["insynth.close","insynth.page","insynth.publish","insynth.withdraw"]},"positionEncoding":"utf-16","textDocumentSync":{"change":2,"openClose":true}},"serverInfo":{"name":"insynthd"}}}"#,
+        r#"{"id":1,"jsonrpc":"2.0","result":{"capabilities":{"completionProvider":{},"executeCommandProvider":{"commands":["insynth.close","insynth.explain","insynth.page","insynth.publish","insynth.weights","insynth.withdraw"]},"positionEncoding":"utf-16","textDocumentSync":{"change":2,"openClose":true}},"serverInfo":{"name":"insynthd"}}}"#,
     ),
     (
         r#"{"jsonrpc":"2.0","id":2,"method":"workspace/executeCommand","params":{"command":"insynth.withdraw","arguments":[{"through":1}]}}"#,
@@ -97,6 +106,10 @@ const CHANGES_TOLD: [(&str, &str); 7] = [
     (
         r#"{"jsonrpc":"2.0","id":3,"method":"workspace/executeCommand","params":{"command":"insynth.publish","arguments":[{"put":["file:///AB.class","file:///BA.class"]}]}}"#,
         r#"{"error":{"code":-32602,"data":{"cause":14,"index":0,"name":"A"},"message":"invalid params"},"id":3,"jsonrpc":"2.0"}"#,
+    ),
+    (
+        r#"{"jsonrpc":"2.0","id":3,"method":"workspace/executeCommand","params":{"command":"insynth.publish","arguments":[{"put":["file:///BA.class","file:///nest.class"]}]}}"#,
+        r#"{"error":{"code":-32602,"data":{"cause":18,"index":0,"name":"A"},"message":"invalid params"},"id":3,"jsonrpc":"2.0"}"#,
     ),
     (
         r#"{"jsonrpc":"2.0","id":4,"method":"workspace/executeCommand","params":{"command":"insynth.publish","arguments":[{}]}}"#,
@@ -120,7 +133,7 @@ const CHANGES_TOLD: [(&str, &str); 7] = [
 const PAGES_TOLD: [(&str, &str); 7] = [
     (
         r#"{"jsonrpc":"2.0","id":1,"method":"initialize","params":{"initializationOptions":{"count":3}}}"#,
-        r#"{"id":1,"jsonrpc":"2.0","result":{"capabilities":{"completionProvider":{},"executeCommandProvider":{"commands":["insynth.close","insynth.page","insynth.publish","insynth.withdraw"]},"positionEncoding":"utf-16","textDocumentSync":{"change":2,"openClose":true}},"serverInfo":{"name":"insynthd"}}}"#,
+        r#"{"id":1,"jsonrpc":"2.0","result":{"capabilities":{"completionProvider":{},"executeCommandProvider":{"commands":["insynth.close","insynth.explain","insynth.page","insynth.publish","insynth.weights","insynth.withdraw"]},"positionEncoding":"utf-16","textDocumentSync":{"change":2,"openClose":true}},"serverInfo":{"name":"insynthd"}}}"#,
     ),
     (
         r#"{"jsonrpc":"2.0","method":"textDocument/didOpen","params":{"textDocument":{"uri":"file:///Demo.java","text":"import java.io.*;\nclass Demo {\n  static void go(String name) {\n    Reader r = \n  }\n}\n"}}}"#,
@@ -161,7 +174,7 @@ pub(crate) const EIGHT: &str =
 const USES_TOLD: [(&str, &str); 4] = [
     (
         r#"{"jsonrpc":"2.0","id":1,"method":"initialize","params":{}}"#,
-        r#"{"id":1,"jsonrpc":"2.0","result":{"capabilities":{"completionProvider":{},"executeCommandProvider":{"commands":["insynth.close","insynth.page","insynth.publish","insynth.withdraw"]},"positionEncoding":"utf-16","textDocumentSync":{"change":2,"openClose":true}},"serverInfo":{"name":"insynthd"}}}"#,
+        r#"{"id":1,"jsonrpc":"2.0","result":{"capabilities":{"completionProvider":{},"executeCommandProvider":{"commands":["insynth.close","insynth.explain","insynth.page","insynth.publish","insynth.weights","insynth.withdraw"]},"positionEncoding":"utf-16","textDocumentSync":{"change":2,"openClose":true}},"serverInfo":{"name":"insynthd"}}}"#,
     ),
     (
         r#"{"jsonrpc":"2.0","method":"textDocument/didOpen","params":{"textDocument":{"uri":"file:///Demo.java","text":"import java.io.*;\nclass Demo {\n  static void go(String name) {\n    Reader r = \n  }\n}\n"}}}"#,
@@ -178,7 +191,7 @@ const USES_TOLD: [(&str, &str); 4] = [
 const READ_FAULT_TOLD: [(&str, &str); 3] = [
     (
         r#"{"jsonrpc":"2.0","id":1,"method":"initialize","params":{}}"#,
-        r#"{"id":1,"jsonrpc":"2.0","result":{"capabilities":{"completionProvider":{},"executeCommandProvider":{"commands":["insynth.close","insynth.page","insynth.publish","insynth.withdraw"]},"positionEncoding":"utf-16","textDocumentSync":{"change":2,"openClose":true}},"serverInfo":{"name":"insynthd"}}}"#,
+        r#"{"id":1,"jsonrpc":"2.0","result":{"capabilities":{"completionProvider":{},"executeCommandProvider":{"commands":["insynth.close","insynth.explain","insynth.page","insynth.publish","insynth.weights","insynth.withdraw"]},"positionEncoding":"utf-16","textDocumentSync":{"change":2,"openClose":true}},"serverInfo":{"name":"insynthd"}}}"#,
     ),
     (
         r#"{"jsonrpc":"2.0","id":2,"method":"workspace/executeCommand","params":{"command":"insynth.publish","arguments":[{"put":["file:///A.class","file:///A.class"]}]}}"#,
@@ -245,7 +258,7 @@ fn told_first<R: Wait>(
 }
 
 /// The same over the version of the three readers.
-fn told_after<R: Wait>(
+pub(crate) fn told_after<R: Wait>(
     rt: &R,
     alloc: Global,
     messages: &[(&str, &str)],
@@ -265,6 +278,44 @@ fn files_are_refused_at_their_numbers(rt: HostRuntime) -> Result<(), Fail> {
     Ok(())
 }
 
+/// No file is loaded where parameters are refused, none after the one that is answered, and none twice.
+#[test]
+fn each_file_is_loaded_once(rt: HostRuntime) -> Result<(), Fail> {
+    let shelf = shelf(rt.alloc(), FaultPlan::none(rt.alloc()))?;
+    let mut world = MemWorld::new(&rt, rt.alloc(), shelf)?;
+    assert_eq!(rt; told(rt.alloc(), &mut world, &FILES_TOLD)?, 8);
+    assert_eq!(rt; world.shelf.plan.calls, 6);
+    Ok(())
+}
+
+/// A file of one byte more than is read.
+const TOO_LONG_TOLD: [(&str, &str); 3] = [
+    (
+        r#"{"jsonrpc":"2.0","id":1,"method":"initialize","params":{}}"#,
+        r#"{"id":1,"jsonrpc":"2.0","result":{"capabilities":{"completionProvider":{},"executeCommandProvider":{"commands":["insynth.close","insynth.explain","insynth.page","insynth.publish","insynth.weights","insynth.withdraw"]},"positionEncoding":"utf-16","textDocumentSync":{"change":2,"openClose":true}},"serverInfo":{"name":"insynthd"}}}"#,
+    ),
+    (
+        r#"{"jsonrpc":"2.0","id":2,"method":"workspace/executeCommand","params":{"command":"insynth.publish","arguments":[{"put":["file:///A.class","file:///huge.class"]}]}}"#,
+        r#"{"error":{"code":-32602,"data":{"cause":10,"index":1},"message":"invalid params"},"id":2,"jsonrpc":"2.0"}"#,
+    ),
+    (
+        r#"{"jsonrpc":"2.0","id":3,"method":"workspace/executeCommand","params":{"command":"insynth.publish","arguments":[{"put":["file:///A.class"]}]}}"#,
+        r#"{"id":3,"jsonrpc":"2.0","result":{"version":1}}"#,
+    ),
+];
+
+#[test]
+fn a_file_may_be_too_long(rt: HostRuntime) -> Result<(), Fail> {
+    let mut shelf = shelf(rt.alloc(), FaultPlan::none(rt.alloc()))?;
+    let huge = vec![in rt.alloc(); 0u8; LONGEST_LOAD + 1]?;
+    shelf
+        .files
+        .push(file(rt.alloc(), "/huge.class", huge.as_slice())?)?;
+    let mut world = MemWorld::new(&rt, rt.alloc(), shelf)?;
+    assert_eq!(rt; told(rt.alloc(), &mut world, &TOO_LONG_TOLD)?, 3);
+    Ok(())
+}
+
 #[test]
 fn a_load_may_fail(rt: HostRuntime) -> Result<(), Fail> {
     let plan = FaultPlan::new(Items::from_slice(rt.alloc(), &[2])?);
@@ -275,7 +326,7 @@ fn a_load_may_fail(rt: HostRuntime) -> Result<(), Fail> {
 #[test]
 fn changes_are_refused_or_get_numbers(rt: HostRuntime) -> Result<(), Fail> {
     let plan = FaultPlan::none(rt.alloc());
-    assert_eq!(rt; told_first(&rt, rt.alloc(), plan, &CHANGES_TOLD)?, 7);
+    assert_eq!(rt; told_first(&rt, rt.alloc(), plan, &CHANGES_TOLD)?, 8);
     Ok(())
 }
 

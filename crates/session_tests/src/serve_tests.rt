@@ -31,10 +31,10 @@ const SESSION: &str =
 
 /// The replies to them.
 const REPLIES: &str =
-    "Content-Length: 294\r\n\r\n{\"id\":1,\"jsonrpc\":\"2.0\",\"result\":{\"capabilities\":{\"completionProvider\":{},\"executeCommandProvider\":{\"commands\":[\"insynth.close\",\"insynth.page\",\"insynth.publish\",\"insynth.withdraw\"]},\"positionEncoding\":\"utf-16\",\"textDocumentSync\":{\"change\":2,\"openClose\":true}},\"serverInfo\":{\"name\":\"insynthd\"}}}Content-Length: 38\r\n\r\n{\"id\":2,\"jsonrpc\":\"2.0\",\"result\":null}";
+    "Content-Length: 330\r\n\r\n{\"id\":1,\"jsonrpc\":\"2.0\",\"result\":{\"capabilities\":{\"completionProvider\":{},\"executeCommandProvider\":{\"commands\":[\"insynth.close\",\"insynth.explain\",\"insynth.page\",\"insynth.publish\",\"insynth.weights\",\"insynth.withdraw\"]},\"positionEncoding\":\"utf-16\",\"textDocumentSync\":{\"change\":2,\"openClose\":true}},\"serverInfo\":{\"name\":\"insynthd\"}}}Content-Length: 38\r\n\r\n{\"id\":2,\"jsonrpc\":\"2.0\",\"result\":null}";
 
 /// Where the first reply ends.
-const FIRST_REPLY: usize = 317;
+const FIRST_REPLY: usize = 353;
 
 /// What a run leaves: its status, what was written, and whether nothing was read.
 #[derive(Drop)]

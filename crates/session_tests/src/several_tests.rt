@@ -63,14 +63,18 @@ fn status(code: u8, end: u32) -> Status {
     }
 }
 
-// Sessions that end well, without a shutdown, by a failed read and by a failed write, and the greatest code with the
-// first end that has it.
+// Sessions that end well, without a shutdown, within a frame, by a failed read and by a failed write, and the greatest
+// code with the first end that has it.
 #[test]
 fn the_greatest_code_is_answered(rt: HostRuntime) -> Result<(), Fail> {
     let alloc = rt.alloc();
     let whole = framed(alloc, &[INITIALIZE, SHUTDOWN, EXIT])?;
     let short = framed(alloc, &[INITIALIZE])?;
-    let table: [(&[u8], Status); 7] = [
+    let cut = match whole.as_bytes().split_last() {
+        Some((_, front)) => front,
+        None => b"",
+    };
+    let table: [(&[u8], Status); 8] = [
         (b"0", status(0, 0)),
         (b"000", status(0, 0)),
         (b"01", status(1, 1)),
@@ -78,14 +82,27 @@ fn the_greatest_code_is_answered(rt: HostRuntime) -> Result<(), Fail> {
         (b"0141", status(4, 2)),
         (b"05450", status(5, 1)),
         (b"4004", status(4, 0)),
+        (
+            b"0301",
+            Status {
+                code: 3,
+                end: 1,
+                place: cut.len() as u64,
+                cause: 4,
+            },
+        ),
     ];
     for (codes, wanted) in table {
         let mut ends = Vec::new(alloc);
         for code in codes {
-            let input = if *code == b'1' { &short } else { &whole };
+            let input = match *code {
+                b'1' => short.as_bytes(),
+                b'3' => cut,
+                _ => whole.as_bytes(),
+            };
             ends.push(end_of(
                 alloc,
-                input.as_bytes(),
+                input,
                 u64::from(*code == b'4'),
                 u64::from(*code == b'5'),
             )?)?;

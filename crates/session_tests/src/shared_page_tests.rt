@@ -1,14 +1,15 @@
 ghost use Rattle.std.specs.Prelude.{◌<◌, ◌≤◌};
 
 use answers::Page;
+use fingerprint::print_of;
 use listing::Listing;
 use lists::{Items, Text};
 use reconstruction::Rebuild;
-use sessions::{print_of, shared_page};
+use sessions::shared_page;
 use shared_shelf::SharedShelf;
 use std::alloc::{AllocError, Global};
 use std::sync::Wait;
-use terms::{Arg, Decl, Env, EnvFault, Form, Levels, Parts};
+use terms::{Arg, Decl, Env, EnvFault, Form, Levels, Parts, Steps};
 
 /// What a page is to be: its place and count, how many items are found for it, whether it is the last, and its texts.
 #[derive(Clone, Copy)]
@@ -80,6 +81,7 @@ fn env(
         limit,
         depth: 1,
         binder: Text::new(alloc),
+        steps: Steps::usual(),
     };
     if !parts.has_lengths() {
         return Err(EnvFault::OutOfMemory);
@@ -224,6 +226,26 @@ fn goes_on<E: Levels + Drop, R: Wait>(rt: &R, alloc: Global) -> Result<bool, Env
     let shelf: SharedShelf<Listing<E>> = SharedShelf::new(alloc, 2);
     let env = calls(alloc, "long", 1, 75)?;
     Ok(gives_all(rt, alloc, &shelf, &env)?)
+}
+
+/// A page behind the end as the first question on a shelf: all three items are found for it.
+fn begins_far<E: Levels + Drop, R: Wait>(rt: &R, alloc: Global) -> Result<bool, EnvFault> {
+    let shelf: SharedShelf<Listing<E>> = SharedShelf::new(alloc, 2);
+    let env = calls(alloc, "long", 1, 75)?;
+    let wanted = Wanted {
+        from: 1000,
+        count: 9,
+        grown: 3,
+        last: true,
+        texts: &[],
+    };
+    Ok(gives(rt, alloc, &shelf, 1, &env, &wanted)?)
+}
+
+#[test]
+fn a_far_page_may_come_first(rt: HostRuntime) -> Result<(), EnvFault> {
+    assert!(rt; begins_far::<Rebuild, HostRuntime>(&rt, rt.alloc())?);
+    Ok(())
 }
 
 #[test]

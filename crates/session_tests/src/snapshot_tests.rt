@@ -1,4 +1,7 @@
-use decl_index::{Change, ChangeFault};
+ghost use Rattle.std.specs.Prelude.{IfOk};
+ghost use Rattle.decl_index.specs.History.{KeepsRanges};
+
+use decl_index::{Change, ChangeFault, Weights};
 use known_classes::{ClassSummary, Classes};
 use lists::{Items, Text};
 use std::alloc::{AllocError, Global};
@@ -20,7 +23,9 @@ fn class(alloc: Global, name: &str, parent: &str) -> Result<ClassSummary, AllocE
 }
 
 /// The publication of these classes.
-fn publication(alloc: Global, puts: Items<ClassSummary>) -> Change {
+fn publication(alloc: Global, puts: Items<ClassSummary>) -> Change
+    ensures { KeepsRanges result }
+{
     Change::Publish {
         puts,
         removes: Items::new(alloc),
@@ -29,7 +34,9 @@ fn publication(alloc: Global, puts: Items<ClassSummary>) -> Change {
 }
 
 /// The publication of one class.
-pub(crate) fn one_class(alloc: Global, name: &str, parent: &str) -> Result<Change, AllocError> {
+pub(crate) fn one_class(alloc: Global, name: &str, parent: &str) -> Result<Change, AllocError>
+    ensures { IfOk result (λ change. KeepsRanges change) }
+{
     let mut puts = Items::new(alloc);
     puts.push(class(alloc, name, parent)?)?;
     Ok(publication(alloc, puts))
@@ -93,6 +100,17 @@ fn the_first_withdrawal_of_a_version_is_told(rt: HostRuntime) -> Result<(), Fail
 }
 
 #[test]
+fn a_setting_of_weights_is_a_version(rt: HostRuntime) -> Result<(), Fail> {
+    let version = version_of(rt.alloc(), &[None, Some(1)])?;
+    let weighed = version.after(rt.alloc(), &Change::SetWeights(Weights::usual()))?;
+    assert_eq!(rt; weighed.number, 3);
+    assert_eq!(rt; weighed.withdrawn(1), Some(2));
+    assert_eq!(rt; weighed.withdrawn(2), None);
+    assert_eq!(rt; weighed.journal.withdrawals.len(), 1);
+    Ok(())
+}
+
+#[test]
 fn a_change_is_refused(rt: HostRuntime) -> Result<(), Fail> {
     let version = version_of(rt.alloc(), &[None, None])?;
     let high = version.after(rt.alloc(), &Change::Withdraw(3));
@@ -127,5 +145,7 @@ fn a_full_journal_refuses_before_all_else(rt: HostRuntime) -> Result<(), Fail> {
     assert_eq!(rt; fault_of(&higher), 4);
     let cyclic = full.after(rt.alloc(), &one_class(rt.alloc(), "p/A", "p/A")?);
     assert_eq!(rt; fault_of(&cyclic), 4);
+    let weighed = full.after(rt.alloc(), &Change::SetWeights(Weights::usual()));
+    assert_eq!(rt; fault_of(&weighed), 4);
     Ok(())
 }

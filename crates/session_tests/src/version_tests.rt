@@ -1,4 +1,5 @@
 ghost use Rattle.std.specs.Prelude.{◌≡◌, ◌∷◌, [], IfOk};
+ghost use Rattle.decl_index.specs.History.{KeepsRanges};
 ghost use Rattle.version_board.specs.Versions.{IsVersion};
 
 use crate::client_tests::{Left, serve_from};
@@ -93,7 +94,9 @@ fn reader(alloc: Global, name: &str, of: &str) -> Result<ClassSummary, AllocErro
 }
 
 /// The publication of three readers; the one above the others is abstract.
-pub(crate) fn readers(alloc: Global) -> Result<Change, AllocError> {
+pub(crate) fn readers(alloc: Global) -> Result<Change, AllocError>
+    ensures { IfOk result (λ change. KeepsRanges change) }
+{
     let above = class(
         alloc,
         "java/io/Reader",
@@ -116,6 +119,7 @@ pub(crate) fn readers(alloc: Global) -> Result<Change, AllocError> {
 
 /// The version after one change.
 pub(crate) fn version_after(alloc: Global, change: &Change) -> Result<Snapshot, AllocError>
+    requires { KeepsRanges change.now }
     ensures { IfOk result (λ version. IsVersion (change.now ∷ []) version) }
 {
     let empty = Snapshot::empty(alloc)?;
@@ -150,7 +154,9 @@ pub(crate) fn gives<R: Wait>(
     change: &Change,
     sent: &[(usize, &str)],
     replied: &[(usize, &str)],
-) -> Result<bool, AllocError> {
+) -> Result<bool, AllocError>
+    requires { KeepsRanges change.now }
+{
     let input = framed(alloc, sent)?;
     let output = framed(alloc, replied)?;
     let first = version_after(alloc, change)?;
