@@ -1,10 +1,8 @@
-// Tests of versions, start texts, sessions and the program over ends in memory.
+// Tests of sessions and of the program over ends in memory.
 // There is no other code here: a test is proved with the crate that it stands in, and a crate that held its own
 // tests would be proved twice.
 #![tactic(auto)]
 
-#[cfg(test)]
-mod board_tests;
 #[cfg(test)]
 mod client_tests;
 #[cfg(test)]
@@ -16,11 +14,7 @@ mod frame_tests;
 #[cfg(test)]
 mod gated_tests;
 #[cfg(test)]
-mod hub_tests;
-#[cfg(test)]
 mod method_tests;
-#[cfg(test)]
-mod part_tests;
 #[cfg(test)]
 mod publication_tests;
 #[cfg(test)]
@@ -31,14 +25,6 @@ mod sample_tests;
 mod serve_tests;
 #[cfg(test)]
 mod several_tests;
-#[cfg(test)]
-mod shared_page_tests;
-#[cfg(test)]
-mod snapshot_tests;
-#[cfg(test)]
-mod start_tests;
-#[cfg(test)]
-mod step_tests;
 #[cfg(test)]
 mod two_client_tests;
 #[cfg(test)]
