@@ -173,3 +173,60 @@ fn clients_at_one_hole_search_once(rt: HostRuntime) -> Result<(), Fail> {
     assert_eq!(rt; pops_at_one_hole(&rt, rt.alloc(), 64)?, one);
     Ok(())
 }
+
+/// How many items a client's world finds for the first page at a hole, once it took first pages at so many holes, that
+/// one before all others.
+fn found_after<J: Naming, R: Wait + Drop>(
+    rt: &R,
+    alloc: Global,
+    hub: &Hub<J, R>,
+    pass: Pass<J>,
+    holes: u32,
+) -> Result<u64, EnvFault> {
+    let mut world = RunningWorld {
+        rt,
+        hub,
+        pass,
+        shelf: SteadyShelf {
+            files: Items::new(alloc),
+        },
+    };
+    for hole in 0..holes {
+        let env = Fingerprinted::new(calls(alloc, "long", 1, hole.saturating_add(75))?);
+        let _page = world.page(alloc, &env, 0, 1)?;
+    }
+    let env = Fingerprinted::new(calls(alloc, "long", 1, 75)?);
+    let page = world.page(alloc, &env, 0, 1)?;
+    Ok(page.grown)
+}
+
+/// The same by a client of a board.
+fn found_by_client<J: Naming, R: Wait + Copy + Drop>(
+    rt: R,
+    alloc: Global,
+    opened: Opened,
+    first: Snapshot,
+    holes: u32,
+) -> Result<u64, EnvFault>
+    requires book { opened.seen.book ≡ J.book }
+    requires first { IsVersion J.first first }
+{
+    let (publisher, mut passes) = start_board::<J, R>(rt, alloc, opened, first, 1)?;
+    let hub = Hub::new(alloc, publisher);
+    let pass = passes.pop().unwrap();
+    found_after(&rt, alloc, &hub, pass, holes)
+}
+
+/// The same of a new board.
+fn found_again<R: Wait + Copy + Drop>(rt: R, alloc: Global, holes: u32) -> Result<u64, EnvFault> {
+    let first = Snapshot::empty(alloc)?;
+    found_by_client::<Brand, R>(rt, alloc, Opened::new(), first, holes)
+}
+
+/// The hub keeps 256 listings; one more drops the first, whose items are found once more.
+#[test]
+fn the_257th_listing_drops_the_first(rt: HostRuntime) -> Result<(), Fail> {
+    assert_eq!(rt; found_again(&rt, rt.alloc(), 256)?, 0);
+    assert_eq!(rt; found_again(&rt, rt.alloc(), 257)?, 2);
+    Ok(())
+}

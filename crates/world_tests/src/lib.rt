@@ -11,6 +11,8 @@ mod hub_tests;
 #[cfg(test)]
 mod part_tests;
 #[cfg(test)]
+mod publishing_tests;
+#[cfg(test)]
 mod shared_page_tests;
 #[cfg(test)]
 mod snapshot_tests;

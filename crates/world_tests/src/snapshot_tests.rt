@@ -23,7 +23,7 @@ fn class(alloc: Global, name: &str, parent: &str) -> Result<ClassSummary, AllocE
 }
 
 /// The publication of these classes.
-fn publication(alloc: Global, puts: Items<ClassSummary>) -> Change
+pub(crate) fn publication(alloc: Global, puts: Items<ClassSummary>) -> Change
     ensures { KeepsRanges result }
 {
     Change::Publish {
