@@ -7,6 +7,8 @@
 #[cfg(test)]
 mod board_tests;
 #[cfg(test)]
+mod fingerprint_tests;
+#[cfg(test)]
 mod hub_tests;
 #[cfg(test)]
 mod part_tests;

@@ -293,23 +293,3 @@ fn a_list_is_searched_for_once(rt: HostRuntime) -> Result<(), EnvFault> {
     assert!(rt; searches_once::<Rebuild, HostRuntime>(&rt, rt.alloc())?);
     Ok(())
 }
-
-fn print_of_calls(alloc: Global, second: &str, goal: u32, limit: u32) -> Result<u64, EnvFault> {
-    Ok(print_of(&calls(alloc, second, goal, limit)?))
-}
-
-fn print_of_names(alloc: Global) -> Result<u64, EnvFault> {
-    Ok(print_of(&names(alloc)?))
-}
-
-/// Fingerprints decide only who shares, and no clause speaks of them.
-#[test]
-fn each_part_counts_in_the_fingerprint(rt: HostRuntime) -> Result<(), EnvFault> {
-    let print = print_of_calls(rt.alloc(), "long", 1, 75)?;
-    assert_eq!(rt; print_of_calls(rt.alloc(), "long", 1, 75)?, print);
-    assert_ne!(rt; print_of_calls(rt.alloc(), "lon", 1, 75)?, print);
-    assert_ne!(rt; print_of_calls(rt.alloc(), "long", 0, 75)?, print);
-    assert_ne!(rt; print_of_calls(rt.alloc(), "long", 1, 74)?, print);
-    assert_ne!(rt; print_of_names(rt.alloc())?, print);
-    Ok(())
-}
