@@ -125,10 +125,9 @@ fn a_change_is_refused(rt: HostRuntime) -> Result<(), Fail> {
 
 /// The version after so many publications of nothing.
 fn version_after(alloc: Global, count: u32) -> Result<Snapshot, ChangeFault> {
-    let change = publication(alloc, Items::new(alloc));
     let mut version = Snapshot::empty(alloc)?;
     for _ in 0..count {
-        version = version.after(alloc, &change)?;
+        version = version.after(alloc, &publication(alloc, Items::new(alloc)))?;
     }
     Ok(version)
 }
