@@ -171,6 +171,12 @@ const BEHIND: &[(&str, &str)] = &[
         "for (X x = f(() -> { g(); }); ; ) { int c = ",
         "int | int p; X x; | c; | ",
     ),
+    // a resource behind another counts in its header, and behind a brace there in the block around as well
+    ("try (A a = x; B b = ", "B | int p; | b; | "),
+    (
+        "try (A a = x; B b = y; C c = z(() -> { })) { } int d = ",
+        "int | int p; B b; C c; | d; | ",
+    ),
     // names that come twice, and commas
     ("int x = 1; { String x; } x = ", "int | int p; int x; | | "),
     ("int x; { String x; x = ", "String | int p; String x; | | "),
@@ -308,6 +314,25 @@ const BETWEEN: &[(&str, &str, &str)] = &[
         "\n\"\"\"; } }",
         "none",
     ),
+    // a token ends exactly at the place
+    ("class A { void m() { int b = // c", "", "none"),
+    ("class A { void m() { int b = // c", "\n } }", "none"),
+    ("class A { void m() { int b = /* c", "", "none"),
+    ("class A { void m() { int b = /*/", "", "none"),
+    ("class A { void m() { int b = /* c */", "", "int | | b; | "),
+    ("", "", "none"),
+    // texts that an earlier line leaves open
+    (
+        "class A { void m() { x = \"c\n; int b = ",
+        " } }",
+        "int | | b; | ",
+    ),
+    (
+        "class A { void m() { x = 'c\n; int b = ",
+        " } }",
+        "int | | b; | ",
+    ),
+    ("class A { { int b = ", "} }", "none"),
 ];
 
 #[test]
