@@ -1,10 +1,10 @@
 #!/usr/bin/env python3
-"""Times `insynthd list` on generated sheets and prints a table: run.py [ROUNDS].
+"""Times `insynthd list` on generated sheets and `insynthd sample`, and prints a table of each: run.py [ROUNDS].
 
 The program is first called by its script, which builds it where it isn't built; then it is timed itself. The time of reading is that of the same sheet with a goal that no declaration makes: it is read, checked
 and found to have no term. The first line is counted from the start to the first byte that comes out. Each number is the least of the
 rounds (3 unless given). The high-water is of resident memory, as it stood when the last piece came out. Growth is the whole time by that of the
-next smaller size of its case.
+next smaller size of its case. A sample of 1,000,000 is to take less than a second.
 """
 import os
 import subprocess
@@ -15,6 +15,7 @@ import time
 import generate
 
 ROWS = [("classes", 1000), ("classes", 10000), ("classes", 50000), ("dead", 1000), ("dead", 10000), ("lambdas", 2000), ("deep", 30), ("deep", 300)]
+SAMPLES = [1, 3, 1000000]
 
 TOP = os.path.join(os.path.dirname(os.path.abspath(__file__)), "..")
 PROGRAM = os.path.join(TOP, "crates", "insynthd", "out", "insynthd")
@@ -29,11 +30,11 @@ def high_water(pid):
         return 0
 
 
-def one_run(path):
+def one_run(path, words):
     """First byte, whole time in seconds, lines, and high-water in KiB."""
     with open(path, "rb") as source:
         start = time.perf_counter()
-        child = subprocess.Popen([PROGRAM, "list"], stdin=source, stdout=subprocess.PIPE)
+        child = subprocess.Popen([PROGRAM, *words], stdin=source, stdout=subprocess.PIPE)
     first, lines, memory = None, 0, 0
     while piece := os.read(child.stdout.fileno(), 1 << 20):
         first = first or time.perf_counter() - start
@@ -52,8 +53,8 @@ def without_terms(text):
     return "\n".join(lines + ["type Unmade", "goal Unmade"]) + "\n"
 
 
-def best(path, rounds):
-    runs = [one_run(path) for _ in range(rounds)]
+def best(path, rounds, words=("list",)):
+    runs = [one_run(path, words) for _ in range(rounds)]
     firsts = [run[0] for run in runs if run[0] is not None]
     return min(firsts, default=None), min(run[1] for run in runs), runs[0][2], max(run[3] for run in runs)
 
@@ -81,6 +82,11 @@ def main():
             growth = "%.1f" % (whole / before[case]) if case in before else ""
             before[case] = whole
             print("| %s | %d | %d | %.3f | %.3f | %.3f | %s | %.1f |" % (case, size, lines, reading, first or whole, whole, growth, memory / 1024), flush=True)
+    print("\n| sample | whole s | memory MiB |")
+    print("|---|---|---|")
+    for number in SAMPLES:
+        _, whole, _, memory = best(os.devnull, rounds, ("sample", str(number)))
+        print("| %d | %.3f | %.1f |" % (number, whole, memory / 1024), flush=True)
 
 
 if __name__ == "__main__":

@@ -1,9 +1,9 @@
 #!/usr/bin/env python3
 """Times the parts of a session besides first pages, and prints a table: session.py --start START [options].
 
-They are the start over class files, a completion at one hole whose list is long, the same completion again, pages of twenty
-from the item 1,000 on, first where they are still to be found and then where another cursor has found them, and edits of one
-letter in a text of one megabyte. A time runs from the request's last byte to the answer's. An edit has no answer, so its time
+They are the start over class files, a completion at one hole whose list is long, the same completion again, settings of the weights
+that stand already and the same completion in the version after them, pages of twenty from the item 1,000 on, first where they are still
+to be found and then where another cursor has found them, and edits of one letter in a text of one megabyte. A time runs from the request's last byte to the answer's. An edit has no answer, so its time
 is that of the edit and of a request after it that only looks for a cursor; the row before tells what such a request takes.
 """
 import argparse
@@ -20,6 +20,7 @@ LINE = "        String value = "
 TAIL = "\n    }\n}\n"
 USE, BIG = "file:///Use.java", "file:///Big.java"
 PAGE, FAR = 20, 1000
+WEIGHTS = {"bound": 1, "binder": 1, "local": 5, "step": 10, "lambda": 10, "own": 20, "package": 25, "literal": 200, "far": 215, "span": 785}
 
 
 class Session(Server):
@@ -37,8 +38,14 @@ class Session(Server):
         where = {"line": HEAD.count("\n"), "character": len(LINE)}
         return self.request("textDocument/completion", {"textDocument": {"uri": USE}, "position": where})
 
+    def command(self, name, argument):
+        return self.request("workspace/executeCommand", {"command": name, "arguments": [argument]})
+
     def page(self, cursor, count):
-        return self.request("workspace/executeCommand", {"command": "insynth.page", "arguments": [{"cursor": cursor, "count": count}]})
+        return self.command("insynth.page", {"cursor": cursor, "count": count})
+
+    def weigh(self):
+        return self.command("insynth.weights", WEIGHTS)
 
     def look(self):
         return self.page(0, 1)
@@ -84,6 +91,8 @@ def measure(given):
     session.open(USE, HEAD + LINE + TAIL)
     row("completion", [session.complete()])
     row("the same again", [session.complete() for _ in range(given.times)])
+    row("setting of the weights", [session.weigh() for _ in range(given.times)])
+    row("the same again after these", [session.complete() for _ in range(given.times)])
     row(f"page of {PAGE} from {FAR:,} on", session.far(given.times))
     row("the same, found already", session.far(given.times))
     text = HEAD + TAIL + "// a line of forty characters, and more..\n" * 24_000
