@@ -156,6 +156,57 @@ fn each_has_its_range(rt: HostRuntime) -> Result<(), Fail> {
 }
 
 #[test]
+fn none_but_the_span_may_be_0(rt: HostRuntime) -> Result<(), Fail> {
+    for (name, _) in USUAL {
+        let text = command(rt.alloc(), &USUAL, name, "0")?;
+        if name == "span" {
+            assert!(rt; set(rt.alloc(), text.as_str())?.is_some());
+        } else {
+            assert!(rt; has_cause(rt.alloc(), text.as_str(), 2)?, "{name}");
+        }
+    }
+    Ok(())
+}
+
+/// `far` and `span`, and whether both may be set.
+const TOGETHER: [(&str, &str, bool); 8] = [
+    ("9000", "1000", true),
+    ("9000", "1001", false),
+    ("10000", "0", true),
+    ("10000", "1", false),
+    ("5", "9995", true),
+    ("5", "4294967291", false),
+    ("9000", "4294959296", false),
+    ("10000", "4294967296", false),
+];
+
+// The last three pass 10,000 by so much that a sum of 32 bits would be 0, 1,000 or 10,000.
+#[test]
+fn far_and_span_are_at_most_10_000_together(rt: HostRuntime) -> Result<(), Fail> {
+    for (far, span, may) in TOGETHER {
+        let members = [
+            ("bound", "1"),
+            ("binder", "1"),
+            ("local", "5"),
+            ("step", "10"),
+            ("lambda", "10"),
+            ("own", "20"),
+            ("package", "25"),
+            ("literal", "200"),
+            ("far", far),
+            ("span", span),
+        ];
+        let text = command(rt.alloc(), &members, "", "")?;
+        if may {
+            assert!(rt; set(rt.alloc(), text.as_str())?.is_some(), "{far} {span}");
+        } else {
+            assert!(rt; has_cause(rt.alloc(), text.as_str(), 2)?, "{far} {span}");
+        }
+    }
+    Ok(())
+}
+
+#[test]
 fn what_is_missing_comes_first(rt: HostRuntime) -> Result<(), Fail> {
     let members = [("bound", "0"), ("binder", "1.5")];
     let text = command(rt.alloc(), &members, "", "")?;
