@@ -16,7 +16,7 @@ fn sheet(alloc: Global, first: &str, more: &str) -> Result<String, AllocError> {
 }
 
 /// Lines of a sheet 2 from the fourth on, each with the line and the cause of the sheet's first fault.
-const NEWER: [(&str, u32, u32); 24] = [
+const NEWER: [(&str, u32, u32); 28] = [
     ("", 0, 0),
     ("bound 1\nbinding 1\nstep 1", 0, 0),
     ("bound 100\nbinding 100\nstep 10000", 0, 0),
@@ -39,7 +39,11 @@ const NEWER: [(&str, u32, u32); 24] = [
     ("step 5\nstep x", 5, 4),
     ("bound 1234567890", 4, 4),
     ("step", 4, 3),
+    ("bound", 4, 3),
+    ("binding", 4, 3),
+    ("bound 5 5", 4, 3),
     ("binding 5 5", 4, 3),
+    ("step 5 5", 4, 3),
     ("bound 5 ", 4, 3),
 ];
 

@@ -58,7 +58,7 @@ const FILES: [(&str, &[u8]); 6] = [
 ];
 
 /// What files are refused for, each at its number, after all parameters; no version is made of it.
-const FILES_TOLD: [(&str, &str); 8] = [
+const FILES_TOLD: [(&str, &str); 9] = [
     (
         r#"{"jsonrpc":"2.0","id":1,"method":"initialize","params":{}}"#,
         r#"{"id":1,"jsonrpc":"2.0","result":{"capabilities":{"completionProvider":{},"executeCommandProvider":{"commands":["insynth.close","insynth.explain","insynth.page","insynth.publish","insynth.weights","insynth.withdraw"]},"positionEncoding":"utf-16","textDocumentSync":{"change":2,"openClose":true}},"serverInfo":{"name":"insynthd"}}}"#,
@@ -88,8 +88,12 @@ const FILES_TOLD: [(&str, &str); 8] = [
         r#"{"error":{"code":-32602,"data":{"cause":13,"index":1},"message":"invalid params"},"id":7,"jsonrpc":"2.0"}"#,
     ),
     (
-        r#"{"jsonrpc":"2.0","id":8,"method":"workspace/executeCommand","params":{"command":"insynth.publish","arguments":[{"put":["file:///A.class"]}]}}"#,
-        r#"{"id":8,"jsonrpc":"2.0","result":{"version":1}}"#,
+        r#"{"jsonrpc":"2.0","id":8,"method":"workspace/executeCommand","params":{"command":"insynth.publish","arguments":[{"put":["file:///A.class","file:///cut.class","file:///A.class"]}]}}"#,
+        r#"{"error":{"code":-32602,"data":{"at":52,"cause":11,"class":1,"index":1},"message":"invalid params"},"id":8,"jsonrpc":"2.0"}"#,
+    ),
+    (
+        r#"{"jsonrpc":"2.0","id":9,"method":"workspace/executeCommand","params":{"command":"insynth.publish","arguments":[{"put":["file:///A.class"]}]}}"#,
+        r#"{"id":9,"jsonrpc":"2.0","result":{"version":1}}"#,
     ),
 ];
 
@@ -274,7 +278,7 @@ pub(crate) fn told_after<R: Wait>(
 #[test]
 fn files_are_refused_at_their_numbers(rt: HostRuntime) -> Result<(), Fail> {
     let plan = FaultPlan::none(rt.alloc());
-    assert_eq!(rt; told_first(&rt, rt.alloc(), plan, &FILES_TOLD)?, 8);
+    assert_eq!(rt; told_first(&rt, rt.alloc(), plan, &FILES_TOLD)?, 9);
     Ok(())
 }
 
@@ -283,8 +287,8 @@ fn files_are_refused_at_their_numbers(rt: HostRuntime) -> Result<(), Fail> {
 fn each_file_is_loaded_once(rt: HostRuntime) -> Result<(), Fail> {
     let shelf = shelf(rt.alloc(), FaultPlan::none(rt.alloc()))?;
     let mut world = MemWorld::new(&rt, rt.alloc(), shelf)?;
-    assert_eq!(rt; told(rt.alloc(), &mut world, &FILES_TOLD)?, 8);
-    assert_eq!(rt; world.shelf.plan.calls, 6);
+    assert_eq!(rt; told(rt.alloc(), &mut world, &FILES_TOLD)?, 9);
+    assert_eq!(rt; world.shelf.plan.calls, 8);
     Ok(())
 }
 
