@@ -32,7 +32,7 @@ out-comes n cs x None e = absurd cc
 out-comes zero cs x (Some y) e = (0, e)
 out-comes (suc n) cs x (Some y) e = out-by (bytes_eq x y) x y cs refl (λ f. out-comes n cs x (outer_of cs y) e)
 
-back : (n : ℕ) (cs : List ClassSummary) (x : List ℕ) → outwards n cs (outer_of cs x) ≡ Some x → cycles cs x ≡ true
+pub back : (n : ℕ) (cs : List ClassSummary) (x : List ℕ) → outwards n cs (outer_of cs x) ≡ Some x → cycles cs x ≡ true
 back n cs x e =
     let r = out-comes n cs x (outer_of cs x) e in
     sym (cycles-any (suc r.0 + length cs) cs x (omega arith)) ∙ steps-hold r.0 (suc r.0 + length cs) cs x (outer_of cs x) (omega arith) r.1

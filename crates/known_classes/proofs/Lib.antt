@@ -16,4 +16,5 @@ pub mod TableLemmas
 pub mod MemberLemmas
 pub mod NamePlaces
 pub mod TextPlaces
+pub mod NearNames
 pub mod Beside

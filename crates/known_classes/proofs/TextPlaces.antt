@@ -36,7 +36,7 @@ pub outer_at : (cs : List ClassSummary) (i : ℕ) (d : ClassSummary) → HasEach
 outer_at cs i d once g = ap (λ o. outer_in (nesting_at o)) (named_at cs i d once g)
 
 -- the way outwards from a class before a place comes to no class at that place
-end-none : (k : ℕ) (cs : List ClassSummary) (n : List ℕ) → comes_to k cs n None ≡ false
+pub end-none : (k : ℕ) (cs : List ClassSummary) (n : List ℕ) → comes_to k cs n None ≡ false
 unfolding comes_to
 end-none zero cs n = refl
 end-none (suc k) cs n = refl
@@ -90,14 +90,14 @@ no-cycle-at cs place e once h g outer o b =
     ap (comes_to (length cs) cs e.name) (outer_at cs place e once g ∙ o) ∙ outer-never (length cs) cs place e once h g outer b (class_named cs outer) refl
 
 -- the canonical name of a class by its own nesting
-both-dotted : (b : Bool) (xs : List ℕ) → cond b xs xs ≡ xs
+pub both-dotted : (b : Bool) (xs : List ℕ) → cond b xs xs ≡ xs
 both-dotted true xs = refl
 both-dotted false xs = refl
 
-equation-at : (cs : List ClassSummary) (i : ℕ) (c : ClassSummary) → HasEachOnce cs → slice_get cs i ≡ Some c → canonical cs c.name ≡ cond (cycles cs c.name) (dotted c.name) (nested_name (outer_in c.nesting) (simple_in c.nesting) (canonical cs) (dotted c.name))
+pub equation-at : (cs : List ClassSummary) (i : ℕ) (c : ClassSummary) → HasEachOnce cs → slice_get cs i ≡ Some c → canonical cs c.name ≡ cond (cycles cs c.name) (dotted c.name) (nested_name (outer_in c.nesting) (simple_in c.nesting) (canonical cs) (dotted c.name))
 equation-at cs i c once g = equation cs c.name ∙ ap (λ o. cond (cycles cs c.name) (dotted c.name) (nested_name (outer_in (nesting_at o)) (simple_in (nesting_at o)) (canonical cs) (dotted c.name))) (named_at cs i c once g)
 
-no-simple : (o : Option (List ℕ)) (f : List ℕ → List ℕ) (own : List ℕ) → nested_name o None f own ≡ own
+pub no-simple : (o : Option (List ℕ)) (f : List ℕ → List ℕ) (own : List ℕ) → nested_name o None f own ≡ own
 no-simple None f own = refl
 no-simple (Some x) f own = refl
 

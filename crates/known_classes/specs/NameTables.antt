@@ -1,9 +1,9 @@
 -- Tables of places by names: classes by canonical names, and by the class around them with their simple names.
-use Rattle.std.specs.Prelude.{◌≡◌, ℕ, ◌+◌, ◌<◌, ◌≤◌, ◌==◌, ◌&&◌, if◌then◌else◌, List, length, map, drop, slice_get, bytes_eq, is_some, Option, Some, None}
+use Rattle.std.specs.Prelude.{◌≡◌, ℕ, ◌+◌, ◌<◌, ◌≤◌, ◌==◌, ◌&&◌, if◌then◌else◌, List, length, map, drop, slice_get, bytes_eq, is_some, false, Option, Some, None}
 use Rattle.known_classes.specs.declared.summary.ClassSummary.{ClassSummary}
 use Rattle.std.specs.BTreeMap.{get_by_text}
 use Rattle.known_classes.specs.declared.name_tables.NameTables.{NameTables}
-use Rattle.known_classes.specs.Known.{KnownClasses, class_by_canonical, canonical, HasEachOnce, outer_in, simple_in, IsPlaceOf}
+use Rattle.known_classes.specs.Known.{KnownClasses, class_by_canonical, canonical, cycles, HasEachOnce, outer_in, simple_in, IsPlaceOf}
 use Rattle.known_classes.specs.Nested.{nested_class, surrounds}
 
 -- A table of numbers by names.
@@ -49,6 +49,23 @@ table_of t = record { from = t.from; texts = t.texts; canonical = get_by_text t.
 pub record AreCanonicalNames (known : KnownClasses) (from place : ℕ) (texts : List (List ℕ)) : Type 0 where
   pub size : from + length texts ≡ place
   pub each : (i : ℕ) (c : ClassSummary) → i < length texts → slice_get known (from + i) ≡ Some c → slice_get texts i ≡ Some (canonical known c.name)
+
+-- The text is the canonical name of the class at this place.
+abbrev pub IsCanonicalAt : KnownClasses → ℕ → List ℕ → Type 0
+IsCanonicalAt known place text = (c : ClassSummary) → slice_get known place ≡ Some c → text ≡ canonical known c.name
+
+-- The text is the canonical name of the class of this name, which doesn't reach itself by outer classes.
+abbrev pub IsName : KnownClasses → List ℕ → List ℕ → Type 0
+IsName known name text = (text ≡ canonical known name) × (cycles known name ≡ false)
+
+-- The same of the class at this place.
+abbrev pub IsNameAt : KnownClasses → ℕ → List ℕ → Type 0
+IsNameAt known place text = (c : ClassSummary) → slice_get known place ≡ Some c → IsName known c.name text
+
+-- The names of the classes up to a place, as far as they are made.
+pub record AreNamed (known : KnownClasses) (place : ℕ) (named : List (Option (List ℕ))) : Type 0 where
+  pub size : length named ≡ place
+  pub each : (i : ℕ) (text : List ℕ) → slice_get named i ≡ Some (Some text) → IsNameAt known i text
 
 -- The table gives the place of the class of each canonical name, among the classes from this place on.
 pub record IsCanonicalTable (known : KnownClasses) (from : ℕ) (table : Table) : Type 0 where

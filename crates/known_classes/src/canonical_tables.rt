@@ -1,32 +1,13 @@
-ghost use Rattle.std.specs.Prelude.{◌≡◌, ◌<◌, ◌≤◌, ◌+◌, ◌++◌, ◌∷◌, ℕ, Some, length, true, IfOk, IfSome};
-ghost use Rattle.known_classes.specs.Known.{class_named, canonical, dotted, HasEachOnce, IsPlaceOf};
+ghost use Rattle.std.specs.Prelude.{◌≡◌, ◌<◌, ◌≤◌, ◌+◌, ℕ, Some, length, true, IfOk, IfSome};
+ghost use Rattle.known_classes.specs.Known.{class_named, canonical, HasEachOnce, IsPlaceOf};
 ghost use Rattle.known_classes.specs.NameTables.{AreCanonicalNames, IsBehind, IsClosedBelow, IsNextName, AreNameTables, table_of};
 
-use crate::canonical_text::{canonical, push_dotted};
 use crate::classes::{ClassList, Classes};
 use crate::name_tables::NameTables;
 use crate::nested::{outer_name, simple_name};
+use crate::outer_first::{dotted_text, nested_text, texts_outer_first};
 use lists::{Copies, Items, Text};
 use std::alloc::{AllocError, Global};
-
-/// A name with `.` in place of `/`.
-fn dotted_text(alloc: Global, name: &Text) -> Result<Text, AllocError>
-    ensures { IfOk result (λ text. text ≡ dotted name.now) }
-{
-    let mut text = Text::new(alloc);
-    push_dotted(&mut text, name.as_str())?;
-    Ok(text)
-}
-
-/// A text, `.` and a simple name.
-fn nested_text(alloc: Global, prefix: &Text, simple: &Text) -> Result<Text, AllocError>
-    ensures { IfOk result (λ text. text ≡ prefix.now ++ 46 ∷ simple.now) }
-{
-    let mut text = prefix.copy(alloc)?;
-    text.push_str(".")?;
-    text.push_str(simple.as_str())?;
-    Ok(text)
-}
 
 /// Whether no class is there, or one before a place.
 fn is_before(around: Option<usize>, place: usize) -> bool
@@ -116,18 +97,6 @@ fn texts_in_order<C: Classes, L: ClassList>(
     Ok(Some(texts))
 }
 
-/// The canonical names of all classes, each by itself.
-fn texts_by_walk<L: ClassList>(alloc: Global, classes: &L) -> Result<Items<Text>, AllocError>
-    ensures { IfOk result (λ texts. AreCanonicalNames (L.listed classes.now) 0 (length (L.listed classes.now)) texts) }
-{
-    let mut texts = Items::new(alloc);
-    for place in 0..classes.count() {
-        let text = canonical(alloc, classes, &classes.at(place).name)?;
-        texts.push(text)?;
-    }
-    Ok(texts)
-}
-
 /// The tables of the classes behind those of a base; None where the outer class of one stands behind it.
 pub fn tables_behind<C: Classes, L: ClassList>(
     alloc: Global,
@@ -147,8 +116,8 @@ pub fn tables_behind<C: Classes, L: ClassList>(
 }
 
 /// The tables of the names of all classes; of a base, which may be any, nothing is asked. It takes time linear in
-/// the classes and their canonical names, but for the logarithm of looking names up, where each outer class stands
-/// before those nested in it.
+/// the classes and their canonical names, but for the logarithm of looking names up, in whatever order the classes
+/// stand.
 pub fn tables_of<C: Classes, L: ClassList>(
     alloc: Global,
     base: &C,
@@ -160,7 +129,7 @@ pub fn tables_of<C: Classes, L: ClassList>(
     if let Some(tables) = tables_behind(alloc, base, classes, 0)? {
         return Ok(tables);
     }
-    let texts = texts_by_walk(alloc, classes)?;
+    let texts = texts_outer_first(alloc, classes)?;
     NameTables::new(alloc, classes, 0, texts)
 }
 

@@ -12,6 +12,7 @@ mod members;
 mod merged;
 mod name_tables;
 mod nested;
+mod outer_first;
 mod parts;
 mod summary;
 mod tables;
