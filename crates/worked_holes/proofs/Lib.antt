@@ -1,0 +1,3 @@
+pub mod Ancestries
+pub mod Seen
+pub mod Computed
