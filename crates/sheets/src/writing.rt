@@ -5,6 +5,7 @@ ghost use Rattle.terms.specs.Faults.{IsValid};
 ghost use Rattle.sheets.specs.Writing.{IsWritable, arg_words, decl_head, decl_text, ended, form_words, last_lines, line_text, name_of, number_text, pair_text, sheet_text, spaced, type_text, word_text};
 
 use crate::kind::NumberWord;
+use itoa::Buffer;
 use lists::Text;
 use std::alloc::{AllocError, Global};
 use terms::{Arg, Decl, Env, Form, Parts};
@@ -18,11 +19,11 @@ fn put_word(text: &mut Text, word: &str) -> Result<(), AllocError>
 }
 
 /// Adds a number in decimal after a space.
-fn put_number(alloc: Global, text: &mut Text, number: u32) -> Result<(), AllocError>
+fn put_number(text: &mut Text, number: u32) -> Result<(), AllocError>
     ensures { OnOk result (text.new ≡ text.old ++ spaced (decimal number)) }
 {
-    let digits = number.to_string(alloc)?;
-    put_word(text, digits.as_str())
+    let mut digits = Buffer::new();
+    put_word(text, digits.format(number))
 }
 
 /// The text of a type.
@@ -66,16 +67,11 @@ fn word_text(word: NumberWord) -> &'static str
 }
 
 /// Adds a line with a number.
-fn put_number_line(
-    alloc: Global,
-    text: &mut Text,
-    word: NumberWord,
-    number: u32,
-) -> Result<(), AllocError>
+fn put_number_line(text: &mut Text, word: NumberWord, number: u32) -> Result<(), AllocError>
     ensures { OnOk result (text.new ≡ text.old ++ ended (number_text word number)) }
 {
-    let digits = number.to_string(alloc)?;
-    put_line(text, word_text(word), digits.as_str())
+    let mut digits = Buffer::new();
+    put_line(text, word_text(word), digits.format(number))
 }
 
 /// Adds the lines of types.
@@ -186,11 +182,11 @@ fn decl_head(crowded: bool) -> &'static str
 }
 
 /// Adds the line of a declaration.
-fn put_decl(alloc: Global, text: &mut Text, types: &[Text], decl: &Decl) -> Result<(), AllocError>
+fn put_decl(text: &mut Text, types: &[Text], decl: &Decl) -> Result<(), AllocError>
     ensures { OnOk result (text.new ≡ text.old ++ ended (decl_text types.now decl.now)) }
 {
     text.push_str(decl_head(decl.crowded))?;
-    put_number(alloc, text, decl.weight)?;
+    put_number(text, decl.weight)?;
     put_name(text, types, decl.result)?;
     put_form(text, &decl.form)?;
     put_args(text, types, decl.args.as_slice())?;
@@ -198,37 +194,32 @@ fn put_decl(alloc: Global, text: &mut Text, types: &[Text], decl: &Decl) -> Resu
 }
 
 /// Adds the lines of declarations.
-fn put_decls(
-    alloc: Global,
-    text: &mut Text,
-    types: &[Text],
-    decls: &[Decl],
-) -> Result<(), AllocError>
+fn put_decls(text: &mut Text, types: &[Text], decls: &[Decl]) -> Result<(), AllocError>
     ensures { OnOk result (text.new ≡ text.old ++ flat_map (λ d. ended (decl_text types.now d)) decls.now) }
 {
     for decl in decls {
-        put_decl(alloc, text, types, decl)?;
+        put_decl(text, types, decl)?;
     }
     Ok(())
 }
 
 /// Adds the goal, the limit, the depth and the binder.
-fn put_goal(alloc: Global, text: &mut Text, parts: &Parts) -> Result<(), AllocError>
+fn put_goal(text: &mut Text, parts: &Parts) -> Result<(), AllocError>
     ensures { OnOk result (text.new ≡ text.old ++ flat_map ended (take 4 (last_lines parts.now))) }
 {
     put_line(text, "goal", name_of(parts.types.as_slice(), parts.goal))?;
-    put_number_line(alloc, text, NumberWord::Limit, parts.limit)?;
-    put_number_line(alloc, text, NumberWord::Depth, parts.depth)?;
+    put_number_line(text, NumberWord::Limit, parts.limit)?;
+    put_number_line(text, NumberWord::Depth, parts.depth)?;
     put_line(text, "binder", parts.binder.as_str())
 }
 
 /// Adds the three weights that belong to no declaration.
-fn put_steps(alloc: Global, text: &mut Text, parts: &Parts) -> Result<(), AllocError>
+fn put_steps(text: &mut Text, parts: &Parts) -> Result<(), AllocError>
     ensures { OnOk result (text.new ≡ text.old ++ flat_map ended (drop 4 (last_lines parts.now))) }
 {
-    put_number_line(alloc, text, NumberWord::Bound, parts.steps.bound)?;
-    put_number_line(alloc, text, NumberWord::Binding, parts.steps.binder)?;
-    put_number_line(alloc, text, NumberWord::Step, parts.steps.step)
+    put_number_line(text, NumberWord::Bound, parts.steps.bound)?;
+    put_number_line(text, NumberWord::Binding, parts.steps.binder)?;
+    put_number_line(text, NumberWord::Step, parts.steps.step)
 }
 
 /// The text of the sheet of some parts.
@@ -240,9 +231,9 @@ fn written(alloc: Global, parts: &Parts) -> Result<Text, AllocError>
     let types = parts.types.as_slice();
     put_types(&mut text, types)?;
     put_pairs(&mut text, types, parts.pairs.as_slice())?;
-    put_decls(alloc, &mut text, types, parts.decls.as_slice())?;
-    put_goal(alloc, &mut text, parts)?;
-    put_steps(alloc, &mut text, parts)?;
+    put_decls(&mut text, types, parts.decls.as_slice())?;
+    put_goal(&mut text, parts)?;
+    put_steps(&mut text, parts)?;
     Ok(text)
 }
 
