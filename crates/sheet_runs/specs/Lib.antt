@@ -1,0 +1,2 @@
+-- What a run over a sheet reads and writes.
+pub mod Runs
