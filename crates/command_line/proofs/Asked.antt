@@ -7,7 +7,7 @@ use Rattle.std.proofs.lemmas.Bool.{cases_order}
 use denote.Ref.{Bor}
 use Rattle.command_line.specs.declared.command.Command.{Command}
 use Rattle.command_line.specs.declared.command.Command.TheVariants as command
-use Rattle.command_line.specs.Words.{Pair, Asked, list, serve, count, sample, AreParts, AskFor, AskForPlain, CanBegin, IsFirstWrong, NameStart, Commands, ends_of, ends_for}
+use Rattle.command_line.specs.Words.{Pair, Asked, list, upgrade, serve, count, sample, AreParts, AskFor, AskForPlain, CanBegin, IsFirstWrong, NameStart, Commands, ends_of, ends_for}
 use Rattle.command_line.proofs.Parts.{one-server}
 use Rattle.command_line.proofs.Commands.{letter}
 
@@ -38,15 +38,29 @@ one-asked ws s t pairs all a b =
 -- by their second letter
 abbrev letter-of : Asked → ℕ
 letter-of list = 105
+letter-of upgrade = 112
 letter-of (serve start pairs) = 101
 letter-of (count name) = 111
 letter-of (sample n) = 97
 
 second-letter : (ws : List (List ℕ)) (asked : Asked) → AskFor asked ws → letter ws ≡ letter-of asked
 second-letter ws list a = ap letter a
+second-letter ws upgrade a = ap letter a
 second-letter ws (serve start pairs) a = ap letter a.2
 second-letter ws (count name) a = ap letter a.2
 second-letter ws (sample n) a = ap letter a.2
+
+pub not-upgraded : (ws : List (List ℕ)) → AskFor list ws → AskFor upgrade ws → ⊥
+not-upgraded ws a b = omega (arith, second-letter ws list a, second-letter ws upgrade b)
+
+pub upgrade-not-served : (ws : List (List ℕ)) (start : Option (List ℕ)) (pairs : List Pair) → AskFor upgrade ws → AskFor (serve start pairs) ws → ⊥
+upgrade-not-served ws start pairs a b = omega (arith, second-letter ws upgrade a, second-letter ws (serve start pairs) b)
+
+pub upgrade-not-counted : (ws : List (List ℕ)) (name : List ℕ) → AskFor upgrade ws → AskFor (count name) ws → ⊥
+upgrade-not-counted ws name a b = omega (arith, second-letter ws upgrade a, second-letter ws (count name) b)
+
+pub upgrade-not-sampled : (ws : List (List ℕ)) (n : ℕ) → AskFor upgrade ws → AskFor (sample n) ws → ⊥
+upgrade-not-sampled ws n a b = omega (arith, second-letter ws upgrade a, second-letter ws (sample n) b)
 
 pub not-counted : (ws : List (List ℕ)) (name : List ℕ) → AskFor list ws → AskFor (count name) ws → ⊥
 not-counted ws name a b = omega (arith, second-letter ws list a, second-letter ws (count name) b)
@@ -85,25 +99,35 @@ one-counted ws m n a b =
 
 pub one-ends : (ws : List (List ℕ)) (a b : Asked) → AskFor a ws → AskFor b ws → ends_for a ≡ ends_for b
 one-ends ws list list h k = refl
+one-ends ws list upgrade h k = refl
 one-ends ws list (serve t all) h k = absurd (not-served ws t all h k)
 one-ends ws list (count n) h k = refl
 one-ends ws list (sample n) h k = refl
+one-ends ws upgrade list h k = refl
+one-ends ws upgrade upgrade h k = refl
+one-ends ws upgrade (serve t all) h k = absurd (upgrade-not-served ws t all h k)
+one-ends ws upgrade (count n) h k = refl
+one-ends ws upgrade (sample n) h k = refl
 one-ends ws (count m) list h k = refl
+one-ends ws (count m) upgrade h k = refl
 one-ends ws (count m) (count n) h k = refl
 one-ends ws (count m) (sample n) h k = refl
 one-ends ws (count m) (serve t all) h k = absurd (count-not-served ws m t all h k)
 one-ends ws (sample m) list h k = refl
+one-ends ws (sample m) upgrade h k = refl
 one-ends ws (sample m) (count n) h k = refl
 one-ends ws (sample m) (sample n) h k = refl
 one-ends ws (sample m) (serve t all) h k = absurd (sample-not-served ws m t all h k)
 one-ends ws (serve s pairs) (count n) h k = absurd (count-not-served ws n s pairs k h)
 one-ends ws (serve s pairs) (sample n) h k = absurd (sample-not-served ws n s pairs k h)
 one-ends ws (serve s pairs) list h k = absurd (not-served ws s pairs k h)
+one-ends ws (serve s pairs) upgrade h k = absurd (upgrade-not-served ws s pairs k h)
 one-ends ws (serve s pairs) (serve t all) h k = ap (λ ps. suc (length ps)) (one-asked ws s t pairs all h k).1
 
 -- a command and what it was asked by
 pub asked-of : (command : Command) (ws : List (List ℕ)) → Commands command ws → (asked : Asked) × AskFor asked ws × (ends_for asked ≡ ends_of command)
 asked-of command.List ws h = (list, h, refl)
+asked-of command.Upgrade ws h = (upgrade, h, refl)
 asked-of (command.Count name) ws h = (count name.now, h, refl)
 asked-of (command.Sample n) ws h = (sample n, h, refl)
 asked-of (command.Serve told many) ws h = (serve (option_map (λ s. s.now) told) h.0, h.2, omega (arith, h.1))
@@ -121,10 +145,12 @@ serve-start asked told many ws start pairs is h k = let told_by : Commands (comm
 -- words that don't ask for a server
 pub plain-not-served : (ws : List (List ℕ)) (start : Option (List ℕ)) (pairs : List Pair) → AskForPlain ws → AskFor (serve start pairs) ws → ⊥
 plain-not-served ws start pairs (inl a) h = not-served ws start pairs a h
-plain-not-served ws start pairs (inr (inl c)) h = count-not-served ws c.0 start pairs c.1 h
-plain-not-served ws start pairs (inr (inr s)) h = sample-not-served ws s.0 start pairs s.1 h
+plain-not-served ws start pairs (inr (inl u)) h = upgrade-not-served ws start pairs u h
+plain-not-served ws start pairs (inr (inr (inl c))) h = count-not-served ws c.0 start pairs c.1 h
+plain-not-served ws start pairs (inr (inr (inr s))) h = sample-not-served ws s.0 start pairs s.1 h
 
 pub plain-not-wrong : (ws : List (List ℕ)) (place : ℕ) → AskForPlain ws → IsFirstWrong ws place → ⊥
 plain-not-wrong ws place (inl a) wrong = wrong.nothing list a
-plain-not-wrong ws place (inr (inl c)) wrong = wrong.nothing (count c.0) c.1
-plain-not-wrong ws place (inr (inr s)) wrong = wrong.nothing (sample s.0) s.1
+plain-not-wrong ws place (inr (inl u)) wrong = wrong.nothing upgrade u
+plain-not-wrong ws place (inr (inr (inl c))) wrong = wrong.nothing (count c.0) c.1
+plain-not-wrong ws place (inr (inr (inr s))) wrong = wrong.nothing (sample s.0) s.1

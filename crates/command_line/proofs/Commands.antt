@@ -8,7 +8,7 @@ use Rattle.std.proofs.lemmas.Slice.Eq.{bytes_eq-Decides}
 use denote.Ref.{Bor}
 use Rattle.command_line.specs.declared.scan.Scan.{Scan}
 use Rattle.command_line.specs.declared.command.UsageFault.{UsageFault}
-use Rattle.command_line.specs.Words.{Pair, Asked, list, serve, count, sample, IsFileName, IsPair, pair, start, joined, AreParts, AskFor, CanBegin, IsFirstWrong, Commands, pairs_asked, most_pairs}
+use Rattle.command_line.specs.Words.{Pair, Asked, list, upgrade, serve, count, sample, IsFileName, IsPair, pair, start, joined, AreParts, AskFor, CanBegin, IsFirstWrong, Commands, pairs_asked, most_pairs}
 use Rattle.command_line.specs.declared.command.Command.{Command}
 use Rattle.command_line.specs.declared.command.Command.TheVariants as command
 use Rattle.command_line.specs.Scanned.{Scanned, IsStuck, naming}
@@ -64,6 +64,7 @@ letter (w ∷ ws) = get_or w 1 0
 -- the words of a server are its parts
 pub told_by : (ws : List (List ℕ)) (asked : Asked) → AskFor asked (codes "serve" ∷ ws) → (told : Option (List ℕ)) × (pairs : List Pair) × AreParts told pairs ws
 told_by ws list e = absurd cc
+told_by ws upgrade e = absurd cc
 told_by ws (count name) a = let other : 101 ≡ 111 = ap letter a.2 in absurd (omega (arith, other))
 told_by ws (sample n) a = let other : 101 ≡ 97 = ap letter a.2 in absurd (omega (arith, other))
 told_by ws (serve told pairs) a =
@@ -286,6 +287,7 @@ begins-none = record { more = codes "list" ∷ []; asked = list; ask = refl }
 
 no-words : (asked : Asked) → AskFor asked [] → ⊥
 no-words list e = cc
+no-words upgrade e = cc
 no-words (serve told pairs) a = let e = a.2 in cc
 no-words (count name) a = let e = a.2 in cc
 no-words (sample n) a = let e = a.2 in cc
@@ -298,23 +300,25 @@ words-missing = record {
   nothing = no-words;
 }
 
-no-command : (w : List ℕ) (ws : List (List ℕ)) → w ≢ codes "list" → w ≢ codes "serve" → w ≢ codes "count" → w ≢ codes "sample" → (asked : Asked) → AskFor asked (w ∷ ws) → ⊥
-no-command w ws a b c d list e = let same : w ≡ codes "list" = cc in a same
-no-command w ws a b c d (serve told pairs) t = let e = t.2 in let same : w ≡ codes "serve" = cc in b same
-no-command w ws a b c d (count name) t = let e = t.2 in let same : w ≡ codes "count" = cc in c same
-no-command w ws a b c d (sample n) t = let e = t.2 in let same : w ≡ codes "sample" = cc in d same
+no-command : (w : List ℕ) (ws : List (List ℕ)) → w ≢ codes "list" → w ≢ codes "upgrade" → w ≢ codes "serve" → w ≢ codes "count" → w ≢ codes "sample" → (asked : Asked) → AskFor asked (w ∷ ws) → ⊥
+no-command w ws a u b c d list e = let same : w ≡ codes "list" = cc in a same
+no-command w ws a u b c d upgrade e = let same : w ≡ codes "upgrade" = cc in u same
+no-command w ws a u b c d (serve told pairs) t = let e = t.2 in let same : w ≡ codes "serve" = cc in b same
+no-command w ws a u b c d (count name) t = let e = t.2 in let same : w ≡ codes "count" = cc in c same
+no-command w ws a u b c d (sample n) t = let e = t.2 in let same : w ≡ codes "sample" = cc in d same
 
-pub command-wrong : (w : List ℕ) (ws : List (List ℕ)) → w ≢ codes "list" → w ≢ codes "serve" → w ≢ codes "count" → w ≢ codes "sample" → IsFirstWrong (w ∷ ws) 0
-command-wrong w ws a b c d = record {
+pub command-wrong : (w : List ℕ) (ws : List (List ℕ)) → w ≢ codes "list" → w ≢ codes "upgrade" → w ≢ codes "serve" → w ≢ codes "count" → w ≢ codes "sample" → IsFirstWrong (w ∷ ws) 0
+command-wrong w ws a u b c d = record {
   within = omega arith;
   begins = begins-none;
-  wrong = λ _ begins. no-command w begins.more a b c d begins.asked begins.ask;
-  nothing = no-command w ws a b c d;
+  wrong = λ _ begins. no-command w begins.more a u b c d begins.asked begins.ask;
+  nothing = no-command w ws a u b c d;
 }
 
 -- a word after `list`
 no-list : (w : List ℕ) (ws : List (List ℕ)) (asked : Asked) → AskFor asked (codes "list" ∷ w ∷ ws) → ⊥
 no-list w ws list e = cc
+no-list w ws upgrade e = cc
 no-list w ws (serve told pairs) a = let e = a.2 in cc
 no-list w ws (count name) a = let e = a.2 in cc
 no-list w ws (sample n) a = let e = a.2 in cc
@@ -327,9 +331,26 @@ list-more w ws = record {
   nothing = no-list w ws;
 }
 
+-- a word after `upgrade`
+no-upgrade : (w : List ℕ) (ws : List (List ℕ)) (asked : Asked) → AskFor asked (codes "upgrade" ∷ w ∷ ws) → ⊥
+no-upgrade w ws list e = cc
+no-upgrade w ws upgrade e = cc
+no-upgrade w ws (serve told pairs) a = let e = a.2 in cc
+no-upgrade w ws (count name) a = let e = a.2 in cc
+no-upgrade w ws (sample n) a = let e = a.2 in cc
+
+pub upgrade-more : (w : List ℕ) (ws : List (List ℕ)) → IsFirstWrong (codes "upgrade" ∷ w ∷ ws) 1
+upgrade-more w ws = record {
+  within = omega arith;
+  begins = record { more = []; asked = upgrade; ask = refl };
+  wrong = λ _ begins. no-upgrade w begins.more begins.asked begins.ask;
+  nothing = no-upgrade w ws;
+}
+
 -- a command other than `serve` has no pairs
 pub plain-pairs : (command : Command) (w : List ℕ) (ws : List (List ℕ)) → w ≢ codes "serve" → Commands command (w ∷ ws) → (asked : Asked) × AskFor asked (w ∷ ws) × ([] ≡ pairs_asked asked)
 plain-pairs command.List w ws other h = (list, h, refl)
+plain-pairs command.Upgrade w ws other h = (upgrade, h, refl)
 plain-pairs (command.Count name) w ws other h = (count name.now, h, refl)
 plain-pairs (command.Sample n) w ws other h = (sample n, h, refl)
 plain-pairs (command.Serve told many) w ws other h = let e = h.2.2 in let same : w ≡ codes "serve" = cc in absurd (other same)

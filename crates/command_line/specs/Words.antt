@@ -12,10 +12,11 @@ use Rattle.command_line.specs.declared.command.Plain.TheVariants as plain
 abbrev pub Pair : Type 0
 Pair = List ℕ × List ℕ
 
--- What can be asked for: the list of a sheet; a server, with or without the name of a start text, over standard input and output
+-- What can be asked for: the list of a sheet; a sheet, written anew; a server, with or without the name of a start text, over standard input and output
 -- and these pairs of files; the counts of the uses in the class files of the start text of this name; or the sample of this number.
 pub data Asked : Type 0 where
   list : Asked
+  upgrade : Asked
   serve : Option (List ℕ) → List Pair → Asked
   count : List ℕ → Asked
   sample : ℕ → Asked
@@ -87,16 +88,17 @@ pub record IsSampleNumber (word : List ℕ) (n : ℕ) : Type 0 where
   pub value : n ≡ digits_value 10 word
   pub small : n ≤ 1000000
 
--- The words ask for this: `list`; `serve` and its parts; `count` and a start text; or `sample` and a number.
+-- The words ask for this: `list`; `upgrade`; `serve` and its parts; `count` and a start text; or `sample` and a number.
 abbrev pub AskFor : Asked → List (List ℕ) → Type 0
 AskFor list words = words ≡ codes "list" ∷ []
+AskFor upgrade words = words ≡ codes "upgrade" ∷ []
 AskFor (serve told pairs) words = (rest : List (List ℕ)) × AreParts told pairs rest × (words ≡ codes "serve" ∷ rest)
 AskFor (count name) words = (rest : List (List ℕ)) × NameStart name rest × (words ≡ codes "count" ∷ rest)
 AskFor (sample n) words = (word : List ℕ) × IsSampleNumber word n × (words ≡ codes "sample" ∷ word ∷ [])
 
 -- The words ask for something else than a server.
 abbrev pub AskForPlain : List (List ℕ) → Type 0
-AskForPlain words = AskFor list words ⊎ (((name : List ℕ) × AskFor (count name) words) ⊎ ((n : ℕ) × AskFor (sample n) words))
+AskForPlain words = AskFor list words ⊎ (AskFor upgrade words ⊎ (((name : List ℕ) × AskFor (count name) words) ⊎ ((n : ℕ) × AskFor (sample n) words)))
 
 -- Words with which something can be asked for begin with these.
 pub record CanBegin (words : List (List ℕ)) : Type 0 where
@@ -114,6 +116,7 @@ pub record IsFirstWrong (words : List (List ℕ)) (place : ℕ) : Type 0 where
 -- The pairs that are asked for.
 abbrev pub pairs_asked : Asked → List Pair
 pairs_asked list = []
+pairs_asked upgrade = []
 pairs_asked (serve told pairs) = pairs
 pairs_asked (count name) = []
 pairs_asked (sample n) = []
@@ -121,6 +124,7 @@ pairs_asked (sample n) = []
 -- The words are those of a command, which keeps of the pairs their number.
 abbrev pub Commands : Command → List (List ℕ) → Type 0
 Commands command.List words = AskFor list words
+Commands command.Upgrade words = AskFor upgrade words
 Commands (command.Serve told many) words = (pairs : List Pair) × (length pairs ≡ many) × AskFor (serve (option_map (λ s. s.now) told) pairs) words
 Commands (command.Count name) words = AskFor (count name.now) words
 Commands (command.Sample n) words = AskFor (sample n) words
@@ -128,18 +132,21 @@ Commands (command.Sample n) words = AskFor (sample n) words
 -- What a command other than `serve` was asked by.
 abbrev pub plain_asked : Plain → Asked
 plain_asked plain.List = list
+plain_asked plain.Upgrade = upgrade
 plain_asked (plain.Count name) = count name.now
 plain_asked (plain.Sample n) = sample n
 
 -- So many ends are needed: standard input and output, and one for each pair of files.
 abbrev pub ends_of : Command → ℕ
 ends_of command.List = 1
+ends_of command.Upgrade = 1
 ends_of (command.Serve told many) = many + 1
 ends_of (command.Count name) = 1
 ends_of (command.Sample n) = 1
 
 abbrev pub ends_for : Asked → ℕ
 ends_for list = 1
+ends_for upgrade = 1
 ends_for (serve told pairs) = suc (length pairs)
 ends_for (count name) = 1
 ends_for (sample n) = 1

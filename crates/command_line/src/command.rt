@@ -8,6 +8,8 @@ use thiserror::Error;
 pub enum Command<'a> {
     /// List a sheet.
     List,
+    /// Write a sheet anew.
+    Upgrade,
     /// Serve editors: from the class files that a start text names, where one is given, and over so many pairs of files
     /// beside standard input and output.
     Serve { start: Option<&'a str>, pairs: u32 },
@@ -24,6 +26,7 @@ impl Command<'_> {
     {
         match self {
             Command::List => 1,
+            Command::Upgrade => 1,
             Command::Serve { start: _, pairs } => *pairs as usize + 1,
             Command::Count { start: _ } => 1,
             Command::Sample { number: _ } => 1,
@@ -36,6 +39,8 @@ impl Command<'_> {
 pub enum Plain<'a> {
     /// List a sheet.
     List,
+    /// Write a sheet anew.
+    Upgrade,
     /// Count the uses in the class files that a start text names.
     Count { start: &'a str },
     /// Tell the sample of a number.

@@ -39,6 +39,18 @@ fn read_list(rest: &[String]) -> Result<Command<'_>, UsageFault>
     Ok(Command::List)
 }
 
+/// `upgrade`, with the words after it, of which there is none.
+fn read_upgrade(rest: &[String]) -> Result<Command<'_>, UsageFault>
+    ensures { MatchResult result
+        (λ command. Commands command (codes "upgrade" ∷ map string_bytes rest.now))
+        (λ fault. IsFirstWrong (codes "upgrade" ∷ map string_bytes rest.now) fault.word) }
+{
+    if !rest.is_empty() {
+        return Err(UsageFault { word: 1 });
+    }
+    Ok(Command::Upgrade)
+}
+
 /// `count`, with the words after `--start`: the name of the start text and nothing else.
 fn read_name(rest: &[String]) -> Result<Command<'_>, UsageFault>
     ensures { MatchResult result
@@ -121,6 +133,9 @@ pub(crate) fn read_plain<'a>(first: &str, rest: &'a [String]) -> Result<Command<
     if first == "list" {
         return read_list(rest);
     }
+    if first == "upgrade" {
+        return read_upgrade(rest);
+    }
     if first == "count" {
         return read_count(rest);
     }
@@ -130,9 +145,9 @@ pub(crate) fn read_plain<'a>(first: &str, rest: &'a [String]) -> Result<Command<
     Err(UsageFault { word: 0 })
 }
 
-/// What the words after the program's name ask for: `list`; `serve` with `--start FILE` or `--start=FILE` at most once
-/// and at most 63 pairs `IN=OUT`, in any order; `count` with `--start FILE` or `--start=FILE`; or `sample` with a number of
-/// one to seven digits, at most 1,000,000. The name of the start text is borrowed from its word.
+/// What the words after the program's name ask for: `list`; `upgrade`; `serve` with `--start FILE` or `--start=FILE` at
+/// most once and at most 63 pairs `IN=OUT`, in any order; `count` with `--start FILE` or `--start=FILE`; or `sample` with a
+/// number of one to seven digits, at most 1,000,000. The name of the start text is borrowed from its word.
 pub fn read_command(words: &[String]) -> Result<Command<'_>, UsageFault>
     ensures command { MatchResult result
         (λ command. Commands command (map string_bytes words.now))
@@ -156,6 +171,7 @@ pub fn plain_command(words: &[String]) -> Plain<'_>
         Ok(Command::Count { start }) => Plain::Count { start },
         Ok(Command::Sample { number }) => Plain::Sample { number },
         Ok(Command::List) => Plain::List,
+        Ok(Command::Upgrade) => Plain::Upgrade,
         Ok(Command::Serve { start: _, pairs: _ }) => Plain::List,
         Err(_) => Plain::List,
     }

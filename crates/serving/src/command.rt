@@ -1,12 +1,12 @@
 ghost use Rattle.std.specs.Prelude.{◌≡◌, ◌≢◌, ◌⊎◌, ◌≤◌, ℕ, suc, List, [], ◌∷◌, Option, length, map, slice_get, Some, string_bytes, codes};
 ghost use Rattle.outside.specs.Causes.{Rose};
 ghost use Rattle.outside.specs.declared.end.End.{End};
-ghost use Rattle.serving.specs.Runs.{EndsBy, status_of};
+ghost use Rattle.serving.specs.Runs.{AskForSheet, EndsBy, status_of};
 ghost use Rattle.serving.specs.Services.{view_of, ServesBy, HasNotBegun, AreUntouched, serving_status};
 ghost use Rattle.serving.specs.Usages.{IsUsage};
 ghost use Rattle.serving.specs.Counts.{counting_status};
 ghost use Rattle.serving.specs.Samplings.{sampling_status};
-ghost use Rattle.command_line.specs.Words.{Pair, AskFor, AskForPlain, list as listed, serve as served, count as counted, sample as sampled};
+ghost use Rattle.command_line.specs.Words.{Pair, AskFor, AskForPlain, list as listed, upgrade as upgraded, serve as served, count as counted, sample as sampled};
 ghost use Rattle.counting.specs.Counted.{IsFaultOf};
 ghost use Rattle.counting.specs.Runs.{CountsBy, IsSilent};
 ghost use Rattle.counting.specs.declared.counting.Counting.{Counting};
@@ -15,27 +15,25 @@ ghost use Rattle.samples.specs.Runs.{SamplesBy, IsSilent as IsMute};
 ghost use Rattle.samples.specs.declared.sampling.Sampling.{Sampling};
 ghost use Rattle.outside.specs.declared.shelf.HeldFile.{HeldFile};
 ghost use Rattle.sheets.specs.Sheets.{Fault, IsSheet, sheet_fault};
-ghost use Rattle.serving.specs.declared.status.Ending.{Ending};
-ghost use Rattle.serving.specs.declared.status.Ending.TheVariants.{NotSheet};
+ghost use Rattle.sheet_runs.specs.Runs.{UpgradesBy};
+ghost use Rattle.sheet_runs.specs.declared.ending.Ending.{Ending};
+ghost use Rattle.sheet_runs.specs.declared.ending.Ending.TheVariants.{NotSheet};
 ghost use Rattle.serving.specs.declared.status.Serving.{Serving};
 ghost use Rattle.statuses.specs.declared.status.Status.{Status};
 ghost use Rattle.terms.specs.declared.parts.Parts.{Parts};
 
 use crate::list::write_list;
 use crate::service::serve;
-use crate::status::{Ending, of_counting, of_listing, of_sampling, of_serving};
+use crate::status::{of_counting, of_sampling, of_serving, of_sheet_run};
 use command_line::{Command, Plain, plain_command, read_command};
 use counting::count;
-use outside::{End, ReadFault, Shelf, Sink, Source, WriteFault, read_up_to};
+use outside::{End, Shelf, Sink, Source, WriteFault};
 use samples::tell_sample;
-use sheets::{SheetFault, read_sheet};
+use sheet_runs::{Ending, read_env, upgrade};
 use statuses::Status;
 use std::alloc::Global;
 use std::sync::Wait;
 use std::thread::Threads;
-
-/// The most bytes that are read: one more than a sheet may have.
-const LONGEST_INPUT: usize = 16_777_217;
 
 /// Runs `list` over one end: reads a sheet from its source to the end, and writes its list to its sink.
 fn list<S: Source, K: Sink, H: Shelf>(alloc: Global, end: &mut End<S, K, H>) -> Ending
@@ -44,15 +42,9 @@ fn list<S: Source, K: Sink, H: Shelf>(alloc: Global, end: &mut End<S, K, H>) -> 
     ensures shelf { end.new.shelf ≡ end.old.shelf }
     ensures later { (S.faults end.old.source ≤ S.faults end.new.source) × (K.faults end.old.sink ≤ K.faults end.new.sink) }
 {
-    let bytes = match read_up_to(alloc, &mut end.source, LONGEST_INPUT) {
-        Ok(bytes) => bytes,
-        Err(ReadFault::Failed) => return Ending::ReadFault,
-        Err(ReadFault::OutOfMemory) => return Ending::OutOfMemory,
-    };
-    let env = match read_sheet(alloc, bytes.as_slice()) {
+    let env = match read_env(alloc, &mut end.source) {
         Ok(env) => env,
-        Err(SheetFault::At(line, cause)) => return Ending::NotSheet(line, cause),
-        Err(SheetFault::OutOfMemory) => return Ending::OutOfMemory,
+        Err(ending) => return ending,
     };
     match write_list(alloc, env, &mut end.sink) {
         Ok(()) => Ending::Whole,
@@ -62,7 +54,7 @@ fn list<S: Source, K: Sink, H: Shelf>(alloc: Global, end: &mut End<S, K, H>) -> 
 }
 
 /// Runs a command other than `serve` over one end: `list` reads a sheet from its source and writes its list to its sink;
-/// `count` loads a start text and the class files that it names from its shelf, and writes the lines of their counts to
+/// `upgrade` reads one and writes it anew, as a sheet 2 with each of its lines; `count` loads a start text and the class files that it names from its shelf, and writes the lines of their counts to
 /// its sink; `sample` writes the six lines of a sample to its sink. It waits for nobody. The codes are those of `run`.
 pub fn run_plain<S: Source, K: Sink, H: Shelf>(
     alloc: Global,
@@ -73,6 +65,9 @@ pub fn run_plain<S: Source, K: Sink, H: Shelf>(
     ensures ending { AskFor listed (map string_bytes words.now)
         → ((ending : Ending) × (result ≡ status_of ending) × EndsBy ending (S.left end.old.source) (S.left end.new.source) (K.written end.old.sink) (K.written end.new.sink)
         (S.faults end.old.source) (S.faults end.new.source) (K.faults end.old.sink) (K.faults end.new.sink)) }
+    ensures upgrading { AskFor upgraded (map string_bytes words.now)
+        → ((ending : Ending) × (result ≡ status_of ending) × UpgradesBy ending (S.left end.old.source) (S.left end.new.source) (K.written end.old.sink) (K.written end.new.sink)
+        (S.faults end.old.source) (S.faults end.new.source) (K.faults end.old.sink) (K.faults end.new.sink)) }
     ensures counting { (start : List ℕ) → AskFor (counted start) (map string_bytes words.now)
         → ((way : Counting) × (result ≡ counting_status way) × CountsBy way (H.holds end.old.shelf) start (K.written end.old.sink) (K.written end.new.sink)
         (H.faults end.old.shelf) (H.faults end.new.shelf) (K.faults end.old.sink) (K.faults end.new.sink)
@@ -81,10 +76,10 @@ pub fn run_plain<S: Source, K: Sink, H: Shelf>(
         → ((way : Sampling) × (result ≡ sampling_status way) × SamplesBy way n (K.written end.old.sink) (K.written end.new.sink)
         (K.faults end.old.sink) (K.faults end.new.sink) × (IsMute way → end.new.sink ≡ end.old.sink)) }
     ensures fits { result.code ≢ 2 }
-    ensures complete { (bytes : List ℕ) (parts : Parts) → AskFor listed (map string_bytes words.now) → S.left end.old.source ≡ Some bytes → IsSheet bytes parts
+    ensures complete { (bytes : List ℕ) (parts : Parts) → AskForSheet (map string_bytes words.now) → S.left end.old.source ≡ Some bytes → IsSheet bytes parts
         → ¬ (Rose (S.faults end.old.source) (S.faults end.new.source)) → ¬ (Rose (K.faults end.old.sink) (K.faults end.new.sink))
         → (result.code ≡ 0) ⊎ (result.code ≡ 6) }
-    ensures refuses { (bytes : List ℕ) (fault : Fault) → AskFor listed (map string_bytes words.now) → S.left end.old.source ≡ Some bytes → sheet_fault bytes ≡ Some fault
+    ensures refuses { (bytes : List ℕ) (fault : Fault) → AskForSheet (map string_bytes words.now) → S.left end.old.source ≡ Some bytes → sheet_fault bytes ≡ Some fault
         → ¬ (Rose (S.faults end.old.source) (S.faults end.new.source))
         → (result ≡ status_of (NotSheet fault.line fault.cause)) ⊎ (result.code ≡ 6) }
     ensures complete_count { (files : List HeldFile) (start : List ℕ) → AskFor (counted start) (map string_bytes words.now) → H.holds end.old.shelf ≡ Some files
@@ -95,20 +90,21 @@ pub fn run_plain<S: Source, K: Sink, H: Shelf>(
         → (result.code ≡ 0) ⊎ (result.code ≡ 6) }
     ensures source { (start : List ℕ) → AskFor (counted start) (map string_bytes words.now) → end.new.source ≡ end.old.source }
     ensures unread { (n : ℕ) → AskFor (sampled n) (map string_bytes words.now) → (end.new.source ≡ end.old.source) × (end.new.shelf ≡ end.old.shelf) }
-    ensures shelf { AskFor listed (map string_bytes words.now) → end.new.shelf ≡ end.old.shelf }
+    ensures shelf { AskForSheet (map string_bytes words.now) → end.new.shelf ≡ end.old.shelf }
     ensures shelf_holds { H.holds end.new.shelf ≡ H.holds end.old.shelf }
     ensures later { (S.faults end.old.source ≤ S.faults end.new.source) × (K.faults end.old.sink ≤ K.faults end.new.sink) × (H.faults end.old.shelf ≤ H.faults end.new.shelf) }
 {
     match plain_command(words) {
-        Plain::List => of_listing(list(alloc, end)),
+        Plain::List => of_sheet_run(list(alloc, end)),
+        Plain::Upgrade => of_sheet_run(upgrade(alloc, end)),
         Plain::Count { start } => of_counting(count(alloc, start, end)),
         Plain::Sample { number } => of_sampling(tell_sample(alloc, number, end)),
     }
 }
 
 /// Does all that the program does: looks at the words and then at the number of ends, and serves what the words ask for
-/// over the ends. `list` needs one end, reads a sheet from its source and writes its list to its sink. `count` needs one
-/// end, loads the class files that a start text names from its shelf, reads nothing, and writes a line for each key that
+/// over the ends. `list` needs one end, reads a sheet from its source and writes its list to its sink; `upgrade` does the
+/// same with the sheet itself, written anew. `count` needs one end, loads the class files that a start text names from its shelf, reads nothing, and writes a line for each key that
 /// they use to its sink. `sample` needs one end, reads and loads nothing, and writes six lines. `serve` needs one end
 /// more than it has pairs. It answers an editor at each end, each in a thread, all over one list of published changes,
 /// from the class files of a start text on, which it loads from the shelf of the first end before anything is read; it
@@ -131,6 +127,10 @@ pub fn run<
         → ((ending : Ending) × (result ≡ status_of ending) × ((e f : End S K H) → ends.old.items ≡ e ∷ [] → ends.new.items ≡ f ∷ []
         → EndsBy ending (S.left e.source) (S.left f.source) (K.written e.sink) (K.written f.sink)
         (S.faults e.source) (S.faults f.source) (K.faults e.sink) (K.faults f.sink))) }
+    ensures upgrading { AskFor upgraded (map string_bytes words.now) → length ends.old.items ≡ 1
+        → ((ending : Ending) × (result ≡ status_of ending) × ((e f : End S K H) → ends.old.items ≡ e ∷ [] → ends.new.items ≡ f ∷ []
+        → UpgradesBy ending (S.left e.source) (S.left f.source) (K.written e.sink) (K.written f.sink)
+        (S.faults e.source) (S.faults f.source) (K.faults e.sink) (K.faults f.sink))) }
     ensures serving { let seen = view_of S.left K.written H.holds S.faults K.faults H.faults in
         (start : Option (List ℕ)) (pairs : List Pair) → AskFor (served start pairs) (map string_bytes words.now) → length ends.old.items ≡ suc (length pairs)
         → ((way : Serving) × (result ≡ serving_status way) × ServesBy way start (map seen ends.old.items) (map seen ends.new.items)
@@ -148,14 +148,14 @@ pub fn run<
         → (S.faults e.source ≤ S.faults f.source) × (K.faults e.sink ≤ K.faults f.sink) × (H.faults e.shelf ≤ H.faults f.shelf) }
     ensures shelf_holds { (i : ℕ) (e f : End S K H) → slice_get ends.old.items i ≡ Some e → slice_get ends.new.items i ≡ Some f
         → H.holds f.shelf ≡ H.holds e.shelf }
-    ensures shelf_stays { (i : ℕ) (e f : End S K H) → map string_bytes words.now ≡ codes "list" ∷ [] → slice_get ends.old.items i ≡ Some e → slice_get ends.new.items i ≡ Some f
+    ensures shelf_stays { (i : ℕ) (e f : End S K H) → AskForSheet (map string_bytes words.now) → slice_get ends.old.items i ≡ Some e → slice_get ends.new.items i ≡ Some f
         → f.shelf ≡ e.shelf }
     ensures complete { (e f : End S K H) (bytes : List ℕ) (parts : Parts) → ends.old.items ≡ e ∷ [] → ends.new.items ≡ f ∷ []
-        → map string_bytes words.now ≡ codes "list" ∷ [] → S.left e.source ≡ Some bytes → IsSheet bytes parts
+        → AskForSheet (map string_bytes words.now) → S.left e.source ≡ Some bytes → IsSheet bytes parts
         → ¬ (Rose (S.faults e.source) (S.faults f.source)) → ¬ (Rose (K.faults e.sink) (K.faults f.sink))
         → (result.code ≡ 0) ⊎ (result.code ≡ 6) }
     ensures refuses { (e f : End S K H) (bytes : List ℕ) (fault : Fault) → ends.old.items ≡ e ∷ [] → ends.new.items ≡ f ∷ []
-        → map string_bytes words.now ≡ codes "list" ∷ [] → S.left e.source ≡ Some bytes → sheet_fault bytes ≡ Some fault
+        → AskForSheet (map string_bytes words.now) → S.left e.source ≡ Some bytes → sheet_fault bytes ≡ Some fault
         → ¬ (Rose (S.faults e.source) (S.faults f.source))
         → (result ≡ status_of (NotSheet fault.line fault.cause)) ⊎ (result.code ≡ 6) }
     ensures complete_count { (e f : End S K H) (files : List HeldFile) (start : List ℕ) → ends.old.items ≡ e ∷ [] → ends.new.items ≡ f ∷ []
@@ -175,6 +175,7 @@ pub fn run<
     }
     match command {
         Command::List => run_plain(alloc, words, &mut ends[0]),
+        Command::Upgrade => run_plain(alloc, words, &mut ends[0]),
         Command::Serve { start, pairs: _ } => of_serving(serve(rt, alloc, start, ends)),
         Command::Count { start: _ } => run_plain(alloc, words, &mut ends[0]),
         Command::Sample { number: _ } => run_plain(alloc, words, &mut ends[0]),

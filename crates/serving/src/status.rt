@@ -7,22 +7,9 @@ ghost use Rattle.serving.specs.Services.{Tells, serving_status};
 use counting::Counting;
 use samples::Sampling;
 use sessions::Ended;
+use sheet_runs::Ending;
 use start_text::StartFault;
 use statuses::Status;
-
-/// How a run of `list` over one end ended.
-#[derive(Clone, Copy, Debug, PartialEq, Eq)]
-pub enum Ending {
-    /// All was read and written.
-    Whole,
-    /// The input is no sheet: the line and the number of the cause.
-    NotSheet(u32, u32),
-    /// The source failed.
-    ReadFault,
-    /// The sink failed.
-    WriteFault,
-    OutOfMemory,
-}
 
 /// How a run of `serve` ended.
 #[derive(Clone, Copy, Debug)]
@@ -53,9 +40,9 @@ impl Serving {
     }
 }
 
-/// The status of an ending of `list`.
+/// The status of a run of `list` or `upgrade`.
 #[tactic(auto, unfolding(crate::specs::Runs::status_of))]
-pub fn of_listing(ending: Ending) -> Status
+pub fn of_sheet_run(ending: Ending) -> Status
     ensures { result ≡ status_of ending }
 {
     match ending {

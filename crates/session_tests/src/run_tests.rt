@@ -143,13 +143,19 @@ fn faults_have_their_codes(rt: HostRuntime) -> Result<(), AllocError> {
 #[test]
 fn words_and_ends_are_looked_at(rt: HostRuntime) -> Result<(), AllocError> {
     let alloc = rt.alloc();
-    let table: [(&[&str], usize, u64, u32); 8] = [
+    let table: [(&[&str], usize, u64, u32); 14] = [
         (&[], 1, 0, 1),
         (&["lists"], 1, 0, 1),
         (&["list", "list"], 1, 1, 1),
         (&["serve", "list"], 2, 1, 1),
         (&["list"], 0, 0, 2),
         (&["list"], 2, 2, 2),
+        (&["upgrades"], 1, 0, 1),
+        (&["upgrade", "upgrade"], 1, 1, 1),
+        (&["upgrade", "a=b"], 2, 1, 1),
+        (&["list", "upgrade"], 1, 1, 1),
+        (&["upgrade"], 0, 0, 2),
+        (&["upgrade"], 2, 2, 2),
         (&["serve"], 0, 0, 2),
         (&["serve", "--start", "F"], 2, 2, 2),
     ];

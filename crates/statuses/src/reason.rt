@@ -83,6 +83,7 @@ impl Reason<'_> {
     fn unread(&self) -> Stream {
         let name = match self.command {
             Command::List => "the sheet",
+            Command::Upgrade => "the sheet",
             Command::Count { start: _ } => "the start text or one of its files",
             Command::Serve {
                 start: Some(_),
@@ -100,6 +101,7 @@ impl Reason<'_> {
     fn unwritten(&self) -> Stream {
         let name = match self.command {
             Command::List => "the list",
+            Command::Upgrade => "the upgraded sheet",
             Command::Count { start: _ } => "the counts",
             Command::Sample { number: _ } => "the lines of the sample",
             Command::Serve { start: _, pairs: _ } => "the replies",
@@ -110,10 +112,10 @@ impl Reason<'_> {
         }
     }
 
-    /// What is wrong with the input: the sheet of `list`, or the messages.
+    /// What is wrong with the input: the sheet of `list` or `upgrade`, or the messages.
     fn write_wrong_input<W: fmt::Write>(&self, f: &mut fmt::Formatter<W>) -> fmt::Result {
         let cause = self.status.cause;
-        if let Command::List = self.command {
+        if matches!(self.command, Command::List | Command::Upgrade) {
             return write!(f, "{}: {}", self.line_of("the sheet"), sheet_cause(cause));
         }
         let place = self.status.place;

@@ -6,6 +6,8 @@ use std::test::*;
 
 const LIST: Command = Command::List;
 
+const UPGRADE: Command = Command::Upgrade;
+
 const COUNT: Command = Command::Count { start: "F" };
 
 const SAMPLE: Command = Command::Sample { number: 1 };
@@ -104,7 +106,7 @@ const STARTS: [(u64, u32, &str); 9] = [
 ];
 
 /// What else is said.
-const OTHERS: [Row; 23] = [
+const OTHERS: [Row; 26] = [
     (SERVE, (0, 0, 0, 0), "status 0 end 0 place 0 cause 0", ""),
     (SERVE, (1, 2, 0, 0), "status 1 end 2 place 0 cause 0", ""),
     (LIST, (2, 0, 1, 1), "status 2 end 0 place 1 cause 1", ""),
@@ -140,6 +142,12 @@ const OTHERS: [Row; 23] = [
         "the sheet can't be read",
     ),
     (
+        UPGRADE,
+        (4, 0, 0, 0),
+        "status 4 end 0 place 0 cause 0",
+        "the sheet can't be read",
+    ),
+    (
         COUNT,
         (4, 0, 0, 0),
         "status 4 end 0 place 0 cause 0",
@@ -170,6 +178,12 @@ const OTHERS: [Row; 23] = [
         "the list can't be written",
     ),
     (
+        UPGRADE,
+        (5, 0, 0, 0),
+        "status 5 end 0 place 0 cause 0",
+        "the upgraded sheet can't be written",
+    ),
+    (
         COUNT,
         (5, 0, 0, 0),
         "status 5 end 0 place 0 cause 0",
@@ -192,6 +206,12 @@ const OTHERS: [Row; 23] = [
         (5, 4_294_967_295, 0, 0),
         "status 5 end 4294967295 place 0 cause 0",
         "the replies of end 4294967295 can't be written",
+    ),
+    (
+        UPGRADE,
+        (6, 0, 0, 0),
+        "status 6 end 0 place 0 cause 0",
+        "there was no memory",
     ),
     (
         SAMPLE,
@@ -274,10 +294,12 @@ fn a_wrong_sheet_is_told_by_its_cause(rt: HostRuntime) -> Result<(), Fail> {
             cause,
         };
         let line = format!(in alloc; "status 3 end 0 place {place} cause {cause}")?;
-        assert!(rt;
-            is_told(alloc, &LIST, &status, line.as_str(), words)?,
-            "{status}"
-        );
+        for command in [LIST, UPGRADE] {
+            assert!(rt;
+                is_told(alloc, &command, &status, line.as_str(), words)?,
+                "{status}"
+            );
+        }
     }
     Ok(())
 }

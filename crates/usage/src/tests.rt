@@ -4,10 +4,11 @@ use std::test::*;
 const USAGE: &str = "Usage: insynthd <COMMAND>
 
 Commands:
-  list    Write the terms of the sheet on standard input, by weight
-  count   Write how often class files use each field, method and constructor
-  sample  Write what is found among 200 made classes, in six lines
-  serve   Serve a client on standard input and output
+  list     Write the terms of the sheet on standard input, by weight
+  upgrade  Write the sheet on standard input anew, in the newest form and with each of its lines
+  count    Write how often class files use each field, method and constructor
+  sample   Write what is found among 200 made classes, in six lines
+  serve    Serve a client on standard input and output
 
 Write how often class files use each field, method and constructor
 

@@ -6,6 +6,13 @@ fn list_command<'a>(alloc: Global) -> Command<'a> {
     Command::new(alloc, "list").about("Write the terms of the sheet on standard input, by weight")
 }
 
+/// `upgrade`.
+fn upgrade_command<'a>(alloc: Global) -> Command<'a> {
+    Command::new(alloc, "upgrade").about(
+        "Write the sheet on standard input anew, in the newest form and with each of its lines",
+    )
+}
+
 /// `count --start FILE`.
 fn count_command<'a>(alloc: Global) -> Result<Command<'a>, AllocError> {
     let start = Arg::new(alloc, "start")
@@ -55,6 +62,7 @@ fn program<'a>(alloc: Global) -> Result<Command<'a>, AllocError> {
         .disable_help_subcommand(true)
         .subcommand_required(true)
         .subcommand(list_command(alloc))?
+        .subcommand(upgrade_command(alloc))?
         .subcommand(count_command(alloc)?)?
         .subcommand(sample_command(alloc)?)?
         .subcommand(serve_command(alloc)?)

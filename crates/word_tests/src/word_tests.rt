@@ -24,7 +24,7 @@ const SERVING: [(&[&str], Option<&str>, &[&str]); 9] = [
 ];
 
 /// Words that are no command, and the number of the first that can't stand there.
-const WRONG: [(&[&str], u32); 51] = [
+const WRONG: [(&[&str], u32); 57] = [
     (&[], 0),
     (&[""], 0),
     (&["lis"], 0),
@@ -32,6 +32,12 @@ const WRONG: [(&[&str], u32); 51] = [
     (&["a=b"], 0),
     (&["list", "list"], 1),
     (&["list", "a=b"], 1),
+    (&["upgrad"], 0),
+    (&["upgrades"], 0),
+    (&["Upgrade"], 0),
+    (&["upgrade", "upgrade"], 1),
+    (&["upgrade", ""], 1),
+    (&["upgrade", "a=b"], 1),
     (&["serve", "x"], 1),
     (&["serve", "--"], 1),
     (&["serve", "=b"], 1),
@@ -111,6 +117,21 @@ fn words_of_serve_are_read(rt: HostRuntime) -> Result<(), Fail> {
     }
     let words = words_of(alloc, &["list"])?;
     assert!(rt; matches!(read_command(words.as_slice()), Ok(Command::List)));
+    assert!(rt; matches!(client_names(alloc, words.as_slice()), Ok(names) if names.is_empty()));
+    Ok(())
+}
+
+#[test]
+fn the_word_upgrade_is_read(rt: HostRuntime) -> Result<(), AllocError> {
+    let alloc = rt.alloc();
+    let words = words_of(alloc, &["upgrade"])?;
+    match read_command(words.as_slice()) {
+        Ok(command) => {
+            assert!(rt; matches!(command, Command::Upgrade));
+            assert_eq!(rt; command.ends(), 1);
+        }
+        Err(_) => assert!(rt; false),
+    }
     assert!(rt; matches!(client_names(alloc, words.as_slice()), Ok(names) if names.is_empty()));
     Ok(())
 }
