@@ -1,4 +1,4 @@
-ghost use Rattle.std.specs.Prelude.{◌≡◌, ◌++◌, [], IfOk, OnOk};
+ghost use Rattle.std.specs.Prelude.{◌≡◌, ◌++◌, [], map, IfOk, OnOk};
 ghost use Rattle.offers.specs.Scenes.{of_class};
 ghost use Rattle.offers.specs.Reach.{offered};
 ghost use Rattle.offers.specs.Functional.{is_interface, faces_above, is_whole, is_giver, is_given, is_of_object, is_promise, promises, group, one_method, method_in, face_of, faces_by, faces};
@@ -17,41 +17,54 @@ use known_classes::{ClassSummary, MethodSummary};
 use lists::{Copies, Items, Text, copy_all};
 use std::alloc::{AllocError, Global};
 
-/// Whether an interface is below the owner of a method and has a body for it.
+/// Whether an interface has a body for a method; `below` says whether it is below the method's owner.
 fn is_giver(
-    alloc: Global,
     view: &View<'_>,
     owner: &ClassSummary,
     method: &MethodSummary,
     other: &ClassSummary,
-) -> Result<bool, AllocError>
-    ensures { IfOk result (λ yes. yes ≡ is_giver (scene view.now) owner.now method.now other.now) }
+    below: bool,
+) -> bool
+    requires { below ≡ (scene view.now).below (of_class other.now.name) (of_class owner.now.name) }
+    ensures { result ≡ is_giver (scene view.now) owner.now method.now other.now }
 {
-    if !has_body(method, other.methods.as_slice()) {
-        return Ok(false);
-    }
-    let below = is_below(alloc, view, &other.name, &owner.name)?;
-    Ok(below)
+    below && has_body(method, other.methods.as_slice())
 }
 
-/// Whether one of these interfaces is.
-#[tactic(auto, unfolding(crate::specs::Functional::is_given))]
-fn is_given(
+/// Which of these interfaces are below a class.
+fn lower_ones(
     alloc: Global,
     view: &View<'_>,
     faces: &[ClassSummary],
     owner: &ClassSummary,
-    method: &MethodSummary,
-) -> Result<bool, AllocError>
-    ensures { IfOk result (λ yes. yes ≡ is_given (scene view.now) faces.now owner.now method.now) }
+) -> Result<Vec<bool>, AllocError>
+    ensures { IfOk result (λ all. all.items ≡ map (λ d. (scene view.now).below (of_class d.name) (of_class owner.now.name)) faces.now) }
 {
+    let mut all = Vec::new(alloc);
     for other in faces {
-        let gives = is_giver(alloc, view, owner, method, other)?;
-        if gives {
-            return Ok(true);
+        all.push(is_below(alloc, view, &other.name, &owner.name)?)?;
+    }
+    Ok(all)
+}
+
+/// Whether one of these interfaces is; `lower` says which of them are below the method's owner.
+#[tactic(auto, unfolding(crate::specs::Functional::is_given))]
+fn is_given(
+    view: &View<'_>,
+    faces: &[ClassSummary],
+    lower: &[bool],
+    owner: &ClassSummary,
+    method: &MethodSummary,
+) -> bool
+    requires { lower.now ≡ map (λ d. (scene view.now).below (of_class d.name) (of_class owner.now.name)) faces.now }
+    ensures { result ≡ is_given (scene view.now) faces.now owner.now method.now }
+{
+    for i in 0..faces.len() {
+        if is_giver(view, owner, method, &faces[i], lower[i]) {
+            return true;
         }
     }
-    Ok(false)
+    false
 }
 
 /// Whether a method of an interface is abstract, with no body given, and none of java/lang/Object's.
@@ -59,16 +72,17 @@ fn is_promise(
     alloc: Global,
     view: &View<'_>,
     faces: &[ClassSummary],
+    lower: &[bool],
     owner: &ClassSummary,
     method: &MethodSummary,
 ) -> Result<bool, AllocError>
+    requires { lower.now ≡ map (λ d. (scene view.now).below (of_class d.name) (of_class owner.now.name)) faces.now }
     ensures { IfOk result (λ yes. yes ≡ is_promise (scene view.now) faces.now owner.now method.now) }
 {
     if !has_flag(method.flags, ABSTRACT) {
         return Ok(false);
     }
-    let given = is_given(alloc, view, faces, owner, method)?;
-    if given {
+    if is_given(view, faces, lower, owner, method) {
         return Ok(false);
     }
     let of_object = is_of_object(alloc, method)?;
@@ -84,9 +98,10 @@ fn promises(
 ) -> Result<Items<MethodSummary>, AllocError>
     ensures { IfOk result (λ all. all ≡ promises (scene view.now) faces.now owner.now) }
 {
+    let lower = lower_ones(alloc, view, faces, owner)?;
     let mut all = Items::new(alloc);
     for method in owner.methods.as_slice() {
-        let promise = is_promise(alloc, view, faces, owner, method)?;
+        let promise = is_promise(alloc, view, faces, &lower, owner, method)?;
         if promise {
             all.push(method.copy(alloc)?)?;
         }

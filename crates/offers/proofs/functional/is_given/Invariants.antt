@@ -4,5 +4,5 @@ use Rattle.offers.specs.Functional.{is_giver}
 use Rattle.offers.specs.Views.{scene}
 use Rattle.offers.proofs.functional.is_given.Given as goal
 
-abbrev pub invariant-loop-other : goal.invariant-loop-other
-invariant-loop-other l = list_any (is_giver (scene l.view) l.owner l.method) (take l.other-index l.faces) ≡ false
+abbrev pub invariant-loop-i : goal.invariant-loop-i
+invariant-loop-i l = list_any (is_giver (scene l.view) l.owner l.method) (take l.i l.faces) ≡ false
