@@ -96,7 +96,11 @@ def turned(size):
 
 def variables(size):
     bounds = ", ".join(f"T{it} extends T{(it + 1) % size}" for it in range(size))
-    return [], False, f"class Use<{bounds}> {{ " + "".join(f"T{it} f{it}; " for it in range(size)) + "void m(T0 c) { T1 r = "
+    return [], False, f"class Use<{bounds}> {{ void m(T0 c) {{ T1 r = "
+
+
+def fields(size):
+    return [], False, "class Use { " + "".join(f"int f{it}; " for it in range(size)) + "void m(int c) { int r = "
 
 
 def words(size):
@@ -116,7 +120,8 @@ INPUTS = [
     ("a publication of N classes", published, 20_000),
     ("class files of N classes, each in the one before", outer, 500),
     ("such class files, the outer class behind by name", turned, 50),
-    ("N type variables in a circle of bounds", variables, 400),
+    ("N type variables in a circle of bounds", variables, 3_200),
+    ("a class of N fields", fields, 3_200),
     ("a method of N lines without a reserved word", words, 25_000),
     ("a text of N classes and N imports", imports, 1_000),
 ]
