@@ -3,4 +3,8 @@
 #![tactic(auto)]
 
 #[cfg(test)]
+mod message_tests;
+#[cfg(test)]
+mod pair_tests;
+#[cfg(test)]
 mod word_tests;
