@@ -96,7 +96,7 @@ fn publication(alloc: Global, index: &Index, text: &str) -> Result<Change, Alloc
 }
 
 /// The index after one more publication.
-fn with_change(alloc: Global, index: &Index, change: &Change) -> Result<Index, Fail>
+pub fn with_change(alloc: Global, index: &Index, change: &Change) -> Result<Index, Fail>
     requires { KeepsRanges change.now }
 {
     if index.number() == u32::MAX {

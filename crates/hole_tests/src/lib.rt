@@ -4,6 +4,8 @@
 #![tactic(auto)]
 
 #[cfg(test)]
+mod absent_tests;
+#[cfg(test)]
 mod holes;
 #[cfg(test)]
 mod item_tests;

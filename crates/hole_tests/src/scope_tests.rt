@@ -70,7 +70,7 @@ fn push_decl(alloc: Global, text: &mut Text, env: &Env, decl: &Decl) -> Result<(
     text.push_str("\n")
 }
 
-fn shown(alloc: Global, env: &Env) -> Result<Text, AllocError> {
+pub fn shown(alloc: Global, env: &Env) -> Result<Text, AllocError> {
     let mut text = Text::new(alloc);
     for kind in env.parts().types.as_slice() {
         push_word(&mut text, kind.as_str())?;
