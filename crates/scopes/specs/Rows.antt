@@ -8,6 +8,7 @@ use Rattle.type_names.specs.Names.{object_name}
 use Rattle.java_units.specs.declared.types.TypeText.{TypeText}
 use Rattle.java_units.specs.declared.types.Param.{Param}
 use Rattle.java_units.specs.declared.types.Import.{Import}
+use Rattle.java_units.specs.declared.types.SourceField.{SourceField}
 use Rattle.java_units.specs.declared.types.SourceMethod.{SourceMethod}
 use Rattle.java_units.specs.declared.types.Unit as unit
 use Rattle.java_units.specs.declared.types.ClassKind.TheVariants.{ClassDecl}
@@ -53,8 +54,8 @@ method_in name flags param = record { name = name; flags = flags; vars = []; par
 abbrev pub maker : SourceMethod
 maker = record { name = codes "<init>"; flags = 0; vars = []; params = []; result = None; body = None }
 
-abbrev pub unit_by : List (List ℕ) → List Import → List ℕ → SourceMethod → unit.Unit
-unit_by home imports name method = record {
+abbrev pub unit_by : List (List ℕ) → List Import → List ℕ → List SourceField → SourceMethod → unit.Unit
+unit_by home imports name fields method = record {
   «package» = home;
   imports = imports;
   classes = record {
@@ -65,7 +66,7 @@ unit_by home imports name method = record {
     vars = [];
     supers = [];
     names_parent = false;
-    fields = [];
+    fields = fields;
     methods = method ∷ maker ∷ [];
   } ∷ [];
 }
@@ -102,7 +103,7 @@ abbrev pub use_class : List Erased → ClassSummary
 use_class params = class_by (codes "q/Use") 0 (object_name ∷ []) [] (method_by 8 (codes "go") params None ∷ made 0 ∷ [])
 
 abbrev pub use_unit : List ℕ → List ℕ → unit.Unit
-use_unit name kind = unit_by home [] (codes "Use") (method_in (codes "go") 8 (record { name = name; kind = named kind }))
+use_unit name kind = unit_by home [] (codes "Use") [] (method_in (codes "go") 8 (record { name = name; kind = named kind }))
 
 -- No member is used anywhere.
 abbrev pub never_used : List ℕ → ℕ
@@ -202,7 +203,7 @@ made_of name = method_by 1 (codes "<init>") (of_class name ∷ []) None
 
 unfoldable pub readers : Scene
 readers = scene_by
-    (unit_by [] (record { parts = codes "java" ∷ codes "io" ∷ []; star = true } ∷ []) (codes "Demo") (method_in (codes "go") 8 (record { name = codes "name"; kind = named (codes "String") })))
+    (unit_by [] (record { parts = codes "java" ∷ codes "io" ∷ []; star = true } ∷ []) (codes "Demo") [] (method_in (codes "go") 8 (record { name = codes "name"; kind = named (codes "String") })))
     (site_by true (codes "Reader") (codes "name") (codes "String") (codes "r"))
     (class_by (codes "java/io/BufferedReader") 1 (reader ∷ []) [] (made_of reader ∷ [])
     ∷ class_by (codes "java/io/FileReader") 1 (reader ∷ []) [] (made_of (codes "java/lang/String") ∷ []) ∷ class_by reader 1025 (object_name ∷ []) [] [] ∷ [])
@@ -225,7 +226,7 @@ of_readers = record {
 
 -- A parameter that hides a field.
 unfoldable pub hidden_field : Scene
-hidden_field = scene_by (unit_by [] [] (codes "P") (method_in (codes "f") 0 (record { name = codes "k"; kind = named (codes "int") })))
+hidden_field = scene_by (unit_by [] [] (codes "P") (record { name = codes "k"; flags = 0; kind = named (codes "int") } ∷ []) (method_in (codes "f") 0 (record { name = codes "k"; kind = named (codes "int") })))
     (site_by false (codes "int") (codes "k") (codes "int") (codes "z")) []
     (class_by (codes "P") 0 (object_name ∷ []) (record { name = codes "k"; flags = 0; kind = int } ∷ []) (method_by 0 (codes "f") (int ∷ []) None ∷ made 0 ∷ [])) []
 

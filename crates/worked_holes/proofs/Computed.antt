@@ -28,7 +28,7 @@ use Rattle.class_summary.specs.SourceSummaries.{summaries_from, supers_of, first
 use Rattle.decl_index.specs.History.{use_of}
 use Rattle.java_units.specs.Identifiers.{is_ascii_identifier}
 use Rattle.offers.specs.Order.{is_below_at, is_ancestor, is_one_of}
-use Rattle.worked_holes.specs.Worked.{of_two_methods, of_an_override, of_two_interfaces, of_streams, with_a_field}
+use Rattle.worked_holes.specs.Worked.{of_two_methods, of_an_override, of_two_interfaces, of_streams}
 use Rattle.worked_holes.proofs.Ancestries.{is_table, is_rising, stands}
 use Rattle.worked_holes.proofs.Seen.{is_named, known_by, seen}
 
@@ -57,11 +57,11 @@ pub record AreComputed : Type 0 where
   pub two_promises_is : environment_of (seen of_two_interfaces two_promises.unit two_promises.site above_two_promises is_named) 45 1 ≡ of_two_promises
   pub readers_table : is_table (known_by of_streams readers.unit) above_readers ≡ true
   pub readers_is : environment_of (seen of_streams readers.unit readers.site above_readers is_named) 4000 1 ≡ of_readers
-  pub hidden_field_table : is_table (known_by [] with_a_field) above_hidden_field ≡ true
-  pub hidden_field_is : environment_of (seen [] with_a_field hidden_field.site above_hidden_field is_named) 30 1 ≡ of_hidden_field
+  pub hidden_field_table : is_table (known_by [] hidden_field.unit) above_hidden_field ≡ true
+  pub hidden_field_is : environment_of (seen [] hidden_field.unit hidden_field.site above_hidden_field is_named) 30 1 ≡ of_hidden_field
 
 pub computed : AreComputed
-unfolding put sorted chain_by is_accessible is_in_reach is_offered offered spells shortest class_spelling with_dims spelling type_text is_candidate candidates same_types with_first after_two overrides after_three is_crowded is_written after_four taken_names is_hidden after_five faces_above is_whole is_given is_of_object method_in faces row_of rows_of types_of number_in weight_of member_decl face_decl decls_of is_variable binder_of environment_of last_named added merged class_named comes_to canonical_by class_by_canonical joined around_by has_flag first_from class_with member_from enclosing spelled imported nested_class below starred of_java_lang named_class simple_class member_class class_of_name primitive primitive_of base_of denoted_type bound_of variable_in variable_of through has reserved is_digit summaries_from supers_of first_super super_of field_of param_of method_of methods_from is_ascii_identifier is_below_at is_ancestor is_one_of place_of use_of is_table is_rising stands is_named seen of_two_methods of_an_override of_two_interfaces of_streams with_a_field overloads of_overloads overriding of_overriding two_promises of_two_promises readers of_readers hidden_field of_hidden_field
+unfolding put sorted chain_by is_accessible is_in_reach is_offered offered spells shortest class_spelling with_dims spelling type_text is_candidate candidates same_types with_first after_two overrides after_three is_crowded is_written after_four taken_names is_hidden after_five faces_above is_whole is_given is_of_object method_in faces row_of rows_of types_of number_in weight_of member_decl face_decl decls_of is_variable binder_of environment_of last_named added merged class_named comes_to canonical_by class_by_canonical joined around_by has_flag first_from class_with member_from enclosing spelled imported nested_class below starred of_java_lang named_class simple_class member_class class_of_name primitive primitive_of base_of denoted_type bound_of variable_in variable_of through has reserved is_digit summaries_from supers_of first_super super_of field_of param_of method_of methods_from is_ascii_identifier is_below_at is_ancestor is_one_of place_of use_of is_table is_rising stands is_named seen of_two_methods of_an_override of_two_interfaces of_streams overloads of_overloads overriding of_overriding two_promises of_two_promises readers of_readers hidden_field of_hidden_field
 computed = record {
   overloads_table = refl;
   overloads_is = refl;

@@ -1,16 +1,15 @@
 -- Versions with the classes of small texts, in which the holes worked out by hand have one environment.
-use Rattle.std.specs.Prelude.{◌≡◌, ◌↔◌, ℕ, false, List, [], ◌∷◌, codes, None}
+use Rattle.std.specs.Prelude.{◌≡◌, ◌↔◌, ℕ, List, [], ◌∷◌, codes}
 use Rattle.type_names.specs.Names.{object_name}
 use Rattle.known_classes.specs.declared.summary.ClassSummary.{ClassSummary}
 use Rattle.decl_index.specs.History.{State}
 use Rattle.decl_index.specs.Weighing.{usual}
 use Rattle.terms.specs.declared.parts.Parts.{Parts}
 use Rattle.java_units.specs.declared.types.Unit as unit
-use Rattle.java_units.specs.declared.types.ClassKind.TheVariants.{ClassDecl}
 use Rattle.java_bodies.specs.declared.site.HoleSite.{HoleSite}
 use Rattle.offers.specs.Scenes.{of_class}
 use Rattle.scopes.specs.Environments.{IsEnvironmentAt}
-use Rattle.scopes.specs.Rows.{class_by, made, made_of, gives_int, reader, named, method_in, maker}
+use Rattle.scopes.specs.Rows.{class_by, made, made_of, gives_int, reader}
 
 -- A version with these classes, in which no member was used and no weights were set.
 unfoldable pub version : List ClassSummary → ℕ → State
@@ -44,21 +43,3 @@ of_streams =
     class_by (codes "java/io/BufferedReader") 1 (reader ∷ []) [] (made_of reader ∷ [])
     ∷ class_by (codes "java/io/FileReader") 1 (reader ∷ []) [] (made_of (codes "java/lang/String") ∷ [])
     ∷ class_by reader 1025 (object_name ∷ []) [] [] ∷ []
-
--- The unit of a class with a field, and a method whose parameter has the field's name.
-unfoldable pub with_a_field : unit.Unit
-with_a_field = record {
-  «package» = [];
-  imports = [];
-  classes = record {
-    name = codes "P";
-    outer = None;
-    kind = ClassDecl;
-    flags = 0;
-    vars = [];
-    supers = [];
-    names_parent = false;
-    fields = record { name = codes "k"; flags = 0; kind = named (codes "int") } ∷ [];
-    methods = method_in (codes "f") 0 (record { name = codes "k"; kind = named (codes "int") }) ∷ maker ∷ [];
-  } ∷ [];
-}

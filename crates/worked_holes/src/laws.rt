@@ -1,6 +1,6 @@
 ghost use Rattle.std.specs.Prelude.{[]};
 ghost use Rattle.scopes.specs.Rows.{overloads, of_overloads, overriding, of_overriding, two_promises, of_two_promises, readers, of_readers, hidden_field, of_hidden_field};
-ghost use Rattle.worked_holes.specs.Worked.{HasOnly, of_two_methods, of_an_override, of_two_interfaces, of_streams, with_a_field};
+ghost use Rattle.worked_holes.specs.Worked.{HasOnly, of_two_methods, of_an_override, of_two_interfaces, of_streams};
 
 /// Five holes have the environments that were worked out by hand, and no others: overloads, an override, one method of two
 /// interfaces, readers over streams, and a hidden field. It does nothing.
@@ -9,5 +9,5 @@ pub fn worked_holes()
     ensures overriding { HasOnly of_an_override overriding.unit overriding.site 45 of_overriding }
     ensures two_promises { HasOnly of_two_interfaces two_promises.unit two_promises.site 45 of_two_promises }
     ensures readers { HasOnly of_streams readers.unit readers.site 4000 of_readers }
-    ensures hidden_field { HasOnly [] with_a_field hidden_field.site 30 of_hidden_field }
+    ensures hidden_field { HasOnly [] hidden_field.unit hidden_field.site 30 of_hidden_field }
 {}
