@@ -1,0 +1,2 @@
+pub mod FilesMore
+mod Gathering

@@ -1,0 +1,14 @@
+use Rattle.std.proofs.Common.{◌≡◌, ap, ◌∙◌}
+use Rattle.rayon.proofs.ListFacts.{IfOk-then}
+use Rattle.rayon.proofs.ToStd.{slice-AllZip}
+use Rattle.class_batches.specs.Faults.{Parses}
+use Rattle.class_batches.proofs.parsing.parse_each.Goals as goal
+
+pub returns : goal.returns
+returns g c =
+    let slice = ap (λ it. it.slice.now) c.map.ensures.base ∙ c.par_iter.ensures in
+    record {
+      each = IfOk-then c.collect.result _ _ c.collect.ensures (λ v h.
+          let chain = h.1 in
+          rw h.2 (slice-AllZip chain.0 c.args.files.now (chain.1 ∙ slice) Parses h.0 chain.2));
+    }
