@@ -10,7 +10,8 @@ use Rattle.start_text.specs.Starts.{text_fault}
 use Rattle.start_text.specs.Faults as start
 use Rattle.start_text.specs.declared.fault.StartFault.{StartFault}
 use Rattle.start_text.proofs.Reading.{path_at, paths_after, after-more, after-all}
-use Rattle.counting.specs.Counted.{held_for, CountsLines, IsTextFault, CountsText}
+use Rattle.start_text.specs.Taken.{held_for}
+use Rattle.counting.specs.Counted.{CountsLines, IsTextFault, CountsText}
 use Rattle.counting.specs.declared.fault.CountFault.{CountFault}
 use Rattle.counting.specs.declared.fault.CountFault.TheVariants.{Start, Code}
 use Rattle.counting.proofs.FileUses.{counts-none, counts-then, counts-stop}

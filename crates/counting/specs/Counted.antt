@@ -1,11 +1,12 @@
 -- The keys that the class files of a start text use, and how often; or the first fault.
-use Rattle.std.specs.Prelude.{◌≡◌, ◌⊎◌, ℕ, List, [], ◌∷◌, ◌++◌, map, Option, Some, None, Result, OnOk, IfOk, IfErr, MatchResult}
+use Rattle.std.specs.Prelude.{◌≡◌, ◌⊎◌, ℕ, List, [], ◌∷◌, ◌++◌, Option, Some, None, Result, OnOk, IfOk, IfErr, MatchResult}
 use Rattle.outside.specs.Held.{held_under}
 use Rattle.outside.specs.declared.shelf.HeldFile.{HeldFile}
 use Rattle.code_walk.specs.declared.fault.WalkFault.{WalkFault}
 use Rattle.usage_counts.specs.Counts.{Key, Numbers, AreAdded}
 use Rattle.usage_counts.specs.Files.{AreUses, IsUseFault}
 use Rattle.start_text.specs.Lines.{paths_of}
+use Rattle.start_text.specs.Taken.{held_for}
 use Rattle.start_text.specs.Starts.{text_fault, file_fault}
 use Rattle.counting.specs.Faults.{IsOutside}
 use Rattle.counting.specs.declared.fault.CountFault.{CountFault}
@@ -14,10 +15,6 @@ use Rattle.counting.specs.declared.fault.CountFault.TheVariants.{Start, Code}
 -- Lines by their numbers, each with what is held under its path, if there is anything.
 abbrev pub Lines : Type 0
 Lines = List (ℕ × Option (List ℕ))
-
--- What is held for the paths of lines.
-abbrev pub held_for : List HeldFile → List (ℕ × List ℕ) → Lines
-held_for files paths = map (λ path. (path.0, held_under files path.1)) paths
 
 -- Nothing is wrong with the file of a line, and its instructions use these keys, in file order.
 pub record UsesOfFile (line : ℕ) (held : Option (List ℕ)) (keys : List Key) : Type 0 where

@@ -4,7 +4,8 @@ ghost use Rattle.outside.specs.declared.shelf.HeldFile.{HeldFile};
 ghost use Rattle.start_text.specs.Lines.{paths_among, paths_in};
 ghost use Rattle.start_text.specs.declared.fault.StartFault.TheVariants.{Failed};
 ghost use Rattle.counting.specs.Faults.{LeavesShelf};
-ghost use Rattle.counting.specs.Counted.{held_for, CountsLines, CountsText};
+ghost use Rattle.start_text.specs.Taken.{held_for};
+ghost use Rattle.counting.specs.Counted.{CountsLines, CountsText};
 ghost use Rattle.counting.specs.declared.fault.CountFault.TheVariants.{Start};
 
 use crate::fault::{CountFault, no_code};

@@ -17,6 +17,7 @@ use version_board::{Naming, Opened, Snapshot, start_board};
 
 /// The version of the start text of this name.
 fn started_version<H: Shelf>(
+    rt: &(impl Threads + Sync),
     alloc: Global,
     shelf: &mut H,
     name: &str,
@@ -25,11 +26,12 @@ fn started_version<H: Shelf>(
     ensures fault { IfErr result (λ fault. IsOutside fault ⊎ IsStartFault (Some name.now) (H.holds shelf.old) fault) }
     ensures shelf { LeavesShelf (H.holds shelf.old) (H.holds shelf.new) (H.faults shelf.old) (H.faults shelf.new) result }
 {
-    read_start(alloc, shelf, name)
+    read_start(rt, alloc, shelf, name)
 }
 
 /// The version at which a server starts: that of the start text of this name, or the version 0 where none is named.
 fn first_version<H: Shelf>(
+    rt: &(impl Threads + Sync),
     alloc: Global,
     shelf: &mut H,
     name: Option<&str>,
@@ -39,7 +41,7 @@ fn first_version<H: Shelf>(
     ensures shelf { LeavesShelf (H.holds shelf.old) (H.holds shelf.new) (H.faults shelf.old) (H.faults shelf.new) result }
 {
     match name {
-        Some(name) => started_version(alloc, shelf, name),
+        Some(name) => started_version(rt, alloc, shelf, name),
         None => match Snapshot::empty(alloc) {
             Ok(version) => Ok(version),
             Err(_) => Err(StartFault::OutOfMemory),
@@ -49,6 +51,7 @@ fn first_version<H: Shelf>(
 
 /// The same from the shelf of an end; nothing is read from its source or written to its sink.
 fn load_first<S: Source, K: Sink, H: Shelf>(
+    rt: &(impl Threads + Sync),
     alloc: Global,
     end: &mut End<S, K, H>,
     name: Option<&str>,
@@ -58,7 +61,7 @@ fn load_first<S: Source, K: Sink, H: Shelf>(
     ensures shelf { LeavesShelf (H.holds end.old.shelf) (H.holds end.new.shelf) (H.faults end.old.shelf) (H.faults end.new.shelf) result }
     ensures untouched { (end.new.source ≡ end.old.source) × (end.new.sink ≡ end.old.sink) }
 {
-    first_version(alloc, &mut end.shelf, name)
+    first_version(rt, alloc, &mut end.shelf, name)
 }
 
 /// Serves new sessions at the ends over one board, each in a thread, and gives the ends back in their order: all from
@@ -111,7 +114,7 @@ pub fn serve<
     ensures untouched { HasNotBegun result → AreUntouched ends.old.items ends.new.items }
     ensures lasts { let seen = view_of S.left K.written H.holds S.faults K.faults H.faults in AllLast (map seen ends.old.items) (map seen ends.new.items) }
 {
-    match load_first(alloc, &mut ends[0], name) {
+    match load_first(rt, alloc, &mut ends[0], name) {
         Ok(first) => serve_board::<Brand, S, K, H, &R>(rt, alloc, Opened::new(), first, ends),
         Err(fault) => Serving::of_fault(&fault),
     }

@@ -1,3 +1,4 @@
+pub mod Batching
 pub mod Loads
 pub mod Reading
 pub mod StartLaws

@@ -6,6 +6,8 @@ use Rattle.outside.specs.declared.shelf.LoadFault.{LoadFault}
 use Rattle.outside.specs.declared.shelf.LoadFault.TheVariants as load
 use Rattle.decl_index.specs.declared.change.ChangeFault.{ChangeFault}
 use Rattle.decl_index.specs.declared.change.ChangeFault.TheVariants as change
+use Rattle.class_batches.specs.declared.fault.BatchFault.{BatchFault}
+use Rattle.class_batches.specs.declared.fault.BatchFault.TheVariants as batch
 use Rattle.class_pool.specs.declared.fault.ClassFault.{ClassFault}
 use Rattle.class_pool.specs.declared.fault.ClassCause.{ClassCause}
 use Rattle.class_pool.specs.declared.fault.ClassCause.TheVariants as class
@@ -80,6 +82,11 @@ of_change (change.Full parts) = Refused (change.Full parts)
 of_change (change.TooHigh through) = Refused (change.TooHigh through)
 of_change change.JournalFull = Refused change.JournalFull
 of_change (change.NestCycle name) = Refused (change.NestCycle name)
+
+-- The fault of a batch, whose files have the numbers of their lines.
+abbrev pub of_batch : BatchFault → StartFault
+of_batch (batch.Broken line why) = NotClass line why
+of_batch batch.OutOfMemory = OutOfMemory
 
 -- What is wrong with the file of a line, by the fault of its bytes; want of memory says nothing of them.
 abbrev pub of_class : ℕ → ClassFault → ClassCause → StartFault

@@ -1,4 +1,4 @@
-ghost use Rattle.std.specs.Prelude.{◌≡◌, ◌≤◌, ◌<◌, ◌⊎◌, ◌++◌, ◌∷◌, ◌^◌, ℕ, [], List, length, Some, IfOk, OnOk, IsErrOf, MatchResult};
+ghost use Rattle.std.specs.Prelude.{◌≡◌, ◌≤◌, ◌<◌, ◌⊎◌, ◌++◌, ◌∷◌, ◌^◌, ℕ, [], List, Option, length, Some, IfOk, OnOk, IsErrOf, MatchResult};
 ghost use Rattle.outside.specs.Held.{held_under, longest_load};
 ghost use Rattle.outside.specs.declared.shelf.HeldFile.{HeldFile};
 ghost use Rattle.class_shape.specs.Shapes.{IsClassFile};
@@ -6,7 +6,9 @@ ghost use Rattle.known_classes.specs.declared.summary.ClassSummary.{ClassSummary
 ghost use Rattle.start_text.specs.Lines.{paths_among, paths_in};
 ghost use Rattle.start_text.specs.Faults.{IsOutside, Meets, LeavesShelf, of_class};
 ghost use Rattle.start_text.specs.Starts.{file_fault, first_file_fault, IsClassOf, AreClassesOf};
+ghost use Rattle.start_text.specs.Taken.{held_for, AreTaken, Takes};
 
+use crate::batches::Batches;
 use crate::fault::StartFault;
 use class_pool::{ClassCause, ClassFault};
 use class_shape::{ClassShape, read_class};
@@ -14,6 +16,7 @@ use class_summary::{ClassSummary, from_shape};
 use lists::Items;
 use outside::{Loaded, Shelf};
 use std::alloc::Global;
+use std::thread::Threads;
 
 /// What is wrong with the class file of a line.
 fn no_class(line: u32, fault: ClassFault) -> StartFault
@@ -71,52 +74,56 @@ pub fn load_file<H: Shelf>(
     }
 }
 
-/// The class of a line's file. The bytes stand in the buffer, in place of what stood there.
-fn read_file<H: Shelf>(
-    alloc: Global,
-    shelf: &mut H,
-    path: &str,
-    line: u32,
-    buffer: &mut Vec<u8>,
-) -> Result<ClassSummary, StartFault>
-    ensures fault { (files : List HeldFile) → H.holds shelf.old ≡ Some files → Meets (file_fault line (held_under files path.now)) result }
-    ensures class { (files : List HeldFile) → H.holds shelf.old ≡ Some files → IfOk result (λ class. IsClassOf (held_under files path.now) class) }
-    ensures shelf { LeavesShelf (H.holds shelf.old) (H.holds shelf.new) (H.faults shelf.old) (H.faults shelf.new) result }
-{
-    load_file(shelf, path, line, buffer)?;
-    class_of(alloc, buffer.as_slice(), line)
-}
-
-/// The classes that were read, and room for the bytes of one file.
-#[derive(Drop)]
-struct Reading {
-    classes: Items<ClassSummary>,
-    buffer: Vec<u8>,
-}
-
-/// Reads the file of a line, where the line isn't empty, and adds its class.
+/// Loads the file of a line, where the line isn't empty, and takes its bytes.
 fn read_line<H: Shelf>(
+    rt: &(impl Threads + Sync),
     alloc: Global,
     shelf: &mut H,
     path: &str,
     line: u32,
-    reading: &mut Reading,
+    reading: &mut Batches,
 ) -> Result<(), StartFault>
-    ensures fault { (files : List HeldFile) → H.holds shelf.old ≡ Some files → Meets (first_file_fault files (paths_among ((line, path.now) ∷ []))) result }
-    ensures classes { (files : List HeldFile) → H.holds shelf.old ≡ Some files → OnOk result ((added : List ClassSummary)
-        × (reading.new.classes ≡ reading.old.classes ++ added) × AreClassesOf files (paths_among ((line, path.now) ∷ [])) added) }
+    ensures taken { (files : List HeldFile) (before : List (ℕ × Option (List ℕ))) → H.holds shelf.old ≡ Some files → AreTaken before reading.old
+        → Takes (before ++ held_for files (paths_among ((line, path.now) ∷ []))) reading.new result }
     ensures shelf { LeavesShelf (H.holds shelf.old) (H.holds shelf.new) (H.faults shelf.old) (H.faults shelf.new) result }
 {
     if path.is_empty() {
         return Ok(());
     }
-    let class = read_file(alloc, shelf, path, line, &mut reading.buffer)?;
-    reading.classes.push(class)?;
+    let mut bytes = Vec::new(alloc);
+    match load_file(shelf, path, line, &mut bytes) {
+        Ok(()) => reading.take(rt, alloc, line, bytes),
+        Err(fault) => Err(reading.stop(rt, alloc, fault)),
+    }
+}
+
+/// Loads the files that a text names, in the order of the lines, and takes their bytes.
+fn read_lines<H: Shelf>(
+    rt: &(impl Threads + Sync),
+    alloc: Global,
+    shelf: &mut H,
+    text: &str,
+    reading: &mut Batches,
+) -> Result<(), StartFault>
+    requires { length text.now ≤ longest_load }
+    ensures taken { (files : List HeldFile) → H.holds shelf.old ≡ Some files → reading.old ≡ ([], []) → Takes (held_for files (paths_in text.now)) reading.new result }
+    ensures shelf { LeavesShelf (H.holds shelf.old) (H.holds shelf.new) (H.faults shelf.old) (H.faults shelf.new) result }
+{
+    let mut line: u32 = 0;
+    for path in text.lines() {
+        line += 1;
+        match read_line(rt, alloc, shelf, path, line, reading) {
+            Ok(()) => {}
+            Err(fault) => return Err(fault),
+        }
+    }
     Ok(())
 }
 
-/// The classes of the files that a text names, in the order of the lines. The files are read one by one.
+/// The classes of the files that a text names, in the order of the lines. The files are loaded one by one, and parsed in
+/// batches; none is loaded after a batch with a fault.
 pub fn read_classes<H: Shelf>(
+    rt: &(impl Threads + Sync),
     alloc: Global,
     shelf: &mut H,
     text: &str,
@@ -126,17 +133,9 @@ pub fn read_classes<H: Shelf>(
     ensures classes { (files : List HeldFile) → H.holds shelf.old ≡ Some files → IfOk result (λ classes. AreClassesOf files (paths_in text.now) classes) }
     ensures shelf { LeavesShelf (H.holds shelf.old) (H.holds shelf.new) (H.faults shelf.old) (H.faults shelf.new) result }
 {
-    let mut reading = Reading {
-        classes: Items::new(alloc),
-        buffer: Vec::new(alloc),
-    };
-    let mut line: u32 = 0;
-    for path in text.lines() {
-        line += 1;
-        match read_line(alloc, shelf, path, line, &mut reading) {
-            Ok(()) => {}
-            Err(fault) => return Err(fault),
-        }
+    let mut reading = Batches::new(alloc);
+    match read_lines(rt, alloc, shelf, text, &mut reading) {
+        Ok(()) => reading.finish(rt, alloc),
+        Err(fault) => Err(fault),
     }
-    Ok(reading.classes)
 }

@@ -1,7 +1,8 @@
 ghost use Rattle.std.specs.Prelude.{◌≡◌};
-ghost use Rattle.start_text.specs.Faults.{fault_line, number_of, change_number, of_load, of_change};
+ghost use Rattle.start_text.specs.Faults.{fault_line, number_of, change_number, of_load, of_change, of_batch};
 ghost use Rattle.start_text.specs.declared.fault.StartFault.TheVariants.{OutOfMemory};
 
+use class_batches::BatchFault;
 use class_pool::ClassFault;
 use decl_index::ChangeFault;
 use outside::LoadFault;
@@ -103,6 +104,17 @@ impl From<ChangeFault> for StartFault {
         match error {
             ChangeFault::OutOfMemory => StartFault::OutOfMemory,
             other => StartFault::Refused(other),
+        }
+    }
+}
+
+impl From<BatchFault> for StartFault {
+    ghost from_gives = { λ error fault. fault ≡ of_batch error };
+
+    fn from(error: BatchFault) -> StartFault {
+        match error {
+            BatchFault::Broken(line, fault) => StartFault::NotClass(line, fault),
+            BatchFault::OutOfMemory => StartFault::OutOfMemory,
         }
     }
 }

@@ -18,6 +18,7 @@ use decl_index::Change;
 use lists::Items;
 use outside::Shelf;
 use std::alloc::Global;
+use std::thread::Threads;
 use version_board::Snapshot;
 
 /// The change that puts these classes in.
@@ -48,6 +49,7 @@ fn first_version(alloc: Global, classes: Items<ClassSummary>) -> Result<Snapshot
 
 /// The classes of the files that the start text of this name names, in the order of its lines.
 fn read_all<H: Shelf>(
+    rt: &(impl Threads + Sync),
     alloc: Global,
     shelf: &mut H,
     name: &str,
@@ -57,16 +59,17 @@ fn read_all<H: Shelf>(
     ensures shelf { LeavesShelf (H.holds shelf.old) (H.holds shelf.new) (H.faults shelf.old) (H.faults shelf.new) result }
 {
     let text = read_text(alloc, shelf, name)?;
-    read_classes(alloc, shelf, text.as_str())
+    read_classes(rt, alloc, shelf, text.as_str())
 }
 
 /// The first version of a server: the one after the change that puts the classes of the start text's files in. The
 /// text is UTF-8 and has one path of a class file a line; paths are names on the shelf as they stand, with
 /// blanks and without comments. A line feed ends a line, a carriage return right before it belongs to neither
 /// line, and empty lines are passed over. A path that stands twice is loaded twice, and of two classes of one
-/// name the later one counts. A text without paths gives the version after a change of nothing. Files are read one
-/// by one, and of each only the summary of its class is kept.
+/// name the later one counts. A text without paths gives the version after a change of nothing. Files are loaded one
+/// by one and parsed in batches, by as many threads as there are processors; of each only the summary of its class is kept.
 pub fn read_start<H: Shelf>(
+    rt: &(impl Threads + Sync),
     alloc: Global,
     shelf: &mut H,
     name: &str,
@@ -85,7 +88,7 @@ pub fn read_start<H: Shelf>(
     ensures shelf { LeavesShelf (H.holds shelf.old) (H.holds shelf.new) (H.faults shelf.old) (H.faults shelf.new) result }
 {
     one_shape();
-    match read_all(alloc, shelf, name) {
+    match read_all(rt, alloc, shelf, name) {
         Ok(classes) => first_version(alloc, classes),
         Err(fault) => Err(fault),
     }

@@ -5,6 +5,7 @@ use outside::{FaultPlan, HeldFile, LONGEST_LOAD, MemShelf, Shelf};
 use start_text::{StartFault, read_start};
 use std::alloc::{AllocError, Global};
 use std::test::Fail;
+use std::thread::Threads;
 use version_board::Snapshot;
 
 /// `public class A extends java/lang/Object`, without members.
@@ -73,9 +74,13 @@ fn told(answer: &Result<Snapshot, StartFault>) -> (u32, u32) {
 }
 
 /// What is told of a start text.
-fn told_of(alloc: Global, text: &[u8]) -> Result<(u32, u32), AllocError> {
+fn told_of<R: Threads + Sync>(
+    rt: &R,
+    alloc: Global,
+    text: &[u8],
+) -> Result<(u32, u32), AllocError> {
     let mut shelf = shelf_of(alloc, text)?;
-    Ok(told(&read_start(alloc, &mut shelf, "start")))
+    Ok(told(&read_start(rt, alloc, &mut shelf, "start")))
 }
 
 /// Start texts, and the place and the number of what is wrong with them.
@@ -103,19 +108,22 @@ const TEXTS: [(&str, (u32, u32)); 18] = [
 #[test]
 fn texts_give_a_version_or_the_first_fault(rt: HostRuntime) -> Result<(), AllocError> {
     for (text, wanted) in &TEXTS {
-        assert_eq!(rt; told_of(rt.alloc(), text.as_bytes())?, *wanted);
+        assert_eq!(rt; told_of(&rt, rt.alloc(), text.as_bytes())?, *wanted);
     }
     Ok(())
 }
 
 #[test]
 fn the_text_itself_may_be_wrong(rt: HostRuntime) -> Result<(), AllocError> {
-    assert_eq!(rt; told_of(rt.alloc(), b"missing\n\xFF")?, (0, 19));
+    assert_eq!(rt; told_of(&rt, rt.alloc(), b"missing\n\xFF")?, (0, 19));
     let long = vec![in rt.alloc(); b'x'; LONGEST_LOAD + 1]?;
-    assert_eq!(rt; told_of(rt.alloc(), long.as_slice())?, (0, 19));
-    assert_eq!(rt; told_of(rt.alloc(), &long.as_slice()[1..])?, (1, 9));
+    assert_eq!(rt; told_of(&rt, rt.alloc(), long.as_slice())?, (0, 19));
+    assert_eq!(rt; told_of(&rt, rt.alloc(), &long.as_slice()[1..])?, (1, 9));
     let mut shelf = shelf_of(rt.alloc(), b"")?;
-    assert_eq!(rt; told(&read_start(rt.alloc(), &mut shelf, "other")), (0, 9));
+    assert_eq!(rt;
+        told(&read_start(&rt, rt.alloc(), &mut shelf, "other")),
+        (0, 9)
+    );
     Ok(())
 }
 
@@ -126,7 +134,10 @@ fn a_class_file_may_be_too_long(rt: HostRuntime) -> Result<(), AllocError> {
     shelf
         .files
         .push(file(rt.alloc(), "long", long.as_slice())?)?;
-    assert_eq!(rt; told(&read_start(rt.alloc(), &mut shelf, "start")), (2, 10));
+    assert_eq!(rt;
+        told(&read_start(&rt, rt.alloc(), &mut shelf, "start")),
+        (2, 10)
+    );
     Ok(())
 }
 
@@ -141,31 +152,48 @@ fn flags_of(index: &Index) -> u16 {
 #[test]
 fn of_two_files_of_one_class_the_later_counts(rt: HostRuntime) -> Result<(), Fail> {
     let mut shelf = shelf_of(rt.alloc(), b"A.class\ndir/a name\n")?;
-    let version = read_start(rt.alloc(), &mut shelf, "start")?;
+    let version = read_start(&rt, rt.alloc(), &mut shelf, "start")?;
     assert_eq!(rt; (version.number, flags_of(&version.index)), (1, 0x0421));
     let mut shelf = shelf_of(rt.alloc(), b"dir/a name\nA.class\n")?;
-    let version = read_start(rt.alloc(), &mut shelf, "start")?;
+    let version = read_start(&rt, rt.alloc(), &mut shelf, "start")?;
     assert_eq!(rt; (version.number, flags_of(&version.index)), (1, 0x0021));
     let mut shelf = shelf_of(rt.alloc(), b"")?;
-    let version = read_start(rt.alloc(), &mut shelf, "start")?;
+    let version = read_start(&rt, rt.alloc(), &mut shelf, "start")?;
     assert_eq!(rt; (version.number, flags_of(&version.index)), (1, 0));
     Ok(())
 }
 
 /// What is told, and how often the shelf failed, where these calls of it are to fail.
-fn told_failing(alloc: Global, failing: u64) -> Result<((u32, u32), u64), AllocError> {
-    let mut shelf = shelf_of(alloc, b"A.class\nmissing")?;
+fn told_failing<R: Threads + Sync>(
+    rt: &R,
+    alloc: Global,
+    text: &[u8],
+    failing: u64,
+) -> Result<((u32, u32), u64), AllocError> {
+    let mut shelf = shelf_of(alloc, text)?;
     shelf.plan = FaultPlan::new(Items::from_slice(alloc, &[failing])?);
-    let answer = told(&read_start(alloc, &mut shelf, "start"));
+    let answer = told(&read_start(rt, alloc, &mut shelf, "start"));
     Ok((answer, shelf.faults()))
 }
 
 #[test]
 fn a_failure_of_the_shelf_is_told(rt: HostRuntime) -> Result<(), AllocError> {
-    assert_eq!(rt; told_failing(rt.alloc(), 1)?, ((0, 1), 1));
-    assert_eq!(rt; told_failing(rt.alloc(), 2)?, ((0, 1), 1));
-    assert_eq!(rt; told_failing(rt.alloc(), 3)?, ((0, 1), 1));
-    assert_eq!(rt; told_failing(rt.alloc(), 4)?, ((2, 9), 0));
+    assert_eq!(rt;
+        told_failing(&rt, rt.alloc(), b"A.class\nmissing", 1)?,
+        ((0, 1), 1)
+    );
+    assert_eq!(rt;
+        told_failing(&rt, rt.alloc(), b"A.class\nmissing", 2)?,
+        ((0, 1), 1)
+    );
+    assert_eq!(rt;
+        told_failing(&rt, rt.alloc(), b"A.class\nmissing", 3)?,
+        ((0, 1), 1)
+    );
+    assert_eq!(rt;
+        told_failing(&rt, rt.alloc(), b"A.class\nmissing", 4)?,
+        ((2, 9), 0)
+    );
     Ok(())
 }
 
@@ -176,7 +204,107 @@ fn many_files_are_read(rt: HostRuntime) -> Result<(), Fail> {
         text.extend_from_slice(b"A.class\n")?;
     }
     let mut shelf = shelf_of(rt.alloc(), text.as_slice())?;
-    let version = read_start(rt.alloc(), &mut shelf, "start")?;
+    let version = read_start(&rt, rt.alloc(), &mut shelf, "start")?;
     assert_eq!(rt; (version.number, flags_of(&version.index)), (1, 0x0021));
+    Ok(())
+}
+
+#[test]
+fn a_bad_file_comes_before_a_load_that_fails_after_it(rt: HostRuntime) -> Result<(), AllocError> {
+    let text = b"A.class\ncut.class\nA.class\nmissing";
+    assert_eq!(rt; told_failing(&rt, rt.alloc(), text, 2)?, ((0, 1), 1));
+    assert_eq!(rt; told_failing(&rt, rt.alloc(), text, 3)?, ((0, 1), 1));
+    assert_eq!(rt; told_failing(&rt, rt.alloc(), text, 4)?, ((2, 11), 1));
+    assert_eq!(rt; told_failing(&rt, rt.alloc(), text, 5)?, ((2, 11), 1));
+    assert_eq!(rt; told_failing(&rt, rt.alloc(), text, 6)?, ((2, 11), 0));
+    Ok(())
+}
+
+/// A text of so many lines, each a class file, but for these two lines.
+fn lines_but(
+    alloc: Global,
+    count: u32,
+    first: (u32, &str),
+    second: (u32, &str),
+) -> Result<Vec<u8>, AllocError> {
+    let mut text = Vec::new(alloc);
+    for line in 0..count {
+        let path = if line == first.0 {
+            first.1
+        } else if line == second.0 {
+            second.1
+        } else {
+            "A.class"
+        };
+        text.extend_from_slice(path.as_bytes())?;
+        text.push(b'\n')?;
+    }
+    Ok(text)
+}
+
+/// How many lines a text has, two of them that aren't `A.class`, counted from 0, and what is told. A batch has 4,096 files.
+const BATCHES: [(u32, (u32, &str), (u32, &str), (u32, u32)); 14] = [
+    (1, (0, "cut.class"), (0, ""), (1, 11)),
+    (4_096, (0, "cut.class"), (4_095, "cut.class"), (1, 11)),
+    (4_096, (4_095, "cut.class"), (0, "A.class"), (4_096, 11)),
+    (4_097, (4_096, "cut.class"), (0, "A.class"), (4_097, 11)),
+    (4_097, (4_096, "missing"), (0, "A.class"), (4_097, 9)),
+    (4_097, (4_095, "cut.class"), (4_096, "missing"), (4_096, 11)),
+    (4_097, (4_095, "missing"), (4_096, "cut.class"), (4_096, 9)),
+    (
+        10_000,
+        (4_094, "cut.class"),
+        (4_095, "missing"),
+        (4_095, 11),
+    ),
+    (
+        10_000,
+        (4_095, "cut.class"),
+        (4_096, "cut.class"),
+        (4_096, 11),
+    ),
+    (
+        10_000,
+        (4_096, "cut.class"),
+        (8_191, "cut.class"),
+        (4_097, 11),
+    ),
+    (
+        10_000,
+        (8_191, "cut.class"),
+        (8_192, "cut.class"),
+        (8_192, 11),
+    ),
+    (
+        10_000,
+        (8_192, "cut.class"),
+        (9_999, "missing"),
+        (8_193, 11),
+    ),
+    (10_000, (9_999, "cut.class"), (0, "A.class"), (10_000, 11)),
+    (10_000, (4_096, "dir/a name"), (8_192, "dir/a name"), (0, 0)),
+];
+
+#[test]
+fn a_fault_is_told_at_each_end_of_a_batch(rt: HostRuntime) -> Result<(), AllocError> {
+    for (count, first, second, wanted) in &BATCHES {
+        let text = lines_but(rt.alloc(), *count, *first, *second)?;
+        assert_eq!(rt; told_of(&rt, rt.alloc(), text.as_slice())?, *wanted);
+    }
+    Ok(())
+}
+
+#[test]
+fn nothing_is_loaded_after_a_batch_with_a_fault(rt: HostRuntime) -> Result<(), Fail> {
+    let text = lines_but(rt.alloc(), 4_097, (0, "cut.class"), (4_096, "missing"))?;
+    assert_eq!(rt;
+        told_failing(&rt, rt.alloc(), text.as_slice(), 4_098)?,
+        ((1, 11), 0)
+    );
+    let text = lines_but(rt.alloc(), 4_097, (0, "A.class"), (4_096, "missing"))?;
+    assert_eq!(rt;
+        told_failing(&rt, rt.alloc(), text.as_slice(), 4_098)?,
+        ((0, 1), 1)
+    );
     Ok(())
 }

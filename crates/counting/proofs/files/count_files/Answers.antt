@@ -1,7 +1,8 @@
 use Rattle.std.proofs.Common.{◌∙◌, ap, sym, subst, Some, Ok, Err}
 use Rattle.usage_counts.specs.Counts.{Numbers}
 use Rattle.start_text.specs.Lines.{paths_in}
-use Rattle.counting.specs.Counted.{held_for, CountsLines}
+use Rattle.start_text.specs.Taken.{held_for}
+use Rattle.counting.specs.Counted.{CountsLines}
 use Rattle.counting.proofs.Texts.{text-counted, text-stopped}
 use Rattle.counting.proofs.files.count_files.Goals as goal
 
