@@ -1,92 +1,54 @@
--- How groups of places grow, and are walked through.
-use Rattle.std.proofs.Common.{rules, ◌≡◌, ◌∙◌, sym, ap, subst, refl, arith, ℕ, zero, suc, ◌+◌, ◌≤◌, ◌<◌, Bool, true, false, if◌then◌else◌, ◌⊎◌, List, [], ◌∷◌, ◌++◌, length, get_or, bytes_eq, inl, inr, Option, Some, None, below_more}
-use Rattle.std.specs.Prelude.{unwrap_or}
+-- How groups of places grow.
+use Rattle.std.proofs.Common.{◌≡◌, ◌≢◌, ◌∙◌, sym, ap, subst, refl, arith, ℕ, zero, suc, ◌<◌, ◌%◌, ◌⊎◌, List, [], ◌∷◌, ◌++◌, length, map, get_or, set, inl, inr, Some}
+use Rattle.std.specs.Prelude.{slice_get, slice_index_or, slice_set}
 use Rattle.std.specs.List.{Contains}
-use Rattle.std.proofs.lemmas.Bool.{cases_order}
-use Rattle.std.proofs.lemmas.Cmp.{nat_list_eq_equiv}
-use Rattle.std.proofs.lemmas.List.{get_or_append_left, get_or-append-add, length-append}
+use Rattle.std.proofs.lemmas.Bool.{cases_eq}
+use Rattle.std.proofs.lemmas.List.{get_or-set_same, get_or-set_other, length-set, map-set}
 use Rattle.std.proofs.lemmas.List.Elements.{Contains-push, Contains-append_left}
-use Rattle.offers.specs.Grouping.{IsLast, AreLinks, IsRow}
+use Rattle.offers.specs.Grouping.{AreGroups}
 
-same_bytes : (x q : List ℕ) → bytes_eq x q ≡ true → x ≡ q
-same_bytes x q e = search rules
+pub no-place : (rows : List (List ℕ)) → AreGroups [] rows
+no-place rows key i s = absurd (let h = s in cc)
 
-differs : (a b : List ℕ) → bytes_eq a b ≡ false → a ≡ b → ⊥
-differs a b e q = let t : bytes_eq a b ≡ true = ap (bytes_eq a) (sym q) ∙ nat_list_eq_equiv.refl a in absurd cc
+-- a place of a list with one number more
+last-or : (hashes : List ℕ) (hash key i : ℕ) → slice_get (hashes ++ hash ∷ []) i ≡ Some key → (slice_get hashes i ≡ Some key) ⊎ ((i ≡ length hashes) × (hash ≡ key))
+last-or [] hash key zero s = inr (refl, cc)
+last-or [] hash key (suc i) s = absurd (let h = s in cc)
+last-or (x ∷ xs) hash key zero s = inl s
+last-or (x ∷ xs) hash key (suc i) s = elim (last-or xs hash key i s) [ inl h ↦ inl h | inr h ↦ inr (ap suc h.0, h.1) ]
 
-last-own : (keys : List (List ℕ)) (i : ℕ) (key : List ℕ) → get_or keys i [] ≡ key → IsLast keys key (i + 1) (i + 1)
-last-own keys i key e = record {
-  within = omega arith;
-  own = λ m h. let q : i ≡ m = omega (arith, h) in ap (λ k. get_or keys k []) (sym q) ∙ e;
-  absent = λ j l g k. omega (arith, l, g);
-}
+grown : (hashes : List ℕ) (rows : List (List ℕ)) (hash place key i k : ℕ) → k ≡ key % length rows → k < length rows → k ≡ hash % length rows → AreGroups hashes rows → length hashes ≡ place → (slice_get hashes i ≡ Some key) ⊎ ((i ≡ length hashes) × (hash ≡ key)) → Contains (get_or rows k [] ++ place ∷ []) i
+grown hashes rows hash place key i k q l e g p (inl s) = Contains-append_left (get_or rows k []) (place ∷ []) i (subst (λ (n : ℕ). Contains (get_or rows n []) i) (sym q) (g key i s))
+grown hashes rows hash place key i k q l e g p (inr h) = subst (λ (n : ℕ). Contains (get_or rows k [] ++ place ∷ []) n) (sym (h.0 ∙ p)) (Contains-push (get_or rows k []) place)
 
-last-other : (keys : List (List ℕ)) (i n : ℕ) (key own : List ℕ) → get_or keys i [] ≡ own → bytes_eq own key ≡ false → IsLast keys key i n → IsLast keys key (i + 1) n
-last-other keys i n key own e d h = record {
-  within = omega (arith, h.within);
-  own = h.own;
-  absent = λ j l g k. below_more (λ m. n ≤ m → get_or keys m [] ≡ key → ⊥) i (λ m b f q. h.absent m f b q) (λ f q. differs own key d (sym e ∙ q)) j g l k;
-}
+kept : (hashes : List ℕ) (rows : List (List ℕ)) (hash key i at : ℕ) → (key % length rows ≡ at → ⊥) → at ≡ hash % length rows → AreGroups hashes rows → (slice_get hashes i ≡ Some key) ⊎ ((i ≡ length hashes) × (hash ≡ key)) → Contains (get_or rows (key % length rows) []) i
+kept hashes rows hash key i at n e g (inl s) = g key i s
+kept hashes rows hash key i at n e g (inr h) = absurd (n (sym (e ∙ ap (λ (m : ℕ). m % length rows) h.1)))
 
-last-by : (keys : List (List ℕ)) (i : ℕ) (key own : List ℕ) (b : Bool) (o : Option ℕ) → get_or keys i [] ≡ own → bytes_eq own key ≡ b → IsLast keys key i (unwrap_or o 0) → IsLast keys key (i + 1) (unwrap_or (if b then Some (i + 1) else o) 0)
-last-by keys i key own true o e d h = last-own keys i key (e ∙ same_bytes own key d)
-last-by keys i key own false o e d h = last-other keys i (unwrap_or o 0) key own e d h
+in-row : (hashes : List ℕ) (rows : List (List ℕ)) (hash place key i at : ℕ) → at ≡ hash % length rows → at < length rows → AreGroups hashes rows → length hashes ≡ place → (slice_get hashes i ≡ Some key) ⊎ ((i ≡ length hashes) × (hash ≡ key)) → (key % length rows ≡ at) ⊎ (key % length rows ≢ at) → Contains (get_or (set rows at (get_or rows at [] ++ place ∷ [])) (key % length rows) []) i
+in-row hashes rows hash place key i at e l g p s (inl q) =
+    subst (λ (row : List ℕ). Contains row i) (sym (ap (λ (n : ℕ). get_or (set rows at (get_or rows at [] ++ place ∷ [])) n []) q ∙ get_or-set_same rows at (get_or rows at [] ++ place ∷ []) [] l))
+    (grown hashes rows hash place key i at (sym q) l e g p s)
+in-row hashes rows hash place key i at e l g p s (inr n) =
+    subst (λ (row : List ℕ). Contains row i) (sym (get_or-set_other rows at (key % length rows) (get_or rows at [] ++ place ∷ []) [] n))
+    (kept hashes rows hash key i at n e g s)
 
 -- one more place
-pub links-on : (keys : List (List ℕ)) (i n : ℕ) (own : List ℕ) (last next : List ℕ → Option ℕ) (before more : List ℕ) → get_or keys i [] ≡ own → AreLinks keys i last before → n ≡ unwrap_or (last own) 0 → more ≡ before ++ n ∷ [] → ((key : List ℕ) → next key ≡ (if bytes_eq own key then Some (i + 1) else last key)) → AreLinks keys (i + 1) next more
-links-on keys i n own last next before more e h q m f = record {
-  long = omega (arith, ap length m, length-append before (n ∷ []), h.long);
-  lasts = λ key. subst (λ o. IsLast keys key (i + 1) (unwrap_or o 0)) (sym (f key)) (last-by keys i key own (bytes_eq own key) (last key) e refl (h.lasts key));
-  befores = below_more (λ k. IsLast keys (get_or keys k []) k (get_or more k 0)) i old here;
-}
+pub groups-on : (hashes : List ℕ) (rows new : List (List ℕ)) (hash place at : ℕ) → at ≡ hash % length rows → at < length rows → new ≡ slice_set rows at (slice_index_or rows at [] ++ place ∷ []) → AreGroups hashes rows → length hashes ≡ place → AreGroups (hashes ++ hash ∷ []) new
+groups-on hashes rows new hash place at e l n g p key i s =
+    let long : length new ≡ length rows = ap length n ∙ length-set rows at (get_or rows at [] ++ place ∷ []) in
+    subst (λ (row : List ℕ). Contains row i) (sym (ap (λ (z : List (List ℕ)). get_or z (key % length new) []) n ∙ ap (λ (m : ℕ). get_or (set rows at (get_or rows at [] ++ place ∷ [])) (key % m) []) long))
+    (in-row hashes rows hash place key i at e l g p (last-or hashes hash key i s) (cases_eq (key % length rows) at))
+
+-- one row of a table grows
+pub grows : {X : Type 0} (f : X → List ℕ) (vs : List X) (k place : ℕ) (v w : X) → k < length vs → v ≡ get_or vs k v → f w ≡ f v ++ place ∷ [] → map f (set vs k w) ≡ set (map f vs) k (get_or (map f vs) k [] ++ place ∷ [])
+grows {X} f vs k place v w low is more = map-set f vs k w ∙ ap (set (map f vs) k) (more ∙ ap (λ l. l ++ place ∷ []) (ap f is ∙ sym (at vs k low)))
   where
-    old : (k : ℕ) → k < i → IsLast keys (get_or keys k []) k (get_or more k 0)
-    old k b = subst (λ x. IsLast keys (get_or keys k []) k x) (sym (ap (λ z. get_or z k 0) m ∙ get_or_append_left before (n ∷ []) 0 k (omega (arith, h.long)))) (h.befores k b)
+    at : (us : List X) (j : ℕ) → j < length us → get_or (map f us) j [] ≡ f (get_or us j v)
+    at [] j b = absurd (omega (arith, b))
+    at (u ∷ us) zero b = refl
+    at (u ∷ us) (suc j) b = at us j (omega (arith, b))
 
-    at-end : get_or more i 0 ≡ n
-    at-end = ap (λ z. get_or z i 0) m ∙ ap (λ k. get_or (before ++ n ∷ []) k 0) (let w : i ≡ length before + 0 = omega (arith, h.long) in w) ∙ get_or-append-add before (n ∷ []) 0 0
-
-    here : IsLast keys (get_or keys i []) i (get_or more i 0)
-    here = subst (λ x. IsLast keys (get_or keys i []) i x) (sym (at-end ∙ q)) (subst (λ k. IsLast keys k i (unwrap_or (last own) 0)) (sym e) (h.lasts own))
-
--- what a walk from the last place of a key on has met
-pub record IsSought (keys : List (List ℕ)) (key : List ℕ) (end : ℕ) (row : List ℕ) : Type 0 where
-  pub within : end ≤ length keys
-  pub own : (m : ℕ) → end ≡ suc m → get_or keys m [] ≡ key
-  pub has : (j : ℕ) → end ≤ j → j < length keys → get_or keys j [] ≡ key → Contains row j
-
-pub sought-first : (keys : List (List ℕ)) (key : List ℕ) (end : ℕ) (row : List ℕ) → IsLast keys key (length keys) end → IsSought keys key end row
-sought-first keys key end row h = record { within = h.within; own = h.own; has = λ j l g e. absurd (h.absent j l g e) }
-
-sought-has : (keys : List (List ℕ)) (key own : List ℕ) (place next j : ℕ) (row : List ℕ) → own ≡ key → IsLast keys own place next → ((k : ℕ) → suc place ≤ k → k < length keys → get_or keys k [] ≡ key → Contains row k) → next ≤ j → j < length keys → get_or keys j [] ≡ key → (j ≡ place) ⊎ ((j < place) ⊎ (place < j)) → Contains (row ++ place ∷ []) j
-sought-has keys key own place next j row o h f l g e (inr (inl b)) = absurd (h.absent j l b (e ∙ sym o))
-sought-has keys key own place next j row o h f l g e (inr (inr b)) = Contains-append_left row (place ∷ []) j (f j (omega (arith, b)) g e)
-sought-has keys key own place next j row o h f l g e (inl q) = subst (λ k. Contains (row ++ place ∷ []) k) (sym q) (Contains-push row place)
-
-pub sought-on : (keys : List (List ℕ)) (key : List ℕ) (end place next : ℕ) (row more : List ℕ) → IsSought keys key end row → end ≡ suc place → IsLast keys (get_or keys place []) place next → more ≡ row ++ place ∷ [] → IsSought keys key next more
-sought-on keys key end place next row more h q n m =
-    let o : get_or keys place [] ≡ key = h.own place q in
-    record {
-      within = omega (arith, h.within, n.within, q);
-      own = λ k e. n.own k e ∙ o;
-      has = λ j l g e. subst (λ z. Contains z j) (sym m) (sought-has keys key (get_or keys place []) place next j row o n (λ k a b c. h.has k (omega (arith, a, q)) b c) l g e (cases_order j place));
-    }
-
-pub sought-last : (keys : List (List ℕ)) (key : List ℕ) (end : ℕ) (row : List ℕ) → end ≤ 0 → IsSought keys key end row → IsRow keys key row
-sought-last keys key end row z h i l e = h.has i (omega (arith, z)) l e
-
--- no place yet, and all of them
-pub links-none : (keys : List (List ℕ)) (last : List ℕ → Option ℕ) (before : List ℕ) → ((key : List ℕ) → last key ≡ None) → before ≡ [] → AreLinks keys 0 last before
-links-none keys last before f e = record {
-  long = ap length e;
-  lasts = λ key. subst (λ o. IsLast keys key 0 (unwrap_or o 0)) (sym (f key)) (record { within = omega arith; own = λ m h. absurd (omega (arith, h)); absent = λ j l g k. omega (arith, l, g) });
-  befores = λ i l. absurd (omega (arith, l));
-}
-
-pub links-all : (texts keys : List (List ℕ)) (i : ℕ) (last : List ℕ → Option ℕ) (before : List ℕ) → texts ≡ keys → i ≡ length texts → AreLinks texts i last before → AreLinks keys (length keys) last before
-links-all texts keys i last before e q h = subst (λ k. AreLinks k (length k) last before) e (subst (λ n. AreLinks texts n last before) q h)
-
-pub at-default : {A : Type 0} (xs : List A) (i : ℕ) (d e : A) → i < length xs → get_or xs i d ≡ get_or xs i e
-at-default [] i d e l = absurd (omega (arith, l))
-at-default (x ∷ xs) zero d e l = refl
-at-default (x ∷ xs) (suc i) d e l = at-default xs i d e (omega arith)
+pub as-many : {A B : Type 0} (f : A → B) (xs : List A) → length (map f xs) ≡ length xs
+as-many f [] = refl
+as-many f (x ∷ xs) = ap suc (as-many f xs)

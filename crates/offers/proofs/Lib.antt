@@ -14,6 +14,7 @@ pub mod OneScene
 pub mod Missing
 pub mod Grouping
 pub mod Rows
+pub mod Alike
 pub mod Overriding
 pub mod Rivals
 pub mod Placing

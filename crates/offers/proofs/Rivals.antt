@@ -1,5 +1,5 @@
--- A member is crowded by one of its rivals, which stand among the members of its name.
-use Rattle.std.proofs.Common.{rules, ◌≡◌, ◌∙◌, ap, sym, subst, refl, ℕ, zero, suc, ◌<◌, length, Some, Bool, true, false, ◌&&◌, ◌||◌, ◌==◌, cond, List, [], ◌∷◌, map, get_or, bytes_eq}
+-- A member is crowded by one of its rivals, which stand among the members of its name and number of parameters.
+use Rattle.std.proofs.Common.{◌≡◌, ◌∙◌, ap, sym, subst, refl, ℕ, zero, suc, ◌<◌, length, Some, Bool, true, false, ◌&&◌, ◌||◌, ◌==◌, cond, List, [], ◌∷◌, map, get_or}
 use Rattle.std.specs.Prelude.{slice_get}
 use Rattle.std.specs.List.{list_any, filter}
 use Rattle.std.proofs.lemmas.Option.{slice_get_within, get_or_from_slice_get}
@@ -12,10 +12,12 @@ use Rattle.offers.specs.Candidates.{same_kind, is_private}
 use Rattle.offers.specs.Omissions.{is_kin, meet, crowds, is_crowded}
 use Rattle.offers.specs.Functional.{of_base}
 use Rattle.offers.specs.Types.{is_below_at}
-use Rattle.offers.specs.Grouping.{IsRow, at_place}
+use Rattle.offers.specs.Grouping.{IsRow, AreGroups, row_in, at_place}
+use Rattle.offers.specs.Hashing.{count_hash}
 use Rattle.offers.specs.Rivals.{is_rival, types_under, has_under, is_met}
 use Rattle.offers.proofs.Lists.{first-true, second-true}
 use Rattle.offers.proofs.Rows.{any-row}
+use Rattle.offers.proofs.Alike.{one-count}
 
 both : {A : Type 0} (b : Bool) (q : A → Bool) (x : A) (ys : List A) (more : Bool) → more ≡ list_any q ys → ((b && q x) || more) ≡ list_any q (cond b (x ∷ ys) ys)
 both true q x ys more e = ap (λ t. q x || t) e
@@ -69,20 +71,11 @@ below-at v ms ts i j m n out e s t h =
     h ∙ ap (λ (a : Erased). v.below a (get_or ts j (of_base Int))) (get_or_from_slice_get ts i (of_class m.owner) (of_base Int) (owner-at ms ts i m e s))
     ∙ ap (v.below (of_class m.owner)) (get_or_from_slice_get ts j (of_class n.owner) (of_base Int) (owner-at ms ts j n e t))
 
-same_name : (m n : Member) → bytes_eq m.name n.name ≡ true → n.name ≡ m.name
-same_name m n e = let q : m.name ≡ n.name = search rules in sym q
+rival-count : (m n : Member) → is_rival m n ≡ true → count_hash n ≡ count_hash m
+rival-count m n e =
+    let alike = first-true (is_kin m n && (length m.params == length n.params)) _ e in
+    one-count m n (second-true (same_kind m.kind n.kind) _ (first-true (is_kin m n) _ alike)) (second-true (is_kin m n) _ alike)
 
-rival-name : (m n : Member) → is_rival m n ≡ true → n.name ≡ m.name
-rival-name m n e =
-    same_name m n
-    (second-true (same_kind m.kind n.kind) _
-    (first-true (is_kin m n) _
-    (first-true (is_kin m n && (length m.params == length n.params)) _ e)))
-
-met-name : (v : Scene) (under : List Erased) (m n : Member) → is_met v under m n ≡ true → n.name ≡ m.name
-met-name v under m n e = rival-name m n (first-true (is_rival m n) _ e)
-
-pub met-found : (v : Scene) (under : List Erased) (m : Member) (ms : List Member) (key row places : List ℕ) (out : Bool) → out ≡ list_any (at_place (is_met v under m) ms) places → places ≡ row → key ≡ m.name → IsRow (map (λ (n : Member). n.name) ms) key row → out ≡ list_any (is_met v under m) ms
-met-found v under m ms key row places out h p q r =
-    h ∙ ap (list_any (at_place (is_met v under m) ms)) p
-    ∙ any-row (is_met v under m) (λ (n : Member). n.name) ms m.name row (met-name v under m) (subst (λ (k : List ℕ). IsRow (map (λ (n : Member). n.name) ms) k row) q r)
+pub met-found : (v : Scene) (under : List Erased) (m : Member) (ms : List Member) (rows : List (List ℕ)) (row : List ℕ) (hash : ℕ) (out : Bool) → out ≡ list_any (at_place (is_met v under m) ms) row → row ≡ row_in rows hash → hash ≡ count_hash m → AreGroups (map count_hash ms) rows → out ≡ list_any (is_met v under m) ms
+met-found v under m ms rows row hash out h r e g =
+    h ∙ any-row (is_met v under m) count_hash ms hash row (λ n t. rival-count m n (first-true (is_rival m n) _ t) ∙ sym e) (subst (λ (z : List ℕ). IsRow (map count_hash ms) hash z) (sym r) (g hash))

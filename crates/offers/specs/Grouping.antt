@@ -1,26 +1,18 @@
--- Places in groups by the texts that stand there.
-use Rattle.std.specs.Prelude.{◌≡◌, ℕ, suc, ◌≤◌, ◌<◌, List, [], length, get_or, slice_get, unwrap_or, Bool, false, Option, Some, None}
+-- Places in groups by the numbers that stand there.
+use Rattle.std.specs.Prelude.{◌≡◌, ℕ, ◌%◌, Bool, false, List, [], length, slice_get, slice_index_or, Option, Some, None}
 use Rattle.std.specs.List.{Contains}
 
--- The key stands at none of the places from a on that are below b.
-abbrev pub IsAbsent : List (List ℕ) → List ℕ → ℕ → ℕ → Type 0
-IsAbsent keys key a b = (j : ℕ) → a ≤ j → j < b → get_or keys j [] ≡ key → ⊥
+-- Each place of the number is in the row.
+abbrev pub IsRow : List ℕ → ℕ → List ℕ → Type 0
+IsRow keys key row = (i : ℕ) → slice_get keys i ≡ Some key → Contains row i
 
--- One more than the last place of a key below b, 0 where it has none.
-pub record IsLast (keys : List (List ℕ)) (key : List ℕ) (b n : ℕ) : Type 0 where
-  pub within : n ≤ b
-  pub own : (m : ℕ) → n ≡ suc m → get_or keys m [] ≡ key
-  pub absent : IsAbsent keys key n b
+-- The row of a number is that of its rest.
+abbrev pub row_in : List (List ℕ) → ℕ → List ℕ
+row_in rows key = slice_index_or rows (key % length rows) []
 
--- Of the first n places: for each key the last one, and for each place the last one before it of the same key.
-pub record AreLinks (keys : List (List ℕ)) (n : ℕ) (last : List ℕ → Option ℕ) (before : List ℕ) : Type 0 where
-  pub long : length before ≡ n
-  pub lasts : (key : List ℕ) → IsLast keys key n (unwrap_or (last key) 0)
-  pub befores : (i : ℕ) → i < n → IsLast keys (get_or keys i []) i (get_or before i 0)
-
--- Each place of the key is in the row.
-abbrev pub IsRow : List (List ℕ) → List ℕ → List ℕ → Type 0
-IsRow keys key row = (i : ℕ) → i < length keys → get_or keys i [] ≡ key → Contains row i
+-- The rows have the places of each number.
+abbrev pub AreGroups : List ℕ → List (List ℕ) → Type 0
+AreGroups keys rows = (key : ℕ) → IsRow keys key (row_in rows key)
 
 -- The element at a place passes the test.
 abbrev pub test_of : {X : Type 0} → (X → Bool) → Option X → Bool

@@ -10,6 +10,8 @@ use Rattle.offers.specs.Views.{Outlook, scene}
 use Rattle.offers.specs.Placing.{IsPlaced}
 use Rattle.offers.specs.Rivals.{types_under}
 use Rattle.offers.specs.Missing.{interfaces}
+use Rattle.offers.specs.Grouping.{AreGroups}
+use Rattle.offers.specs.Hashing.{count_hash}
 
 -- The owners are those of the members, each with its place.
 pub record AreOwned (o : Outlook) (all : OwnedMembers) : Type 0 where
@@ -21,11 +23,12 @@ pub record IsKept (o : Outlook) (ts : List Erased) (below : BelowOwner) : Type 0
   pub types : below.types.types ≡ types_under (scene o) ts (of_class below.owner)
   pub placed : IsPlaced o below.types
 
--- All types have the places of their classes, the members those of their owners, and the types at or below one owner
--- are kept.
+-- All types have the places of their classes, the members those of their owners and groups by their names and numbers
+-- of parameters, and the types at or below one owner are kept.
 pub record IsCrowding (o : Outlook) (c : Crowding) : Type 0 where
   pub types : IsPlaced o c.types
   pub members : AreOwned o c.members
+  pub groups : AreGroups (map count_hash c.members.members) c.groups
   pub kept : IsKept o c.types.types c.below
 
 -- The classes are the known interfaces, each with the place of its type.

@@ -9,6 +9,7 @@ pub mod Missing
 pub mod Rivals
 pub mod Kept
 pub mod Grouping
+pub mod Hashing
 pub mod Order
 pub mod Views
 pub mod Sorting

@@ -8,8 +8,10 @@ ghost use Rattle.offers.specs.Rivals.{is_rival, has_under, is_met, types_under};
 ghost use Rattle.offers.specs.Kept.{AreOwned, IsKept, IsCrowding};
 ghost use Rattle.offers.specs.Views.{scene};
 
-use crate::by_name::MembersByName;
+use crate::groups::Groups;
+use crate::hashes::{count_groups, count_hash};
 use crate::member::Member;
+use crate::member_list::MemberList;
 use crate::placed::Placed;
 use crate::repeats::{is_kin, is_private};
 use crate::types::same_types;
@@ -43,10 +45,10 @@ fn owners_of(alloc: Global, members: &[Member]) -> Result<Items<Erased>, AllocEr
     Ok(all)
 }
 
-/// Members by their names, with the types of their owners.
+/// Members with the types of their owners.
 #[derive(Drop)]
 pub(crate) struct OwnedMembers<'a> {
-    members: MembersByName<'a>,
+    members: MemberList<'a>,
     owners: Placed,
 }
 
@@ -62,15 +64,15 @@ impl<'a> OwnedMembers<'a> {
     {
         let owners = owners_of(alloc, members)?;
         let owners = Placed::new(alloc, view, owners)?;
-        let members = MembersByName::new(alloc, members)?;
+        let members = MemberList::new(members);
         Ok(OwnedMembers { members, owners })
     }
 
-    /// The members by their names.
-    pub fn by_name(&self) -> &MembersByName<'a>
+    /// The members.
+    pub fn members(&self) -> &'a [Member]
         ensures { result.now ≡ self.now.members }
     {
-        &self.members
+        self.members.members()
     }
 
     /// Whether the owner of the member at one place is a strict subtype of that of the one at another.
@@ -142,22 +144,6 @@ impl<'a> OwnedMembers<'a> {
         }
         false
     }
-
-    /// Whether one of the members is.
-    fn is_met(
-        &self,
-        alloc: Global,
-        view: &View<'_>,
-        under: &Placed,
-        member: &Member,
-    ) -> Result<bool, AllocError>
-        requires owned { AreOwned view.now self.now }
-        requires under { IsPlaced view.now under.now }
-        ensures { IfOk result (λ yes. yes ≡ list_any (is_met (scene view.now) under.now.types member.now) self.now.members) }
-    {
-        let row = self.members.row(alloc, member.name.as_str())?;
-        Ok(self.is_met_in(view, under, member, row.as_slice()))
-    }
 }
 
 /// An owner of members, and the types of an environment that are at or below it, kept for all of its members.
@@ -208,6 +194,7 @@ impl BelowOwner {
 pub struct Crowding<'a> {
     types: Placed,
     members: OwnedMembers<'a>,
+    groups: Groups,
     below: BelowOwner,
 }
 
@@ -224,11 +211,13 @@ impl<'a> Crowding<'a> {
         ensures kept { IfOk result (IsCrowding view.now) }
     {
         let types = Placed::of(alloc, view, types)?;
+        let groups = count_groups(alloc, members)?;
         let members = OwnedMembers::new(alloc, view, members)?;
         let below = BelowOwner::new(alloc, view, &types, view.edited())?;
         Ok(Crowding {
             types,
             members,
+            groups,
             below,
         })
     }
@@ -245,6 +234,15 @@ impl<'a> Crowding<'a> {
             self.below = BelowOwner::new(alloc, view, &self.types, owner)?;
         }
         Ok(())
+    }
+
+    /// Whether one of the members is a rival of a member, with one of the kept types at or below its owner.
+    fn is_met(&self, view: &View<'_>, member: &Member) -> bool
+        requires { IsCrowding view.now self.now }
+        ensures { result ≡ list_any (is_met (scene view.now) self.now.below.types.types member.now) self.now.members.members }
+    {
+        let row = self.groups.row(count_hash(member));
+        self.members.is_met_in(view, &self.below.types, member, row)
     }
 
     /// Whether a member is crowded among the members and types. The types at or below its owner are kept for the next
@@ -266,7 +264,7 @@ impl<'a> Crowding<'a> {
             return Ok(true);
         }
         self.turn(alloc, view, &member.owner)?;
-        let met = self.members.is_met(alloc, view, &self.below.types, member)?;
+        let met = self.is_met(view, member);
         Ok(met)
     }
 }

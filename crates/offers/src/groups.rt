@@ -1,87 +1,70 @@
-ghost use Rattle.std.specs.Prelude.{◌≡◌, ◌<◌, length, get_or, [], unwrap_or, IfOk};
-ghost use Rattle.std.specs.BTreeMap.{get_by_text};
-ghost use Rattle.offers.specs.Grouping.{IsLast, IsRow};
+ghost use Rattle.std.specs.Prelude.{◌≡◌, ◌++◌, ◌∷◌, [], ◌<◌, ◌%◌, List, ℕ, length, map, slice_set, slice_index_or, IfOk, OnOk};
+ghost use Rattle.offers.specs.Grouping.{AreGroups, row_in};
 
-use known_classes::put;
-use lists::{Items, Text};
 use std::alloc::{AllocError, Global};
-use std::collections::BTreeMap;
 use std::marker::Model;
 
-/// Places in groups: those at which one text stands are in one. Contracts see the texts, by place.
+/// Places in groups by numbers: those of one number are in one. Contracts see the groups.
 #[derive(Drop)]
 pub(crate) struct Groups {
-    keys: Items<Text>,
-    /// For each text one more than its last place.
-    last: BTreeMap<String, usize>,
-    /// For each place one more than the last place before it of the same text, 0 where there is none.
-    before: Vec<usize>,
+    rows: Vec<Vec<usize>>,
 }
 
 impl Model for Groups {
-    ghost use Rattle.std.specs.Prelude.{List, ℕ, length};
-    ghost use Rattle.std.specs.BTreeMap.{get_by_text};
-    ghost use Rattle.offers.specs.Grouping.{AreLinks};
+    ghost use Rattle.std.specs.Prelude.{List, ℕ, ◌<◌, length, map};
 
     ghost Value = { List (List ℕ) };
 
-    ghost view = { λ g. g.keys };
+    ghost view = { λ g. map (λ r. r.items) g.rows.items };
 
-    ghost invariant = { λ g. AreLinks g.keys (length g.keys) (get_by_text g.last) g.before.items };
+    ghost invariant = { λ g. 0 < length g.rows.items };
 }
 
-/// One more than the last place of a text, 0 where it has none.
-fn last_in(last: &BTreeMap<String, usize>, key: &str) -> usize
-    ensures { result ≡ unwrap_or (get_by_text last.now key.now) 0 }
+/// The row of a number among so many.
+fn place_in(hash: u64, count: usize) -> usize
+    requires { 0 < count }
+    ensures value { result ≡ hash % count }
+    ensures within { result < count }
 {
-    match last.get(key) {
-        Some(end) => *end,
-        None => 0,
-    }
+    (hash % count as u64) as usize
+}
+
+/// One place more at the end of a row.
+fn add_place(rows: &mut Vec<Vec<usize>>, at: usize, place: usize) -> Result<(), AllocError>
+    requires { at < length rows.old.items }
+    ensures { OnOk result (map (λ r. r.items) rows.new.items ≡ slice_set (map (λ r. r.items) rows.old.items) at (slice_index_or (map (λ r. r.items) rows.old.items) at [] ++ place ∷ [])) }
+{
+    rows[at].push(place)?;
+    Ok(())
 }
 
 impl Groups {
-    /// The groups of the places of these texts.
-    pub fn new(alloc: Global, keys: Items<Text>) -> Result<Groups, AllocError>
-        ensures { IfOk result (λ groups. groups ≡ keys) }
+    /// No place, and room for about so many.
+    pub fn new(alloc: Global, count: usize) -> Result<Groups, AllocError>
+        ensures { IfOk result (λ groups. AreGroups [] groups) }
     {
-        let mut last = BTreeMap::new(alloc);
-        let mut before = Vec::new(alloc);
-        let texts = keys.as_slice();
-        for i in 0..texts.len() {
-            let key = texts[i].as_str();
-            before.push(last_in(&last, key))?;
-            put(alloc, &mut last, key, i + 1)?;
+        let mut rows = Vec::new(alloc);
+        rows.push(Vec::new(alloc))?;
+        for _row in 0..count {
+            rows.push(Vec::new(alloc))?;
         }
-        Ok(Groups { keys, last, before })
+        Ok(Groups { rows })
     }
 
-    /// One more than the last place of a text, 0 where it has none.
-    fn last(&self, key: &str) -> usize
-        ensures { IsLast self.now key.now (length self.now) result }
+    /// With a place more, of this number.
+    pub fn with(self, hash: u64, place: usize) -> Result<Groups, AllocError>
+        ensures { IfOk result (λ groups. (hashes : List ℕ) → AreGroups hashes self → length hashes ≡ place → AreGroups (hashes ++ hash ∷ []) groups) }
     {
-        last_in(&self.last, key)
+        let Groups { mut rows } = self;
+        let at = place_in(hash, rows.len());
+        add_place(&mut rows, at, place)?;
+        Ok(Groups { rows })
     }
 
-    /// One more than the last place before this one of the same text, 0 where there is none.
-    fn before(&self, place: usize) -> usize
-        requires { place < length self.now }
-        ensures { IsLast self.now (get_or self.now place []) place result }
+    /// The places of a number, and maybe others.
+    pub fn row(&self, hash: u64) -> &[usize]
+        ensures { result.now ≡ row_in self.now hash }
     {
-        self.before[place]
-    }
-
-    /// The places of a text, from the last to the first.
-    pub fn row(&self, alloc: Global, key: &str) -> Result<Vec<usize>, AllocError>
-        ensures { IfOk result (λ row. IsRow self.now key.now row.items) }
-    {
-        let mut row = Vec::new(alloc);
-        let mut end = self.last(key);
-        while end > 0 {
-            let place = end - 1;
-            row.push(place)?;
-            end = self.before(place);
-        }
-        Ok(row)
+        self.rows[place_in(hash, self.rows.len())].as_slice()
     }
 }

@@ -4,17 +4,18 @@
 // stands on `class_summary`, `subtyping`, `decl_index` and `java_bodies`.
 #![tactic(auto)]
 
-mod by_name;
 mod calls;
 mod candidates;
 mod crowds;
 mod functional;
 mod groups;
+mod hashes;
 mod hidden;
 mod interfaces;
 mod key_order;
 mod laws;
 mod member;
+mod member_list;
 mod mentioned;
 mod names;
 mod offer;

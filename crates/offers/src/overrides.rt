@@ -1,16 +1,19 @@
-ghost use Rattle.std.specs.Prelude.{◌≡◌, ◌&&◌, not, IfOk, ◌∷◌, slice_get, Some};
+ghost use Rattle.std.specs.Prelude.{◌≡◌, ◌&&◌, not, IfOk, ◌∷◌, slice_get, Some, map};
 ghost use Rattle.std.specs.List.{list_any, filter};
 ghost use Rattle.offers.specs.declared.member.Kind.{Kind};
 ghost use Rattle.offers.specs.Scenes.{of_class, same_type};
 ghost use Rattle.offers.specs.Reach.{offered};
 ghost use Rattle.offers.specs.Candidates.{value};
 ghost use Rattle.offers.specs.Omissions.{is_instance, same_types, overrides, left_of, after_two, after_three};
-ghost use Rattle.offers.specs.Grouping.{at_place};
+ghost use Rattle.offers.specs.Grouping.{AreGroups, at_place};
+ghost use Rattle.offers.specs.Hashing.{call_hash};
 ghost use Rattle.offers.specs.Kept.{AreOwned};
 ghost use Rattle.offers.specs.Views.{scene};
 
 use crate::candidates::same_kind;
 use crate::crowds::OwnedMembers;
+use crate::groups::Groups;
+use crate::hashes::{call_groups, call_hash};
 use crate::member::{Kind, Member};
 use crate::repeats::{after_two, is_private, is_static, value};
 use crate::types::{same_type, same_types};
@@ -100,7 +103,7 @@ fn is_over_at(
     requires here { slice_get members.now.members at ≡ Some member.now }
     ensures { IfOk result (λ yes. yes ≡ at_place (overrides (scene view.now) member.now) members.now.members place) }
 {
-    match members.by_name().members().get(place) {
+    match members.members().get(place) {
         Some(other) => overrides(alloc, view, members, member, at, other, place),
         None => Ok(false),
     }
@@ -133,18 +136,20 @@ fn is_overriding(
     alloc: Global,
     view: &View<'_>,
     members: &OwnedMembers<'_>,
+    groups: &Groups,
     member: &Member,
     at: usize,
 ) -> Result<bool, AllocError>
     requires owned { AreOwned view.now members.now }
+    requires groups { AreGroups (map call_hash members.now.members) groups.now }
     requires here { slice_get members.now.members at ≡ Some member.now }
     ensures { IfOk result (λ yes. yes ≡ list_any (overrides (scene view.now) member.now) members.now.members) }
 {
     if !is_instance(member) {
         return Ok(false);
     }
-    let row = members.by_name().row(alloc, member.name.as_str())?;
-    let over = is_over_any(alloc, view, members, member, at, row.as_slice())?;
+    let row = groups.row(call_hash(member));
+    let over = is_over_any(alloc, view, members, member, at, row)?;
     Ok(over)
 }
 
@@ -153,13 +158,15 @@ fn left_of(
     alloc: Global,
     view: &View<'_>,
     members: &OwnedMembers<'_>,
+    groups: &Groups,
 ) -> Result<Items<Member>, AllocError>
-    requires { AreOwned view.now members.now }
+    requires owned { AreOwned view.now members.now }
+    requires groups { AreGroups (map call_hash members.now.members) groups.now }
     ensures { IfOk result (λ all. all ≡ left_of (scene view.now) members.now.members) }
 {
     let mut all = Items::new(alloc);
-    for (i, member) in members.by_name().members().iter().enumerate() {
-        let over = is_overriding(alloc, view, members, member, i)?;
+    for (i, member) in members.members().iter().enumerate() {
+        let over = is_overriding(alloc, view, members, groups, member, i)?;
         if !over {
             all.push(member.copy(alloc)?)?;
         }
@@ -179,6 +186,7 @@ pub fn after_three(
 {
     let all = after_two(alloc, view, classes)?;
     let members = OwnedMembers::new(alloc, view, all.as_slice())?;
-    let left = left_of(alloc, view, &members)?;
+    let groups = call_groups(alloc, all.as_slice())?;
+    let left = left_of(alloc, view, &members, &groups)?;
     Ok(left)
 }

@@ -4,9 +4,13 @@ ghost use Rattle.offers.specs.declared.member.Kind.{Kind};
 ghost use Rattle.java_units.specs.Identifiers.{is_identifier};
 ghost use Rattle.offers.specs.Candidates.{same_kind, is_static, is_private, value, candidates};
 ghost use Rattle.offers.specs.Omissions.{is_kin, is_again, is_named, with_first, firsts};
+ghost use Rattle.offers.specs.Grouping.{at_place};
+ghost use Rattle.offers.specs.Hashing.{call_hash};
 ghost use Rattle.offers.specs.Views.{scene};
 
 use crate::candidates::{candidates, same_kind};
+use crate::groups::Groups;
+use crate::hashes::call_hash;
 use crate::member::{Kind, Member};
 use crate::reach::{PRIVATE, STATIC, has_flag};
 use crate::types::same_types;
@@ -15,6 +19,7 @@ use java_units::forms::is_identifier;
 use known_classes::ClassSummary;
 use lists::{Copies, Items};
 use std::alloc::{AllocError, Global};
+use std::marker::Model;
 use type_names::Erased;
 
 /// Whether a field or a method is static.
@@ -66,18 +71,6 @@ fn is_again(a: &Member, b: &Member) -> bool
     is_kin(a, b) && same_types(a.params.as_slice(), b.params.as_slice())
 }
 
-/// Whether one of these members is of the member's kind, name and parameter types.
-fn is_repeated(member: &Member, kept: &[Member]) -> bool
-    ensures { result ≡ list_any (is_again member.now) kept.now }
-{
-    for other in kept {
-        if is_again(member, other) {
-            return true;
-        }
-    }
-    false
-}
-
 /// Those of these members that are constructors or whose names are identifiers.
 fn named(view: &View<'_>, mut members: Vec<Member>) -> Vec<Member>
     ensures { result.items ≡ filter (is_named (scene view.now)) members.items }
@@ -86,27 +79,96 @@ fn named(view: &View<'_>, mut members: Vec<Member>) -> Vec<Member>
     members
 }
 
-/// Adds a member, unless one of its kind, name and parameter types is there.
-#[tactic(auto, unfolding(crate::specs::Omissions::with_first))]
-fn add_first(kept: &mut Items<Member>, member: Member) -> Result<(), AllocError>
-    ensures { OnOk result (kept.new ≡ with_first kept.old member) }
+/// Members of which none is of another's kind, name and parameter types, in groups. Contracts see the members.
+#[derive(Drop)]
+struct FirstMembers {
+    members: Items<Member>,
+    groups: Groups,
+}
+
+impl Model for FirstMembers {
+    ghost use Rattle.std.specs.Prelude.{◌≡◌, List, map};
+    ghost use Rattle.offers.specs.declared.member.Member.{Member};
+    ghost use Rattle.offers.specs.Grouping.{AreGroups};
+    ghost use Rattle.offers.specs.Hashing.{call_hash};
+
+    ghost Value = { List Member };
+
+    ghost view = { λ f. f.members };
+
+    ghost invariant = { λ f. AreGroups (map call_hash f.members) f.groups };
+}
+
+/// Whether there is a member at a place, of a member's kind, name and parameter types.
+fn is_again_at(member: &Member, kept: &[Member], place: usize) -> bool
+    ensures { result ≡ at_place (is_again member.now) kept.now place }
 {
-    if is_repeated(&member, kept.as_slice()) {
-        return Ok(());
+    match kept.get(place) {
+        Some(other) => is_again(member, other),
+        None => false,
     }
-    kept.push(member)?;
-    Ok(())
+}
+
+/// Whether there is one at these places.
+fn is_again_in(member: &Member, kept: &[Member], places: &[usize]) -> bool
+    ensures { result ≡ list_any (at_place (is_again member.now) kept.now) places.now }
+{
+    for place in places {
+        if is_again_at(member, kept, *place) {
+            return true;
+        }
+    }
+    false
+}
+
+impl FirstMembers {
+    /// No member, and groups for about so many.
+    fn new(alloc: Global, count: usize) -> Result<FirstMembers, AllocError>
+        ensures { IfOk result (λ kept. kept ≡ []) }
+    {
+        Ok(FirstMembers {
+            members: Items::new(alloc),
+            groups: Groups::new(alloc, count)?,
+        })
+    }
+
+    /// Whether one of the members is of a member's kind, name and parameter types; `hash` is its call's.
+    fn has(&self, member: &Member, hash: u64) -> bool
+        requires { hash ≡ call_hash member.now }
+        ensures { result ≡ list_any (is_again member.now) self.now }
+    {
+        is_again_in(member, self.members.as_slice(), self.groups.row(hash))
+    }
+
+    /// With a member more, unless one of its kind, name and parameter types is there.
+    #[tactic(auto, unfolding(crate::specs::Omissions::with_first))]
+    fn with(self, member: Member) -> Result<FirstMembers, AllocError>
+        ensures { IfOk result (λ kept. kept ≡ with_first self member) }
+    {
+        let hash = call_hash(&member);
+        if self.has(&member, hash) {
+            return Ok(self);
+        }
+        let FirstMembers {
+            mut members,
+            groups,
+        } = self;
+        let groups = groups.with(hash, members.len())?;
+        members.push(member)?;
+        Ok(FirstMembers { members, groups })
+    }
 }
 
 /// Of each kind, name and parameter types the first of these members.
 fn firsts(alloc: Global, members: Vec<Member>) -> Result<Items<Member>, AllocError>
     ensures { IfOk result (λ all. all ≡ firsts members.items) }
 {
-    let mut kept = Items::new(alloc);
+    let mut kept = FirstMembers::new(alloc, members.len())?;
     for member in members {
-        add_first(&mut kept, member)?;
+        kept = kept.with(member)?;
     }
-    Ok(kept)
+    let FirstMembers { members, groups: _ } = kept;
+    Ok(members)
 }
 
 /// The candidates of a class after the first two omissions.

@@ -1,6 +1,4 @@
-use Rattle.std.proofs.Common.{rules, ◌≡◌, refl, subst, false, List, map}
-use Rattle.offers.specs.declared.member.Member.{Member}
-use Rattle.offers.specs.Grouping.{IsRow}
+use Rattle.std.proofs.Common.{rules, ◌≡◌, false}
 use Rattle.offers.specs.Omissions.{is_instance}
 use Rattle.offers.specs.Views.{scene}
 use Rattle.offers.proofs.Overriding.{over-found, over-none}
@@ -13,5 +11,4 @@ returns-then-not-is_instance c =
 
 pub returns : goal.returns
 returns c =
-    over-found (scene c.args.view.now) c.args.member.now c.args.members.now.members c.args.members.now.members c.as_str.result.now c.in_ok-row.row.items c.as_slice.result.now c.in_ok-over.over c.in_ok-over.ensures refl c.as_slice.ensures.value c.as_str.ensures
-    (subst (λ (ms : List Member). IsRow (map (λ (m : Member). m.name) ms) c.as_str.result.now c.in_ok-row.row.items) c.by_name.ensures c.in_ok-row.ensures)
+    over-found (scene c.args.view.now) c.args.member.now c.args.members.now.members c.args.groups.now c.row-row.result.now c.call_hash.result c.in_ok-over.over c.in_ok-over.ensures c.row-row.ensures c.call_hash.ensures c.requires.groups

@@ -4,11 +4,8 @@ use Rattle.offers.specs.Views.{scene}
 use Rattle.offers.proofs.Rivals.{crowded-by, crowded-same}
 use Rattle.offers.proofs.crowds.Crowding.is_crowded.Goals as goal
 
-pub is_met-requires : goal.is_met-requires
-is_met-requires c = record { owned = c.in_ok-turn.ensures.kept.members; under = c.in_ok-turn.ensures.kept.kept.placed }
-
 pub returns-clause-exact : goal.returns-clause-exact
 returns-clause-exact c =
     let open_member : is_private c.args.member.now ≡ false = search rules in
-    crowded-same (scene c.args.view.now) c.args.self.now.types c.turn.new.self.types c.args.self.now.members.members c.turn.new.self.members.members c.args.member.now c.in_ok-met.met c.in_ok-turn.ensures.types (ap (λ x. x.members) c.in_ok-turn.ensures.members)
-    (crowded-by (scene c.args.view.now) c.turn.new.self.types.types c.turn.new.self.members.members c.args.member.now c.turn.new.self.below.owner c.turn.new.self.below.types.types c.in_ok-met.met open_member c.in_ok-turn.ensures.kept.kept.types c.in_ok-turn.ensures.owner c.in_ok-met.ensures)
+    crowded-same (scene c.args.view.now) c.args.self.now.types c.turn.new.self.types c.args.self.now.members.members c.turn.new.self.members.members c.args.member.now c.is_met-met.result c.in_ok-turn.ensures.types (ap (λ x. x.members) c.in_ok-turn.ensures.members)
+    (crowded-by (scene c.args.view.now) c.turn.new.self.types.types c.turn.new.self.members.members c.args.member.now c.turn.new.self.below.owner c.turn.new.self.below.types.types c.is_met-met.result open_member c.in_ok-turn.ensures.kept.kept.types c.in_ok-turn.ensures.owner c.is_met-met.ensures)

@@ -1,6 +1,5 @@
-use Rattle.std.specs.BTreeMap.{get_by_text}
-use Rattle.offers.specs.Grouping.{AreLinks}
+use Rattle.std.proofs.Common.{◌<◌, length}
 use Rattle.offers.proofs.groups.Groups.new.Given as goal
 
-abbrev pub invariant-loop-i : goal.invariant-loop-i
-invariant-loop-i l = AreLinks l.texts l.i (get_by_text l.last) l.before.items
+abbrev pub invariant-loop-row : goal.invariant-loop-row
+invariant-loop-row l = 0 < length l.rows.items
