@@ -19,3 +19,4 @@ pub mod Overriding
 pub mod Rivals
 pub mod Placing
 pub mod Spelled
+pub mod FieldNames

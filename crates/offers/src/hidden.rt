@@ -1,4 +1,4 @@
-ghost use Rattle.std.specs.Prelude.{◌≡◌, ◌≤◌, ◌++◌, map, take, length, not, get_or, [], if◌then◌else◌, codes, IfOk, OnOk};
+ghost use Rattle.std.specs.Prelude.{◌≡◌, ◌≤◌, ◌++◌, ◌||◌, ℕ, List, bytes_eq, map, take, length, not, get_or, [], if◌then◌else◌, codes, IfOk, OnOk};
 ghost use Rattle.std.specs.List.{list_any, filter, flat_map, range_with_len};
 ghost use Rattle.class_summary.specs.Sources.{joined, around, internal_name};
 ghost use Rattle.known_classes.specs.Known.{class_named};
@@ -11,10 +11,11 @@ use crate::candidates::same_kind;
 use crate::member::{Kind, Member};
 use crate::repeats::is_static;
 use crate::spellings::Spellings;
-use crate::texts::{is_among, parts};
+use crate::texts::parts;
 use crate::written::{after_four, owner_text, static_text};
 use class_summary::joined;
 use lists::{Copies, Items, Text};
+use name_places::Names;
 use std::alloc::{AllocError, Global};
 use type_names::Erased;
 
@@ -76,11 +77,42 @@ fn prefixes(alloc: Global, text: &Text) -> Result<Items<Text>, AllocError>
     Ok(all)
 }
 
-/// Whether one of these texts is among the others.
-fn is_any_among(texts: &[Text], others: &[Text]) -> bool
-    ensures { result ≡ list_any (is_among others.now) texts.now }
+/// Whether a text is one of these names, by its hash.
+fn is_name(names: &Names, text: &str) -> bool
+    ensures { result ≡ is_among names.now text.now }
 {
-    texts.iter().any(|t| is_among(others, t.as_str()))
+    names.place(text).is_some()
+}
+
+/// Whether one of these texts is one of the names.
+fn is_any_name(texts: &[Text], names: &Names) -> bool
+    ensures { result ≡ list_any (is_among names.now) texts.now }
+{
+    texts.iter().any(|t| is_name(names, t.as_str()))
+}
+
+/// Adds a name, if it isn't there.
+fn add_name(alloc: Global, names: &mut Names, name: &Text) -> Result<(), AllocError>
+    ensures { OnOk result ((text : List ℕ) → is_among names.new text ≡ (is_among names.old text || bytes_eq name.now text)) }
+{
+    if is_name(names, name.as_str()) {
+        return Ok(());
+    }
+    if names.len() > u32::MAX as usize {
+        return Err(AllocError);
+    }
+    names.push(alloc, name.as_str())
+}
+
+/// These texts, to be looked up by their hashes.
+fn names_of(alloc: Global, texts: &[Text]) -> Result<Names, AllocError>
+    ensures { IfOk result (λ names. (text : List ℕ) → is_among names text ≡ is_among texts.now text) }
+{
+    let mut names = Names::new(alloc);
+    for text in texts {
+        add_name(alloc, &mut names, text)?;
+    }
+    Ok(names)
 }
 
 /// The first of these texts, the empty one where there is none.
@@ -98,8 +130,8 @@ fn first_of(texts: &[Text]) -> &str
 fn is_hidden(
     alloc: Global,
     spellings: &Spellings<'_>,
-    names: &[Text],
-    fields: &[Text],
+    names: &Names,
+    fields: &Names,
     member: &Member,
 ) -> Result<bool, AllocError>
     ensures { IfOk result (λ yes. yes ≡ is_hidden (scene spellings.now) names.now fields.now member.now) }
@@ -110,7 +142,27 @@ fn is_hidden(
     let owner = owner_text(alloc, spellings, member)?;
     let parts = parts(alloc, owner.as_str())?;
     let prefixes = prefixes(alloc, &owner)?;
-    Ok(is_among(names, first_of(parts.as_slice())) || is_any_among(prefixes.as_slice(), fields))
+    Ok(is_name(names, first_of(parts.as_slice())) || is_any_name(prefixes.as_slice(), fields))
+}
+
+/// Copies of the members whose owners' texts neither these names nor these static fields take.
+fn shown_by(
+    alloc: Global,
+    spellings: &Spellings<'_>,
+    names: &Names,
+    fields: &Names,
+    members: &[Member],
+) -> Result<Items<Member>, AllocError>
+    ensures { IfOk result (λ all. all ≡ filter (λ m. not (is_hidden (scene spellings.now) names.now fields.now m)) members.now) }
+{
+    let mut all = Items::new(alloc);
+    for member in members {
+        let hidden = is_hidden(alloc, spellings, names, fields, member)?;
+        if !hidden {
+            all.push(member.copy(alloc)?)?;
+        }
+    }
+    Ok(all)
 }
 
 /// Copies of the members that are left after the fifth omission.
@@ -123,13 +175,9 @@ fn shown_of(
     ensures { IfOk result (λ all. all ≡ shown_of (scene spellings.now) names.now members.now) }
 {
     let fields = field_texts(alloc, spellings, members)?;
-    let mut all = Items::new(alloc);
-    for member in members {
-        let hidden = is_hidden(alloc, spellings, names, fields.as_slice(), member)?;
-        if !hidden {
-            all.push(member.copy(alloc)?)?;
-        }
-    }
+    let known = names_of(alloc, fields.as_slice())?;
+    let taken = names_of(alloc, names)?;
+    let all = shown_by(alloc, spellings, &taken, &known, members)?;
     Ok(all)
 }
 
