@@ -10,6 +10,8 @@ mod holes;
 #[cfg(test)]
 mod item_tests;
 #[cfg(test)]
+mod many_tests;
+#[cfg(test)]
 mod offer_tests;
 #[cfg(test)]
 mod read_back_tests;
