@@ -162,6 +162,40 @@ fn merged_classes_are_found_by_canonical_name(rt: HostRuntime) {
     assert!(rt; are_called(&known, &CALLED));
 }
 
+/// Classes that stand before the ones around them: three in another, one in a class that isn't known, two in each other, and one in
+/// one of these.
+const OUT_OF_ORDER: [Row<'static>; 8] = [
+    ("a/A$B$C", 21, "a/A$B", "C"),
+    ("a/A$B", 22, "a/A", "B"),
+    ("a/A$B$D", 23, "a/A$B", "D"),
+    ("a/A", 24, "", ""),
+    ("x/Y$Z", 25, "x/Y", "Z"),
+    ("q/P$Q$I", 26, "q/P$Q", "I"),
+    ("q/P$Q", 27, "q/P$R", "Q"),
+    ("q/P$R", 28, "q/P$Q", "R"),
+];
+
+/// Canonical names, and the flags of their classes.
+const OUT_OF_ORDER_CALLED: [(&str, u16); 10] = [
+    ("a.A.B.C", 21),
+    ("a.A.B", 22),
+    ("a.A.B.D", 23),
+    ("a.A", 24),
+    ("x.Y.Z", 25),
+    ("q.P$Q.I", 26),
+    ("q.P$Q", 27),
+    ("q.P$R", 28),
+    ("p.A.B", 2),
+    ("p.C.D", 4),
+];
+
+#[test]
+fn names_are_made_in_whatever_order_classes_stand(rt: HostRuntime) {
+    let index = base(&rt, rt.alloc());
+    let known = merged(&rt, rt.alloc(), &index, &OUT_OF_ORDER);
+    assert!(rt; are_called(&known, &OUT_OF_ORDER_CALLED));
+}
+
 /// Classes that leave the names of the others as they are: `p/A` keeps its nesting, the others are new.
 const BESIDE: [Row<'static>; 4] = [
     ("p/A", 11, "", ""),
