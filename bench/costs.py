@@ -119,7 +119,7 @@ INPUTS = [
     ("a text of N classes, each in the one before", nested, 500),
     ("a publication of N classes", published, 20_000),
     ("class files of N classes, each in the one before", outer, 500),
-    ("such class files, the outer class behind by name", turned, 50),
+    ("such class files, the outer class behind by name", turned, 500),
     ("N type variables in a circle of bounds", variables, 3_200),
     ("a class of N fields", fields, 3_200),
     ("a method of N lines without a reserved word", words, 25_000),
