@@ -34,8 +34,11 @@ fn asked(words: &[String]) -> Option<(Option<&str>, usize)> {
 
 /// The number of the first wrong word, where both calls tell the same.
 fn first_wrong(alloc: Global, words: &[String]) -> Option<u32> {
-    match (read_command(words), client_names(alloc, words)) {
-        (Err(fault), Err(Refused::Fault(same))) if fault == same => Some(fault.word),
+    let Err(fault) = read_command(words) else {
+        return None;
+    };
+    match client_names(alloc, words) {
+        Err(Refused::Fault(same)) if fault == same => Some(fault.word),
         _ => None,
     }
 }
