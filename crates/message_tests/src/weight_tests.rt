@@ -155,15 +155,33 @@ fn each_has_its_range(rt: HostRuntime) -> Result<(), Fail> {
     Ok(())
 }
 
+/// Whether such weights are set where they may be, and else are out of their range.
+fn is_right(alloc: Global, text: &str, may: bool) -> Result<bool, Fail> {
+    if may {
+        return Ok(set(alloc, text)?.is_some());
+    }
+    has_cause(alloc, text, 2)
+}
+
+/// Each weight, and whether it may be 0.
+const ZEROES: [(&str, bool); 10] = [
+    ("bound", false),
+    ("binder", false),
+    ("local", false),
+    ("step", false),
+    ("lambda", false),
+    ("own", false),
+    ("package", false),
+    ("literal", false),
+    ("far", false),
+    ("span", true),
+];
+
 #[test]
 fn none_but_the_span_may_be_0(rt: HostRuntime) -> Result<(), Fail> {
-    for (name, _) in USUAL {
+    for (name, may) in ZEROES {
         let text = command(rt.alloc(), &USUAL, name, "0")?;
-        if name == "span" {
-            assert!(rt; set(rt.alloc(), text.as_str())?.is_some());
-        } else {
-            assert!(rt; has_cause(rt.alloc(), text.as_str(), 2)?, "{name}");
-        }
+        assert!(rt; is_right(rt.alloc(), text.as_str(), may)?, "{name}");
     }
     Ok(())
 }
@@ -197,11 +215,7 @@ fn far_and_span_are_at_most_10_000_together(rt: HostRuntime) -> Result<(), Fail>
             ("span", span),
         ];
         let text = command(rt.alloc(), &members, "", "")?;
-        if may {
-            assert!(rt; set(rt.alloc(), text.as_str())?.is_some(), "{far} {span}");
-        } else {
-            assert!(rt; has_cause(rt.alloc(), text.as_str(), 2)?, "{far} {span}");
-        }
+        assert!(rt; is_right(rt.alloc(), text.as_str(), may)?, "{far} {span}");
     }
     Ok(())
 }
