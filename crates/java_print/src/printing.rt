@@ -6,7 +6,6 @@ ghost use Rattle.terms.specs.View.{expr, args_view};
 use crate::arguments::{print_argument, print_arguments};
 use crate::printer::Printer;
 use crate::receivers::print_receiver;
-use crate::scope::bound;
 use crate::words::{parameters, print_binders, print_variable};
 use lists::Text;
 use std::alloc::{AllocError, Global};
@@ -156,7 +155,7 @@ fn print_lambda(
     print_binders(
         printer.alloc,
         parts,
-        bound(&printer.ctx) as u64,
+        printer.ctx.variables() as u64,
         parameters(wanted) as u64,
         out,
     )?;

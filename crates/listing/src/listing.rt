@@ -1,6 +1,6 @@
 ghost use Rattle.std.specs.Prelude.{◌≡◌, ◌↔◌, ◌<◌, ◌≤◌, ◌+◌, ◌^◌, ◌⊎◌, [], IsTrue, IfOk, OnOk, OnErr, true, false, length, take, drop};
 ghost use Rattle.terms.specs.Listing.{AreFew};
-ghost use Rattle.listing.specs.Found.{IsListed, IsLonger};
+ghost use Rattle.listing.specs.Found.{IsListed, IsLonger, IsNoFurther};
 ghost use Rattle.listing.specs.Pages.{IsPage, items_of};
 
 use crate::growth::Growing;
@@ -51,6 +51,7 @@ impl<E: Levels> Listing<E> {
         ensures longer { IsLonger self.old.found self.new.found }
         ensures page { IfOk result (λ page. IsPage from count self.old self.new page) }
         ensures enough { OnOk result ((from + count + 1 ≤ length self.new.found) ⊎ (self.new.at_end ≡ true)) }
+        ensures no_further { IsNoFurther self.new.parts (from + count + 1) self.old.found self.new.found }
         ensures end_met { IfOk result (λ page. length self.new.found ≤ from + count → self.new.at_end ≡ true) }
         ensures end_stays { self.old.at_end ≡ true → self.new.at_end ≡ true }
         ensures no_memory { OnErr result ((length self.old.found ≤ from + count) × (self.old.at_end ≡ false)) }

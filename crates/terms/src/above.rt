@@ -8,6 +8,7 @@ ghost use Rattle.terms.specs.declared.fault.EnvFault.TheVariants.{OutOfMemory};
 
 use crate::fault::EnvFault;
 use crate::marks::is_told;
+use crate::rows::Rows;
 use lists::Items;
 use std::alloc::{AllocError, Global};
 use std::collections::BTreeSet;
@@ -151,14 +152,12 @@ fn is_in_row(row: &[u32], upper: u32) -> bool
 /// The first gap of the table: the least triple whose first side is below the second and that below the
 /// third, but not the first below the third. Types that are told to have none above them are passed over.
 #[tactic(auto, unfolding(crate::specs::Table::first_gap))]
-pub(crate) fn first_gap(rows: &[Items<u32>], closed: &[bool]) -> Option<EnvFault>
-    requires few { length rows.now < 2 ^ 32 }
-    requires rising { (a : ℕ) → IsNonDecreasing (row_at rows.now a) }
+pub(crate) fn first_gap(rows: &Rows<'_>, closed: &[bool]) -> Option<EnvFault>
     requires closed { AreClosed rows.now closed.now }
     ensures { result ≡ first_gap rows.now }
 {
-    for lower in 0..rows.len() {
-        let fault = gap_above(rows, closed, lower as u32);
+    for lower in 0..rows.types() {
+        let fault = gap_above(rows, closed, lower);
         if fault.is_some() {
             return fault;
         }
@@ -167,25 +166,23 @@ pub(crate) fn first_gap(rows: &[Items<u32>], closed: &[bool]) -> Option<EnvFault
 }
 
 /// The first gap above a type.
-fn gap_above(rows: &[Items<u32>], closed: &[bool], lower: u32) -> Option<EnvFault>
-    requires rising { (a : ℕ) → IsNonDecreasing (row_at rows.now a) }
+fn gap_above(rows: &Rows<'_>, closed: &[bool], lower: u32) -> Option<EnvFault>
     requires closed { AreClosed rows.now closed.now }
     ensures { result ≡ gap_from rows.now lower (row_at rows.now lower) }
 {
     if is_told(closed, lower) {
         return None;
     }
-    gap_from(rows, lower, row_at(rows, lower))
+    gap_from(rows, lower, rows.row(lower))
 }
 
 /// The first gap above a type through one of the row.
 #[tactic(auto, unfolding(crate::specs::Table::gap_from, crate::specs::Table::first_in))]
-fn gap_from(rows: &[Items<u32>], lower: u32, row: &[u32]) -> Option<EnvFault>
-    requires rising { (a : ℕ) → IsNonDecreasing (row_at rows.now a) }
+fn gap_from(rows: &Rows<'_>, lower: u32, row: &[u32]) -> Option<EnvFault>
     ensures { result ≡ gap_from rows.now lower row.now }
 {
     for middle in row {
-        let fault = gap_between(rows, lower, *middle, row_at(rows, *middle));
+        let fault = gap_between(rows, lower, *middle, rows.row(*middle));
         if fault.is_some() {
             return fault;
         }
@@ -195,12 +192,11 @@ fn gap_from(rows: &[Items<u32>], lower: u32, row: &[u32]) -> Option<EnvFault>
 
 /// The first type of the row that the lower one isn't below.
 #[tactic(auto, unfolding(crate::specs::Table::gap_between, crate::specs::Table::first_in))]
-fn gap_between(rows: &[Items<u32>], lower: u32, middle: u32, row: &[u32]) -> Option<EnvFault>
-    requires rising { (a : ℕ) → IsNonDecreasing (row_at rows.now a) }
+fn gap_between(rows: &Rows<'_>, lower: u32, middle: u32, row: &[u32]) -> Option<EnvFault>
     ensures { result ≡ gap_between rows.now lower middle row.now }
 {
     for upper in row {
-        if !is_pair(rows, lower, *upper) {
+        if !rows.is_pair(lower, *upper) {
             return Some(EnvFault::NotTransitive(lower, middle, *upper));
         }
     }

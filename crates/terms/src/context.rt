@@ -1,4 +1,4 @@
-ghost use Rattle.std.specs.Prelude.{◌≡◌, ◌<◌, ◌≤◌, ◌+◌, ◌++◌, ◌∷◌, [], slice_get};
+ghost use Rattle.std.specs.Prelude.{◌≡◌, ◌<◌, ◌≤◌, ◌+◌, ◌^◌, ◌++◌, ◌∷◌, [], length, slice_get};
 ghost use Rattle.terms.specs.Typing.{joined, rows};
 
 /// How many rows and nested lambdas there are at most together.
@@ -56,6 +56,25 @@ impl<'a> Ctx<'a> {
 }
 
 impl Ctx<'_> {
+    /// How many variables there are.
+    #[tactic(auto, unfolding(crate::specs::Typing::rows, crate::specs::Typing::joined))]
+    pub fn variables(&self) -> usize
+        requires { self.now.used ≤ 3 }
+        ensures value { result ≡ length (joined (rows self.now)) }
+        ensures small { result < 2 ^ 63 }
+    {
+        if self.used == 0 {
+            return 0;
+        }
+        if self.used == 1 {
+            return self.first.len();
+        }
+        if self.used == 2 {
+            return self.first.len() + self.second.len();
+        }
+        self.first.len() + self.second.len() + self.third.len()
+    }
+
     /// The type of the variable with this number, counted over the rows from the outermost.
     #[tactic(auto, unfolding(crate::specs::Typing::rows, crate::specs::Typing::joined))]
     pub fn variable(&self, number: u32) -> Option<u32>

@@ -17,6 +17,7 @@ use crate::fault::EnvFault;
 use crate::marks::closed_types;
 use crate::parts::{GREATEST_DEPTH, Parts};
 use crate::rating::{Rating, told};
+use crate::rows::Rows;
 use crate::term::Term;
 use lists::{Copies, Items};
 use std::alloc::{AllocError, Global};
@@ -80,7 +81,7 @@ impl Env {
     {
         match above::table_of(alloc, parts.types.as_slice().len(), parts.pairs.as_slice()) {
             Ok(above) => {
-                let closed = closed_types(alloc, above.as_slice())?;
+                let closed = closed_types(alloc, &Rows::of(above.as_slice()))?;
                 Env::with_table(parts, above, closed.as_slice())
             }
             Err(fault) => Err(fault),
@@ -236,7 +237,7 @@ fn later_fault(parts: &Parts, rows: &[Items<u32>], closed: &[bool]) -> Option<En
     requires sound { pairs_fault (length parts.now.types) 0 [] parts.now.pairs ≡ None }
     ensures { result ≡ or_then (order_fault (length parts.now.types) parts.now.pairs) (or_then (decls_fault (length parts.now.types) 0 parts.now.decls) (goal_fault parts.now)) }
 {
-    let fault = above::first_gap(rows, closed);
+    let fault = above::first_gap(&Rows::of(rows), closed);
     if fault.is_some() {
         return fault;
     }

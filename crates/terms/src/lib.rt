@@ -15,6 +15,7 @@ mod levels;
 mod marks;
 mod parts;
 mod rating;
+mod rows;
 mod term;
 
 pub use context::{Ctx, MOST_ROWS};

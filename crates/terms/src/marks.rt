@@ -3,8 +3,7 @@ ghost use Rattle.std.specs.List.{list_all};
 ghost use Rattle.terms.specs.Table.{has, row_at};
 ghost use Rattle.terms.specs.Closed.{IsWithin, IsClosed, AreClosed, AreRight};
 
-use crate::above::row_at;
-use lists::Items;
+use crate::rows::Rows;
 use std::alloc::{AllocError, Global};
 
 /// What a walk over the types has found, for each type by its number. A mark is the number of a type and one.
@@ -21,12 +20,11 @@ pub(crate) struct Marks {
 /// For each type whether it is known that there is no gap above it. Each type comes after those with shorter
 /// rows, and what a type without gap has above it isn't looked through again, so that time is about linear in
 /// the rows where few types stand side by side above one.
-pub(crate) fn closed_types(alloc: Global, rows: &[Items<u32>]) -> Result<Vec<bool>, AllocError>
-    requires few { length rows.now < 2 ^ 32 }
+pub(crate) fn closed_types(alloc: Global, rows: &Rows<'_>) -> Result<Vec<bool>, AllocError>
     ensures { IfOk result (λ closed. AreClosed rows.now closed.items) }
 {
     let order = by_length(alloc, rows)?;
-    let mut marks = Marks::new(alloc, rows.len())?;
+    let mut marks = Marks::new(alloc, rows.types() as usize)?;
     for lower in order.as_slice() {
         marks.look_at(rows, *lower);
     }
@@ -34,22 +32,20 @@ pub(crate) fn closed_types(alloc: Global, rows: &[Items<u32>]) -> Result<Vec<boo
 }
 
 /// The types, those with the shortest rows first. Only time hangs on it.
-fn by_length(alloc: Global, rows: &[Items<u32>]) -> Result<Vec<u32>, AllocError>
-    requires few { length rows.now < 2 ^ 32 }
-{
+fn by_length(alloc: Global, rows: &Rows<'_>) -> Result<Vec<u32>, AllocError> {
     let mut order = Vec::new(alloc);
-    for lower in 0..rows.len() {
-        order.push(lower as u32)?;
+    for lower in 0..rows.types() {
+        order.push(lower)?;
     }
-    order.sort_unstable_by_key(|lower| row_at(rows, *lower).len());
+    order.sort_unstable_by_key(|lower| rows.row(*lower).len());
     Ok(order)
 }
 
 /// The type of the row whose own row is longest. Only time hangs on it.
-fn nearest(rows: &[Items<u32>], row: &[u32]) -> Option<u32> {
+fn nearest(rows: &Rows<'_>, row: &[u32]) -> Option<u32> {
     row.iter()
         .copied()
-        .max_by_key(|upper| row_at(rows, *upper).len())
+        .max_by_key(|upper| rows.row(*upper).len())
 }
 
 /// The mark of a type, 0 past the end.
@@ -111,12 +107,11 @@ impl Marks {
     }
 
     /// Finds out whether there is no gap above the type.
-    fn look_at(&mut self, rows: &[Items<u32>], lower: u32)
-        requires few { length rows.now < 2 ^ 32 }
+    fn look_at(&mut self, rows: &Rows<'_>, lower: u32)
         requires right { AreRight rows.now self.old }
         ensures right { AreRight rows.now self.new }
     {
-        if lower as usize >= rows.len() {
+        if lower >= rows.types() {
             return;
         }
         if self.is_closed(rows, lower) {
@@ -126,8 +121,7 @@ impl Marks {
 
     /// Whether there is no gap above the type. The nearest type above it is looked at first, since it often covers
     /// all others.
-    fn is_closed(&mut self, rows: &[Items<u32>], lower: u32) -> bool
-        requires few { length rows.now < 2 ^ 32 }
+    fn is_closed(&mut self, rows: &Rows<'_>, lower: u32) -> bool
         requires low { lower < length rows.now }
         requires right { AreRight rows.now self.old }
         ensures right { AreRight rows.now self.new }
@@ -135,7 +129,7 @@ impl Marks {
     {
         self.put_members(rows, lower);
         self.look_at_nearest(rows, lower);
-        for upper in row_at(rows, lower) {
+        for upper in rows.row(lower) {
             if !self.is_within(rows, lower, *upper) {
                 return false;
             }
@@ -144,38 +138,35 @@ impl Marks {
     }
 
     /// Marks what stands in the row of the type.
-    fn put_members(&mut self, rows: &[Items<u32>], lower: u32)
-        requires few { length rows.now < 2 ^ 32 }
+    fn put_members(&mut self, rows: &Rows<'_>, lower: u32)
         requires low { lower < length rows.now }
         requires right { AreRight rows.now self.old }
         ensures right { AreRight rows.now self.new }
     {
-        put_marks(&mut self.members, row_at(rows, lower), lower + 1);
+        put_marks(&mut self.members, rows.row(lower), lower + 1);
     }
 
-    fn look_at_nearest(&mut self, rows: &[Items<u32>], lower: u32)
-        requires few { length rows.now < 2 ^ 32 }
+    fn look_at_nearest(&mut self, rows: &Rows<'_>, lower: u32)
         requires low { lower < length rows.now }
         requires right { AreRight rows.now self.old }
         ensures right { AreRight rows.now self.new }
     {
-        if let Some(upper) = nearest(rows, row_at(rows, lower)) {
+        if let Some(upper) = nearest(rows, rows.row(lower)) {
             let _within = self.is_within(rows, lower, upper);
         }
     }
 
     /// Whether the row of the upper type is within that of the lower one, whose members are marked.
-    fn is_within(&mut self, rows: &[Items<u32>], lower: u32, upper: u32) -> bool
-        requires few { length rows.now < 2 ^ 32 }
+    fn is_within(&mut self, rows: &Rows<'_>, lower: u32, upper: u32) -> bool
         requires low { lower < length rows.now }
         requires right { AreRight rows.now self.old }
         ensures right { AreRight rows.now self.new }
         ensures within { IsTrue result → IsWithin rows.now upper lower }
     {
+        let row = rows.row(upper);
         if mark_at(self.covered.as_slice(), upper) == lower + 1 {
             return true;
         }
-        let row = row_at(rows, upper);
         if !are_marked(self.members.as_slice(), row, lower + 1) {
             return false;
         }
@@ -186,7 +177,7 @@ impl Marks {
     }
 
     /// Tells that a type is closed.
-    fn tell(&mut self, rows: &[Items<u32>], lower: u32)
+    fn tell(&mut self, rows: &Rows<'_>, lower: u32)
         requires right { AreRight rows.now self.old }
         requires closed { IsClosed rows.now lower }
         ensures right { AreRight rows.now self.new }

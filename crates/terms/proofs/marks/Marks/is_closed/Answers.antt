@@ -9,5 +9,5 @@ loop-upper-init c = record { right = c.look_at_nearest.ensures.right; within = Î
 pub loop-upper-preserved : goal.loop-upper-preserved
 loop-upper-preserved c = record {
   right = c.is_within.ensures.right;
-  within = within-step c.args.rows.now (row_at c.args.rows.now c.args.lower) c.row_at-upper-items.result.now c.loop-upper.upper-index c.args.lower c.row_at-upper-items.ensures (omega arith) c.loop-upper.invariant.within (c.is_within.ensures.within (search rules));
+  within = within-step c.args.rows.now (row_at c.args.rows.now c.args.lower) c.row-upper-items.result.now c.loop-upper.upper-index c.args.lower c.row-upper-items.ensures.row (omega arith) c.loop-upper.invariant.within (c.is_within.ensures.within (search rules));
 }
