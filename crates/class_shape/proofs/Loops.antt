@@ -1,5 +1,5 @@
 -- The loops of the reader: what was read so far, before what is still to be read.
-use Rattle.std.proofs.Common.{◌≡◌, ◌≢◌, ℕ, suc, ◌+◌, ◌-◌, ◌<◌, ◌≤◌, List, [], ◌∷◌, ◌++◌, length, drop, get_or, Result, Ok, Err, refl, sym, ap, ◌∙◌, append_assoc, arith}
+use Rattle.std.proofs.Common.{◌≡◌, ◌≢◌, ℕ, suc, ◌+◌, ◌-◌, ◌<◌, ◌≤◌, List, [], ◌∷◌, ◌++◌, length, drop, get_or, Result, Ok, Err, refl, sym, ap, subst, ◌∙◌, append_assoc, arith}
 use Rattle.std.proofs.lemmas.List.{append-nil, drop_all}
 use Rattle.std.proofs.Math.Seq.{drop-cons}
 use Rattle.class_pool.specs.declared.fault.ClassFault.{ClassFault}
@@ -13,6 +13,10 @@ prefixed prefix r = (prefix ++ r.0, r.1)
 
 abbrev pub joined_to : {B : Type 0} → List B → List B → List B
 joined_to prefix ys = prefix ++ ys
+
+-- what a reading gives depends on no more than the place where the bytes end
+pub moved : {B : Type 0} (read : ℕ → List ℕ → Result (B × List ℕ) ClassFault) (place end : ℕ) (bytes : List ℕ) (r : Result (B × List ℕ) ClassFault) → place ≡ end → read place bytes ≡ r → read end bytes ≡ r
+moved read place end bytes r e h = let P : ℕ → Type 0 = λ n. read n bytes ≡ r in subst P e h
 
 -- ---- so many parts
 module _ {B : Type 0} (read : List ℕ → Result (B × List ℕ) ClassFault) where

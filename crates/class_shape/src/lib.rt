@@ -13,6 +13,7 @@ mod resolved_lists;
 mod shapes;
 mod tables;
 mod texts;
+mod unread;
 
 pub use laws::{fits_or_faults, layout_laws, one_shape};
 pub use methods::method_attributes;

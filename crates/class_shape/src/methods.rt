@@ -1,49 +1,44 @@
-ghost use Rattle.std.specs.Prelude.{◌≤◌, length, Ok, IfOk};
+ghost use Rattle.std.specs.Prelude.{◌≤◌, length, Ok};
 ghost use Rattle.class_pool.specs.Reading.{Gives};
 ghost use Rattle.class_pool.specs.Spelling.{Head};
 ghost use Rattle.class_shape.specs.Parts.{Body, IsFile};
 ghost use Rattle.class_shape.specs.Places.{method_attributes};
-ghost use Rattle.class_shape.specs.Views.{attribute_lists};
+ghost use Rattle.class_shape.specs.Views.{attribute_lists, Reads};
 ghost use Rattle.class_shape.specs.Reading.{many_at, method_at, methods_at, methods_read};
 
-use crate::parts::{AttributeAt, index_of, own_of};
+use crate::parts::{AttributeAt, index_of, own_of, short_of};
 use crate::reader::after_pool;
 use crate::tables::{counted_attributes, counted_indices, counted_members};
-use class_pool::{ClassFault, read_pool, u16_at};
+use crate::unread::Unread;
+use class_pool::{ClassFault, read_pool};
 use std::alloc::Global;
 
-/// The attributes of the method at the front, and the bytes after it.
+/// The attributes of the method at the front, and what is left after it.
 #[tactic(auto, unfolding(crate::specs::Reading::method_at))]
 fn method_of(
     alloc: Global,
-    total: u32,
-    bytes: &[u8],
-) -> Result<(Vec<AttributeAt<'_>>, &[u8]), ClassFault>
-    requires { length bytes.now ≤ total }
-    ensures within { IfOk result (λ x. length x.1.now ≤ total) }
-    ensures exact { Gives (λ x. (x.0.items, x.1.now)) result (method_at total bytes.now) }
+    left: Unread<'_>,
+) -> Result<(Vec<AttributeAt<'_>>, Unread<'_>), ClassFault>
+    ensures { Reads (λ attributes. attributes.items) result method_at left.entry }
 {
-    let (_, rest) = u16_at(total, bytes)?;
-    let (_, rest) = index_of(total, rest)?;
-    let (_, rest) = index_of(total, rest)?;
-    counted_attributes(alloc, total, rest)
+    let (_, rest) = short_of(left)?;
+    let (_, rest) = index_of(rest)?;
+    let (_, rest) = index_of(rest)?;
+    counted_attributes(alloc, rest)
 }
 
-/// The attributes of so many methods at the front, and the bytes after them.
+/// The attributes of so many methods at the front, and what is left after them.
 fn many_methods(
     alloc: Global,
-    total: u32,
     count: u16,
-    bytes: &[u8],
-) -> Result<(Vec<Vec<AttributeAt<'_>>>, &[u8]), ClassFault>
-    requires { length bytes.now ≤ total }
-    ensures within { IfOk result (λ x. length x.1.now ≤ total) }
-    ensures exact { Gives (λ x. (attribute_lists x.0.items, x.1.now)) result (many_at (method_at total) count bytes.now) }
+    left: Unread<'_>,
+) -> Result<(Vec<Vec<AttributeAt<'_>>>, Unread<'_>), ClassFault>
+    ensures { Reads (λ methods. attribute_lists methods.items) result (λ end. many_at (method_at end) count) left.entry }
 {
     let mut all = Vec::new(alloc);
-    let mut rest = bytes;
+    let mut rest = left;
     for _ in 0..count {
-        let (one, next) = method_of(alloc, total, rest)?;
+        let (one, next) = method_of(alloc, rest)?;
         all.push(one)?;
         rest = next;
     }
@@ -54,17 +49,15 @@ fn many_methods(
 #[tactic(auto, unfolding(crate::specs::Reading::methods_at, crate::specs::Reading::counted_at))]
 fn methods_of(
     alloc: Global,
-    total: u32,
-    bytes: &[u8],
-) -> Result<(Vec<Vec<AttributeAt<'_>>>, &[u8]), ClassFault>
-    requires { length bytes.now ≤ total }
-    ensures { Gives (λ x. (attribute_lists x.0.items, x.1.now)) result (methods_at total bytes.now) }
+    left: Unread<'_>,
+) -> Result<(Vec<Vec<AttributeAt<'_>>>, Unread<'_>), ClassFault>
+    ensures { Reads (λ methods. attribute_lists methods.items) result methods_at left.entry }
 {
-    let (_, rest) = own_of(total, bytes)?;
-    let (_, rest) = counted_indices(alloc, total, rest)?;
-    let (_, rest) = counted_members(alloc, total, rest)?;
-    let (count, rest) = u16_at(total, rest)?;
-    many_methods(alloc, total, count, rest)
+    let (_, rest) = own_of(left)?;
+    let (_, rest) = counted_indices(alloc, rest)?;
+    let (_, rest) = counted_members(alloc, rest)?;
+    let (count, rest) = short_of(rest)?;
+    many_methods(alloc, count, rest)
 }
 
 #[tactic(auto, unfolding(crate::specs::Reading::methods_read))]
@@ -73,8 +66,7 @@ fn methods_in(alloc: Global, bytes: &[u8]) -> Result<Vec<Vec<AttributeAt<'_>>>, 
     ensures { Gives (λ x. attribute_lists x.items) result (methods_read bytes.now) }
 {
     let pool = read_pool(alloc, bytes)?;
-    let rest = after_pool(&pool, bytes);
-    let (all, _) = methods_of(alloc, bytes.len() as u32, rest)?;
+    let (all, _) = methods_of(alloc, after_pool(&pool, bytes))?;
     Ok(all)
 }
 

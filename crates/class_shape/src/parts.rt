@@ -1,7 +1,9 @@
-ghost use Rattle.std.specs.Prelude.{◌≡◌, ◌<◌, ◌≤◌, ◌-◌, ◌+◌, length, IfOk};
-ghost use Rattle.class_pool.specs.Reading.{on_ok, Gives};
+ghost use Rattle.std.specs.Prelude.{◌≡◌, ◌≤◌, ◌-◌, ◌+◌, length, IfOk};
+ghost use Rattle.class_pool.specs.Reading.{number_at, on_ok, Gives};
 ghost use Rattle.class_shape.specs.Reading.{rest_of, index_at, own_at, attribute_at, member_at, row_at, many_at};
+ghost use Rattle.class_shape.specs.Views.{Reads};
 
+use crate::unread::Unread;
 use class_pool::{ClassFault, block_of, u16_at, u32_at};
 use std::marker::Model;
 
@@ -57,36 +59,72 @@ impl<'a> Model for AttributeAt<'a> {
     ghost invariant = { λ a. length a.body.now ≤ a.end };
 }
 
-/// The index at the front, and the bytes after it.
-#[tactic(auto, unfolding(crate::specs::Reading::index_at))]
-pub fn index_of(total: u32, bytes: &[u8]) -> Result<(IndexAt, &[u8]), ClassFault>
-    requires { length bytes.now ≤ total }
-    ensures long { IfOk result (λ x. length x.1.now + 2 ≡ length bytes.now) }
-    ensures exact { Gives (λ x. (x.0, x.1.now)) result (index_at total bytes.now) }
+/// The place in the file of the first byte that is left.
+pub fn place_of(left: &Unread<'_>) -> u32
+    ensures { result ≡ left.now.end - length left.now.bytes.now }
 {
-    let at = total - bytes.len() as u32;
-    let (index, rest) = u16_at(total, bytes)?;
+    left.end - left.bytes.len() as u32
+}
+
+/// The number of two bytes at the front, and what is left after it.
+pub fn short_of(left: Unread<'_>) -> Result<(u16, Unread<'_>), ClassFault>
+    ensures long { IfOk result (λ x. length x.1.bytes.now + 2 ≡ length left.entry.bytes.now) }
+    ensures exact { Reads (λ n. n) result (λ end. number_at end 2) left.entry }
+{
+    let (number, bytes) = u16_at(left.end, left.bytes)?;
+    let rest = Unread {
+        end: left.end,
+        bytes,
+    };
+    Ok((number, rest))
+}
+
+/// The index at the front, and what is left after it.
+#[tactic(auto, unfolding(crate::specs::Reading::index_at))]
+pub fn index_of(left: Unread<'_>) -> Result<(IndexAt, Unread<'_>), ClassFault>
+    ensures long { IfOk result (λ x. length x.1.bytes.now + 2 ≡ length left.entry.bytes.now) }
+    ensures exact { Reads (λ index. index) result index_at left.entry }
+{
+    let at = place_of(&left);
+    let (index, rest) = short_of(left)?;
     Ok((IndexAt { at, index }, rest))
 }
 
-/// The attribute at the front, and the bytes after it.
+/// The attribute at the front, and what is left after it.
 #[tactic(auto, unfolding(crate::specs::Reading::attribute_at))]
-pub fn attribute_of(total: u32, bytes: &[u8]) -> Result<(AttributeAt<'_>, &[u8]), ClassFault>
-    requires { length bytes.now ≤ total }
-    ensures shorter { IfOk result (λ x. length x.1.now ≤ length bytes.now) }
-    ensures exact { Gives (λ x. (x.0, x.1.now)) result (attribute_at total bytes.now) }
+pub fn attribute_of(left: Unread<'_>) -> Result<(AttributeAt<'_>, Unread<'_>), ClassFault>
+    ensures shorter { IfOk result (λ x. length x.1.bytes.now ≤ length left.entry.bytes.now) }
+    ensures exact { Reads (λ attribute. attribute) result attribute_at left.entry }
 {
-    let (name, rest) = index_of(total, bytes)?;
-    let len_at = total - rest.len() as u32;
-    let (len, rest) = u32_at(total, rest)?;
-    let (body, rest) = block_of(total, len as usize, rest)?;
+    let (name, rest) = index_of(left)?;
+    let len_at = place_of(&rest);
+    let (len, bytes) = u32_at(left.end, rest.bytes)?;
+    let (body, bytes) = block_of(left.end, len as usize, bytes)?;
+    let rest = Unread {
+        end: left.end,
+        bytes,
+    };
     let attribute = AttributeAt {
         name,
         len_at,
-        end: total - rest.len() as u32,
+        end: place_of(&rest),
         body,
     };
     Ok((attribute, rest))
+}
+
+/// What is left after so many attributes, which are passed unread.
+fn after_attributes(count: u16, left: Unread<'_>) -> Result<Unread<'_>, ClassFault>
+    ensures same_end { IfOk result (λ rest. rest.end ≡ left.entry.end) }
+    ensures shorter { IfOk result (λ rest. length rest.bytes.now ≤ length left.entry.bytes.now) }
+    ensures exact { Gives (λ rest. rest.bytes.now) result (on_ok rest_of (many_at (attribute_at left.entry.end) count left.entry.bytes.now)) }
+{
+    let mut rest = left;
+    for _ in 0..count {
+        let (_, next) = attribute_of(rest)?;
+        rest = next;
+    }
+    Ok(rest)
 }
 
 /// The bytes after so many attributes, which are passed unread.
@@ -95,26 +133,20 @@ pub fn pass_attributes(total: u32, count: u16, bytes: &[u8]) -> Result<&[u8], Cl
     ensures shorter { IfOk result (λ x. length x.now ≤ length bytes.now) }
     ensures exact { Gives (λ x. x.now) result (on_ok rest_of (many_at (attribute_at total) count bytes.now)) }
 {
-    let mut rest = bytes;
-    for _ in 0..count {
-        let (_, next) = attribute_of(total, rest)?;
-        rest = next;
-    }
-    Ok(rest)
+    let rest = after_attributes(count, Unread { end: total, bytes })?;
+    Ok(rest.bytes)
 }
 
-/// The field or method at the front, and the bytes after it.
+/// The field or method at the front, and what is left after it.
 #[tactic(auto, unfolding(crate::specs::Reading::member_at, crate::specs::Reading::counted_at))]
-pub fn member_of(total: u32, bytes: &[u8]) -> Result<(MemberAt, &[u8]), ClassFault>
-    requires { length bytes.now ≤ total }
-    ensures within { IfOk result (λ x. length x.1.now ≤ total) }
-    ensures exact { Gives (λ x. (x.0, x.1.now)) result (member_at total bytes.now) }
+pub fn member_of(left: Unread<'_>) -> Result<(MemberAt, Unread<'_>), ClassFault>
+    ensures { Reads (λ member. member) result member_at left.entry }
 {
-    let (flags, rest) = u16_at(total, bytes)?;
-    let (name, rest) = index_of(total, rest)?;
-    let (descriptor, rest) = index_of(total, rest)?;
-    let (count, rest) = u16_at(total, rest)?;
-    let rest = pass_attributes(total, count, rest)?;
+    let (flags, rest) = short_of(left)?;
+    let (name, rest) = index_of(rest)?;
+    let (descriptor, rest) = index_of(rest)?;
+    let (count, rest) = short_of(rest)?;
+    let rest = after_attributes(count, rest)?;
     let member = MemberAt {
         flags,
         name,
@@ -123,16 +155,14 @@ pub fn member_of(total: u32, bytes: &[u8]) -> Result<(MemberAt, &[u8]), ClassFau
     Ok((member, rest))
 }
 
-/// The flags, this class and the super class at the front, and the bytes after them.
+/// The flags, this class and the super class at the front, and what is left after them.
 #[tactic(auto, unfolding(crate::specs::Reading::own_at))]
-pub fn own_of(total: u32, bytes: &[u8]) -> Result<(OwnAt, &[u8]), ClassFault>
-    requires { length bytes.now ≤ total }
-    ensures within { IfOk result (λ x. length x.1.now ≤ total) }
-    ensures exact { Gives (λ x. (x.0, x.1.now)) result (own_at total bytes.now) }
+pub fn own_of(left: Unread<'_>) -> Result<(OwnAt, Unread<'_>), ClassFault>
+    ensures { Reads (λ own. own) result own_at left.entry }
 {
-    let (flags, rest) = u16_at(total, bytes)?;
-    let (this, rest) = index_of(total, rest)?;
-    let (parent, rest) = index_of(total, rest)?;
+    let (flags, rest) = short_of(left)?;
+    let (this, rest) = index_of(rest)?;
+    let (parent, rest) = index_of(rest)?;
     let own = OwnAt {
         flags,
         this,
@@ -141,17 +171,15 @@ pub fn own_of(total: u32, bytes: &[u8]) -> Result<(OwnAt, &[u8]), ClassFault>
     Ok((own, rest))
 }
 
-/// The row at the front, and the bytes after it. `total` is the place where the attribute ends.
+/// The row at the front, and what is left of the attribute after it.
 #[tactic(auto, unfolding(crate::specs::Reading::row_at))]
-pub fn row_of(total: u32, bytes: &[u8]) -> Result<(RowAt, &[u8]), ClassFault>
-    requires { length bytes.now ≤ total }
-    ensures within { IfOk result (λ x. length x.1.now ≤ total) }
-    ensures exact { Gives (λ x. (x.0, x.1.now)) result (row_at total bytes.now) }
+pub fn row_of(left: Unread<'_>) -> Result<(RowAt, Unread<'_>), ClassFault>
+    ensures { Reads (λ row. row) result row_at left.entry }
 {
-    let (inner, rest) = index_of(total, bytes)?;
-    let (outer, rest) = index_of(total, rest)?;
-    let (name, rest) = index_of(total, rest)?;
-    let (flags, rest) = u16_at(total, rest)?;
+    let (inner, rest) = index_of(left)?;
+    let (outer, rest) = index_of(rest)?;
+    let (name, rest) = index_of(rest)?;
+    let (flags, rest) = short_of(rest)?;
     let row = RowAt {
         inner,
         outer,

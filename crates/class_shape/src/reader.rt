@@ -14,6 +14,7 @@ use crate::resolved_lists::{all_rows, class_names, member_shapes};
 use crate::shapes::{ClassShape, MemberKind};
 use crate::tables::{Body, body_of};
 use crate::texts::are_texts_within;
+use crate::unread::Unread;
 use class_pool::{ClassFault, Pool, no_memory, read_pool};
 use std::alloc::Global;
 
@@ -41,13 +42,17 @@ fn shape_of(alloc: Global, pool: &Pool<'_>, body: &Body<'_>) -> Result<ClassShap
     })
 }
 
-/// The bytes after the pool.
-pub fn after_pool<'a>(pool: &Pool<'_>, bytes: &'a [u8]) -> &'a [u8]
-    requires { IsPoolOf bytes.now pool.now }
-    ensures exact { head_at (length bytes.now) bytes.now ≡ Ok (pool.now, result.now) }
-    ensures shorter { length result.now ≤ length bytes.now }
+/// What is left of a file after its pool.
+pub fn after_pool<'a>(pool: &Pool<'_>, bytes: &'a [u8]) -> Unread<'a>
+    requires small { length bytes.now ≤ 16777216 }
+    requires pool { IsPoolOf bytes.now pool.now }
+    ensures whole { result.end ≡ length bytes.now }
+    ensures exact { head_at (length bytes.now) bytes.now ≡ Ok (pool.now, result.bytes.now) }
 {
-    &bytes[pool.end() as usize..]
+    Unread {
+        end: bytes.len() as u32,
+        bytes: &bytes[pool.end() as usize..],
+    }
 }
 
 #[tactic(auto, unfolding(crate::specs::Violations::shape_read))]
@@ -56,8 +61,7 @@ fn shape_in(alloc: Global, bytes: &[u8]) -> Result<ClassShape, ClassFault>
     ensures { Gives (λ shape. shape) result (shape_read bytes.now) }
 {
     let pool = read_pool(alloc, bytes)?;
-    let rest = after_pool(&pool, bytes);
-    let body = body_of(alloc, bytes.len() as u32, rest)?;
+    let body = body_of(alloc, after_pool(&pool, bytes))?;
     if !are_texts_within(&pool, &body, bytes.len()) {
         return Err(no_memory());
     }

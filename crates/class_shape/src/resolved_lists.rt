@@ -9,6 +9,7 @@ use crate::parts::{AttributeAt, IndexAt, MemberAt, RowAt};
 use crate::resolved::{class_name, fault, member_shape, row_shape, text_use};
 use crate::shapes::{InnerRow, MemberKind, MemberShape};
 use crate::tables::counted_rows;
+use crate::unread::Unread;
 use class_pool::{ClassCause, ClassFault, Pool, no_memory};
 use lists::{Items, Text};
 use std::alloc::Global;
@@ -63,9 +64,9 @@ fn rows_in(alloc: Global, len_at: u32, end: u32, body: &[u8]) -> Result<Vec<RowA
     requires { length body.now ≤ end }
     ensures { Gives (λ rows. rows.items) result (rows_to_end len_at (counted_at end (row_at end) body.now)) }
 {
-    match counted_rows(alloc, end, body) {
+    match counted_rows(alloc, Unread { end, bytes: body }) {
         Ok((rows, rest)) => {
-            if !rest.is_empty() {
+            if !rest.bytes.is_empty() {
                 return Err(fault(len_at, ClassCause::Attribute));
             }
             Ok(rows)

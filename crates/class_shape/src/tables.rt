@@ -1,152 +1,126 @@
-ghost use Rattle.std.specs.Prelude.{◌≤◌, ◌<◌, length, IfOk};
 ghost use Rattle.class_pool.specs.Reading.{Gives};
-ghost use Rattle.class_shape.specs.Views.{lists_view, body_view};
+ghost use Rattle.class_shape.specs.Views.{lists_view, body_view, Reads};
 ghost use Rattle.class_shape.specs.Reading.{index_at, attribute_at, member_at, row_at, counted_at, many_at, lists_at, body_at};
 
 use crate::parts::{
-    AttributeAt, IndexAt, MemberAt, OwnAt, RowAt, attribute_of, index_of, member_of, own_of, row_of,
+    AttributeAt, IndexAt, MemberAt, OwnAt, RowAt, attribute_of, index_of, member_of, own_of,
+    place_of, row_of, short_of,
 };
-use class_pool::{ClassCause, ClassFault, u16_at};
+use crate::unread::Unread;
+use class_pool::{ClassCause, ClassFault};
 use std::alloc::Global;
 
 fn many_indices(
     alloc: Global,
-    total: u32,
     count: u16,
-    bytes: &[u8],
-) -> Result<(Vec<IndexAt>, &[u8]), ClassFault>
-    requires { length bytes.now ≤ total }
-    ensures within { IfOk result (λ x. length x.1.now ≤ total) }
-    ensures exact { Gives (λ x. (x.0.items, x.1.now)) result (many_at (index_at total) count bytes.now) }
+    left: Unread<'_>,
+) -> Result<(Vec<IndexAt>, Unread<'_>), ClassFault>
+    ensures { Reads (λ indices. indices.items) result (λ end. many_at (index_at end) count) left.entry }
 {
     let mut all = Vec::new(alloc);
-    let mut rest = bytes;
+    let mut rest = left;
     for _ in 0..count {
-        let (one, next) = index_of(total, rest)?;
+        let (one, next) = index_of(rest)?;
         all.push(one)?;
         rest = next;
     }
     Ok((all, rest))
 }
 
-/// A count of two bytes and so many indices, and the bytes after them.
+/// A count of two bytes and so many indices, and what is left after them.
 #[tactic(auto, unfolding(crate::specs::Reading::counted_at))]
 pub fn counted_indices(
     alloc: Global,
-    total: u32,
-    bytes: &[u8],
-) -> Result<(Vec<IndexAt>, &[u8]), ClassFault>
-    requires { length bytes.now ≤ total }
-    ensures within { IfOk result (λ x. length x.1.now ≤ total) }
-    ensures exact { Gives (λ x. (x.0.items, x.1.now)) result (counted_at total (index_at total) bytes.now) }
+    left: Unread<'_>,
+) -> Result<(Vec<IndexAt>, Unread<'_>), ClassFault>
+    ensures { Reads (λ indices. indices.items) result (λ end. counted_at end (index_at end)) left.entry }
 {
-    let (count, rest) = u16_at(total, bytes)?;
-    many_indices(alloc, total, count, rest)
+    let (count, rest) = short_of(left)?;
+    many_indices(alloc, count, rest)
 }
 
 fn many_members(
     alloc: Global,
-    total: u32,
     count: u16,
-    bytes: &[u8],
-) -> Result<(Vec<MemberAt>, &[u8]), ClassFault>
-    requires { length bytes.now ≤ total }
-    ensures within { IfOk result (λ x. length x.1.now ≤ total) }
-    ensures exact { Gives (λ x. (x.0.items, x.1.now)) result (many_at (member_at total) count bytes.now) }
+    left: Unread<'_>,
+) -> Result<(Vec<MemberAt>, Unread<'_>), ClassFault>
+    ensures { Reads (λ members. members.items) result (λ end. many_at (member_at end) count) left.entry }
 {
     let mut all = Vec::new(alloc);
-    let mut rest = bytes;
+    let mut rest = left;
     for _ in 0..count {
-        let (one, next) = member_of(total, rest)?;
+        let (one, next) = member_of(rest)?;
         all.push(one)?;
         rest = next;
     }
     Ok((all, rest))
 }
 
-/// A count of two bytes and so many members, and the bytes after them.
+/// A count of two bytes and so many members, and what is left after them.
 #[tactic(auto, unfolding(crate::specs::Reading::counted_at))]
 pub fn counted_members(
     alloc: Global,
-    total: u32,
-    bytes: &[u8],
-) -> Result<(Vec<MemberAt>, &[u8]), ClassFault>
-    requires { length bytes.now ≤ total }
-    ensures within { IfOk result (λ x. length x.1.now ≤ total) }
-    ensures exact { Gives (λ x. (x.0.items, x.1.now)) result (counted_at total (member_at total) bytes.now) }
+    left: Unread<'_>,
+) -> Result<(Vec<MemberAt>, Unread<'_>), ClassFault>
+    ensures { Reads (λ members. members.items) result (λ end. counted_at end (member_at end)) left.entry }
 {
-    let (count, rest) = u16_at(total, bytes)?;
-    many_members(alloc, total, count, rest)
+    let (count, rest) = short_of(left)?;
+    many_members(alloc, count, rest)
 }
 
 fn many_attributes(
     alloc: Global,
-    total: u32,
     count: u16,
-    bytes: &[u8],
-) -> Result<(Vec<AttributeAt<'_>>, &[u8]), ClassFault>
-    requires { length bytes.now ≤ total }
-    ensures within { IfOk result (λ x. length x.1.now ≤ total) }
-    ensures exact { Gives (λ x. (x.0.items, x.1.now)) result (many_at (attribute_at total) count bytes.now) }
+    left: Unread<'_>,
+) -> Result<(Vec<AttributeAt<'_>>, Unread<'_>), ClassFault>
+    ensures { Reads (λ attributes. attributes.items) result (λ end. many_at (attribute_at end) count) left.entry }
 {
     let mut all = Vec::new(alloc);
-    let mut rest = bytes;
+    let mut rest = left;
     for _ in 0..count {
-        let (one, next) = attribute_of(total, rest)?;
+        let (one, next) = attribute_of(rest)?;
         all.push(one)?;
         rest = next;
     }
     Ok((all, rest))
 }
 
-/// A count of two bytes and so many attributes, and the bytes after them.
+/// A count of two bytes and so many attributes, and what is left after them.
 #[tactic(auto, unfolding(crate::specs::Reading::counted_at))]
 pub fn counted_attributes(
     alloc: Global,
-    total: u32,
-    bytes: &[u8],
-) -> Result<(Vec<AttributeAt<'_>>, &[u8]), ClassFault>
-    requires { length bytes.now ≤ total }
-    ensures within { IfOk result (λ x. length x.1.now ≤ total) }
-    ensures exact { Gives (λ x. (x.0.items, x.1.now)) result (counted_at total (attribute_at total) bytes.now) }
+    left: Unread<'_>,
+) -> Result<(Vec<AttributeAt<'_>>, Unread<'_>), ClassFault>
+    ensures { Reads (λ attributes. attributes.items) result (λ end. counted_at end (attribute_at end)) left.entry }
 {
-    let (count, rest) = u16_at(total, bytes)?;
-    many_attributes(alloc, total, count, rest)
+    let (count, rest) = short_of(left)?;
+    many_attributes(alloc, count, rest)
 }
 
 fn many_rows(
     alloc: Global,
-    total: u32,
     count: u16,
-    bytes: &[u8],
-) -> Result<(Vec<RowAt>, &[u8]), ClassFault>
-    requires { length bytes.now ≤ total }
-    ensures within { IfOk result (λ x. length x.1.now ≤ total) }
-    ensures exact { Gives (λ x. (x.0.items, x.1.now)) result (many_at (row_at total) count bytes.now) }
+    left: Unread<'_>,
+) -> Result<(Vec<RowAt>, Unread<'_>), ClassFault>
+    ensures { Reads (λ rows. rows.items) result (λ end. many_at (row_at end) count) left.entry }
 {
     let mut all = Vec::new(alloc);
-    let mut rest = bytes;
+    let mut rest = left;
     for _ in 0..count {
-        let (one, next) = row_of(total, rest)?;
+        let (one, next) = row_of(rest)?;
         all.push(one)?;
         rest = next;
     }
     Ok((all, rest))
 }
 
-/// A count of two bytes and so many rows, and the bytes after them.
+/// A count of two bytes and so many rows, and what is left after them.
 #[tactic(auto, unfolding(crate::specs::Reading::counted_at))]
-pub fn counted_rows(
-    alloc: Global,
-    total: u32,
-    bytes: &[u8],
-) -> Result<(Vec<RowAt>, &[u8]), ClassFault>
-    requires { length bytes.now ≤ total }
-    ensures within { IfOk result (λ x. length x.1.now ≤ total) }
-    ensures exact { Gives (λ x. (x.0.items, x.1.now)) result (counted_at total (row_at total) bytes.now) }
+pub fn counted_rows(alloc: Global, left: Unread<'_>) -> Result<(Vec<RowAt>, Unread<'_>), ClassFault>
+    ensures { Reads (λ rows. rows.items) result (λ end. counted_at end (row_at end)) left.entry }
 {
-    let (count, rest) = u16_at(total, bytes)?;
-    many_rows(alloc, total, count, rest)
+    let (count, rest) = short_of(left)?;
+    many_rows(alloc, count, rest)
 }
 
 /// The interfaces, the fields, the methods and the class attributes.
@@ -159,15 +133,13 @@ pub struct Lists<'a> {
 }
 
 #[tactic(auto, unfolding(crate::specs::Reading::lists_at))]
-fn lists_of(alloc: Global, total: u32, bytes: &[u8]) -> Result<(Lists<'_>, &[u8]), ClassFault>
-    requires { length bytes.now ≤ total }
-    ensures within { IfOk result (λ x. length x.1.now ≤ total) }
-    ensures exact { Gives (λ x. (lists_view x.0, x.1.now)) result (lists_at total bytes.now) }
+fn lists_of<'a>(alloc: Global, left: Unread<'a>) -> Result<(Lists<'a>, Unread<'a>), ClassFault>
+    ensures { Reads lists_view result lists_at left.entry }
 {
-    let (interfaces, rest) = counted_indices(alloc, total, bytes)?;
-    let (fields, rest) = counted_members(alloc, total, rest)?;
-    let (methods, rest) = counted_members(alloc, total, rest)?;
-    let (attributes, rest) = counted_attributes(alloc, total, rest)?;
+    let (interfaces, rest) = counted_indices(alloc, left)?;
+    let (fields, rest) = counted_members(alloc, rest)?;
+    let (methods, rest) = counted_members(alloc, rest)?;
+    let (attributes, rest) = counted_attributes(alloc, rest)?;
     let lists = Lists {
         interfaces,
         fields,
@@ -186,15 +158,14 @@ pub struct Body<'a> {
 
 /// What stands after the pool, up to the end of the file.
 #[tactic(auto, unfolding(crate::specs::Reading::body_at))]
-pub fn body_of(alloc: Global, total: u32, bytes: &[u8]) -> Result<Body<'_>, ClassFault>
-    requires { length bytes.now ≤ total }
-    ensures { Gives body_view result (body_at total bytes.now) }
+pub fn body_of(alloc: Global, left: Unread<'_>) -> Result<Body<'_>, ClassFault>
+    ensures { Gives body_view result (body_at left.entry.end left.entry.bytes.now) }
 {
-    let (own, rest) = own_of(total, bytes)?;
-    let (lists, rest) = lists_of(alloc, total, rest)?;
-    if !rest.is_empty() {
+    let (own, rest) = own_of(left)?;
+    let (lists, rest) = lists_of(alloc, rest)?;
+    if !rest.bytes.is_empty() {
         return Err(ClassFault {
-            at: total - rest.len() as u32,
+            at: place_of(&rest),
             cause: ClassCause::Extra,
         });
     }

@@ -42,9 +42,8 @@ fn pairs(count: u32) -> Option<u64>
 }
 
 /// The length of an instruction, by its fixed part and its table, or the first fault.
-fn measure(fixed: usize, table: Option<u64>, bytes: &[u8]) -> Result<u32, WalkCause>
-    requires small { length bytes.now ≤ 16777216 }
-    requires in_code { fixed ≤ length bytes.now }
+fn measure(fixed: usize, table: Option<u64>, bytes: &[u8]) -> Result<usize, WalkCause>
+    requires { fixed ≤ length bytes.now }
     ensures { Measures (length bytes.now) (Some (record { fixed = fixed; table = table })) result }
 {
     let Some(table) = table else {
@@ -53,19 +52,19 @@ fn measure(fixed: usize, table: Option<u64>, bytes: &[u8]) -> Result<u32, WalkCa
     if table > (bytes.len() - fixed) as u64 {
         return Err(WalkCause::Cut);
     }
-    Ok((fixed + table as usize) as u32)
+    Ok(fixed + table as usize)
 }
 
-fn fixed_length(fixed: u32, bytes: &[u8]) -> Result<u32, WalkCause>
+fn fixed_length(fixed: u32, bytes: &[u8]) -> Result<usize, WalkCause>
     ensures { Measures (length bytes.now) (Some (fixed_extent fixed)) result }
 {
     if bytes.len() < fixed as usize {
         return Err(WalkCause::Cut);
     }
-    Ok(fixed)
+    Ok(fixed as usize)
 }
 
-fn wide_length(bytes: &[u8]) -> Result<u32, WalkCause>
+fn wide_length(bytes: &[u8]) -> Result<usize, WalkCause>
     requires { 0 < length bytes.now }
     ensures { Measures (length bytes.now) (some_fixed (wide_fixed (drop 1 bytes.now))) result }
 {
@@ -78,8 +77,7 @@ fn wide_length(bytes: &[u8]) -> Result<u32, WalkCause>
     }
 }
 
-fn table_length(at: u32, bytes: &[u8]) -> Result<u32, WalkCause>
-    requires { length bytes.now ≤ 16777216 }
+fn table_length(at: u32, bytes: &[u8]) -> Result<usize, WalkCause>
     ensures { Measures (length bytes.now) (Some (table_extent at bytes.now)) result }
 {
     let pad = padding(at);
@@ -91,8 +89,7 @@ fn table_length(at: u32, bytes: &[u8]) -> Result<u32, WalkCause>
     measure(13 + pad, jumps(low, high), bytes)
 }
 
-fn lookup_length(at: u32, bytes: &[u8]) -> Result<u32, WalkCause>
-    requires { length bytes.now ≤ 16777216 }
+fn lookup_length(at: u32, bytes: &[u8]) -> Result<usize, WalkCause>
     ensures { Measures (length bytes.now) (Some (lookup_extent at bytes.now)) result }
 {
     let pad = padding(at);
@@ -103,9 +100,8 @@ fn lookup_length(at: u32, bytes: &[u8]) -> Result<u32, WalkCause>
     measure(9 + pad, pairs(count), bytes)
 }
 
-fn form_length(at: u32, bytes: &[u8], form: Option<Form>) -> Result<u32, WalkCause>
-    requires some { 0 < length bytes.now }
-    requires small { length bytes.now ≤ 16777216 }
+fn form_length(at: u32, bytes: &[u8], form: Option<Form>) -> Result<usize, WalkCause>
+    requires { 0 < length bytes.now }
     ensures { Measures (length bytes.now) (extent_of at bytes.now form) result }
 {
     match form {
@@ -120,9 +116,8 @@ fn form_length(at: u32, bytes: &[u8], form: Option<Form>) -> Result<u32, WalkCau
 /// The length of the instruction that the bytes begin with, at a place that is counted from the start of the
 /// code; or the first fault, in the order of the causes.
 #[tactic(auto, unfolding(crate::specs::Lengths::extent_at))]
-pub fn length_at(at: u32, bytes: &[u8]) -> Result<u32, WalkCause>
-    requires some { 0 < length bytes.now }
-    requires small { length bytes.now ≤ 16777216 }
+pub fn length_at(at: u32, bytes: &[u8]) -> Result<usize, WalkCause>
+    requires { 0 < length bytes.now }
     ensures measured { Measures (length bytes.now) (extent_at at bytes.now) result }
 {
     match bytes {

@@ -16,11 +16,11 @@ pub struct Instr {
     pub len: u32,
 }
 
-fn bytes_after(bytes: &[u8], len: u32) -> &[u8]
+fn bytes_after(bytes: &[u8], len: usize) -> &[u8]
     requires { len ≤ length bytes.now }
     ensures { result.now ≡ drop len bytes.now }
 {
-    &bytes[len as usize..]
+    &bytes[len..]
 }
 
 /// The instructions of the code that begins at `start` of the file.
@@ -44,7 +44,7 @@ fn walk(alloc: Global, start: u32, code: &[u8]) -> Result<Vec<Instr>, WalkFault>
         };
         all.push(Instr {
             at: start + at,
-            len,
+            len: len as u32,
         })?;
         rest = bytes_after(rest, len);
     }

@@ -5,6 +5,7 @@ ghost use Rattle.graphs.specs.Numbers.{number_of, all_below, NeverRises};
 
 use crate::components::components_of;
 use crate::joined::{Joined, join};
+use crate::numbered::Numbered;
 use crate::reach::{reached, row};
 use lists::Items;
 use std::alloc::{AllocError, Global};
@@ -49,23 +50,16 @@ fn never_rises(graph: &[Items<usize>], numbers: &[u32]) -> bool
 }
 
 /// Whether a node reaches itself. Where no edge rises and each edge of the node falls, nothing is searched.
-fn reaches_itself(
-    alloc: Global,
-    graph: &[Items<usize>],
-    numbers: &[u32],
-    falls: bool,
-    node: usize,
-) -> Result<bool, AllocError>
-    requires range { InRange graph.now }
-    requires falls { falls ≡ true → NeverRises graph.now numbers.now }
-    ensures { IfOk result (λ r. (r ≡ true → Reaches graph.now node node) × (Reaches graph.now node node → r ≡ true)) }
+fn reaches_itself(alloc: Global, numbered: &Numbered<'_>, node: usize) -> Result<bool, AllocError>
+    ensures { IfOk result (λ r. (r ≡ true → Reaches numbered.now.graph.now node node) × (Reaches numbered.now.graph.now node node → r ≡ true)) }
 {
-    if falls {
-        if all_below(numbers, row(graph, node), number_of(numbers, node) as u64) {
+    if numbered.falls {
+        let own = number_of(numbered.numbers, node) as u64;
+        if all_below(numbered.numbers, row(numbered.graph, node), own) {
             return Ok(false);
         }
     }
-    let marks = reached(alloc, graph, node)?;
+    let marks = reached(alloc, numbered.graph, node)?;
     match marks.get(node) {
         Some(mark) => Ok(*mark),
         None => Ok(false),
@@ -76,27 +70,23 @@ fn reaches_itself(
 /// where no edge rises and this one falls, nor where both nodes lie on cycles with one root.
 fn comes_back(
     alloc: Global,
-    graph: &[Items<usize>],
-    numbers: &[u32],
-    falls: bool,
+    numbered: &Numbered<'_>,
     joined: &Joined,
     edge: (usize, usize),
 ) -> Result<bool, AllocError>
-    requires range { InRange graph.now }
-    requires falls { falls ≡ true → NeverRises graph.now numbers.now }
-    requires joined { IsJoined graph.now joined.now }
-    ensures { IfOk result (λ r. (r ≡ true → Reaches graph.now edge.1 edge.0) × (Reaches graph.now edge.1 edge.0 → r ≡ true)) }
+    requires { IsJoined numbered.now.graph.now joined.now }
+    ensures { IfOk result (λ r. (r ≡ true → Reaches numbered.now.graph.now edge.1 edge.0) × (Reaches numbered.now.graph.now edge.1 edge.0 → r ≡ true)) }
 {
     let (node, next) = edge;
-    if falls {
-        if number_of(numbers, next) < number_of(numbers, node) {
+    if numbered.falls {
+        if number_of(numbered.numbers, next) < number_of(numbered.numbers, node) {
             return Ok(false);
         }
     }
     if joined.is_way(next, node) {
         return Ok(true);
     }
-    let marks = reached(alloc, graph, next)?;
+    let marks = reached(alloc, numbered.graph, next)?;
     match marks.get(node) {
         Some(mark) => Ok(*mark),
         None => Ok(false),
@@ -106,21 +96,17 @@ fn comes_back(
 /// The edges of a node that don't lie on a cycle.
 fn forward_row(
     alloc: Global,
-    graph: &[Items<usize>],
-    numbers: &[u32],
-    falls: bool,
+    numbered: &Numbered<'_>,
     joined: &Joined,
     node: usize,
 ) -> Result<Items<usize>, AllocError>
-    requires range { InRange graph.now }
-    requires falls { falls ≡ true → NeverRises graph.now numbers.now }
-    requires joined { IsJoined graph.now joined.now }
-    ensures { IfOk result (λ kept. IsForwardRow graph.now node kept) }
+    requires { IsJoined numbered.now.graph.now joined.now }
+    ensures { IfOk result (λ kept. IsForwardRow numbered.now.graph.now node kept) }
 {
-    let nodes = row(graph, node);
+    let nodes = row(numbered.graph, node);
     let mut kept = Items::new(alloc);
     for next in nodes {
-        if comes_back(alloc, graph, numbers, falls, joined, (node, *next))? {
+        if comes_back(alloc, numbered, joined, (node, *next))? {
             continue;
         }
         kept.push(*next)?;
@@ -139,11 +125,15 @@ pub fn without_cycles(
 {
     let found = components_of(alloc, graph)?;
     let numbers = found.numbers;
-    let falls = never_rises(graph, &numbers);
     let joined = join(alloc, graph, found.roots)?;
+    let numbered = Numbered {
+        graph,
+        numbers: &numbers,
+        falls: never_rises(graph, &numbers),
+    };
     let mut rows = Items::new(alloc);
     for node in 0..graph.len() {
-        rows.push(forward_row(alloc, graph, &numbers, falls, &joined, node)?)?;
+        rows.push(forward_row(alloc, &numbered, &joined, node)?)?;
     }
     Ok(rows)
 }
@@ -160,12 +150,16 @@ pub fn least_cycle(
     ensures exact { IfOk result (λ found. MatchOption found (IsAcyclic graph.now skip) (λ a. IsLeastCycle graph.now skip a)) }
 {
     let numbers = components_of(alloc, graph)?.numbers;
-    let falls = never_rises(graph, &numbers);
+    let numbered = Numbered {
+        graph,
+        numbers: &numbers,
+        falls: never_rises(graph, &numbers),
+    };
     for node in 0..graph.len() {
         if node == skip {
             continue;
         }
-        if reaches_itself(alloc, graph, &numbers, falls, node)? {
+        if reaches_itself(alloc, &numbered, node)? {
             return Ok(Some(node));
         }
     }

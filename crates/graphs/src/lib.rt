@@ -6,6 +6,7 @@
 mod components;
 mod cycles;
 mod joined;
+mod numbered;
 mod reach;
 
 pub use cycles::{least_cycle, without_cycles};

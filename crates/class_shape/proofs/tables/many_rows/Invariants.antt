@@ -1,4 +1,4 @@
-use Rattle.std.proofs.Common.{[], ◌≡◌, ◌≤◌, ◌-◌, length}
+use Rattle.std.proofs.Common.{[], ◌≡◌, ◌-◌}
 use Rattle.class_pool.specs.Reading.{on_ok}
 use Rattle.class_shape.specs.Reading.{many_at, row_at}
 use Rattle.class_shape.proofs.Loops.{prefixed}
@@ -6,6 +6,6 @@ use Rattle.class_shape.proofs.tables.many_rows.Given as goal
 
 abbrev pub invariant-loop : goal.invariant-loop
 invariant-loop l = record {
-  within : length l.rest ≤ l.total;
-  so_far : on_ok (prefixed l.all.items) (many_at (row_at l.total) (l.count - l.counter) l.rest) ≡ on_ok (prefixed []) (many_at (row_at l.total) l.count l.bytes);
+  same_end : l.rest.end ≡ l.left.end;
+  so_far : on_ok (prefixed l.all.items) (many_at (row_at l.left.end) (l.count - l.counter) l.rest.bytes.now) ≡ on_ok (prefixed []) (many_at (row_at l.left.end) l.count l.left.bytes.now);
 }
