@@ -3,7 +3,7 @@ use Rattle.std.proofs.Common.{◌≡◌, ◌⊎◌, inl, inr, ⊎_elim, ℕ, ap,
 use Rattle.std.specs.Prelude.{if◌then◌else◌, All}
 use Rattle.std.proofs.lemmas.List.Elements.{All-head, All-tail}
 use Rattle.json_rpc.specs.declared.message.Id.{Id}
-use Rattle.answers.specs.Asks.{Short, Enough, Lacking, Ending, Met, Loaded, classes, missing, too_long, no_class_file, unreadable}
+use Rattle.answers.specs.Asks.{Short, Enough, Lacking, Ending, Met, Loaded, classes, missing, too_long, no_class_file, no_text, unreadable}
 use Rattle.answers.specs.Sessions.{Seen}
 use Rattle.answers.specs.Messages.{Meaning, asks, publishes, says, lacks, starts, stops, edits, leaves, drops, meaning_of, published, by_memory, is_stopped, Outcome, replied, no_memory, silent, exited, lost}
 use Rattle.answers.specs.Runs.{Message, ends, outcome, session_after, replies_to, seen_after}
@@ -54,6 +54,7 @@ no_publication (classes puts) s id removes counts m x = x
 no_publication (missing index) s id removes counts m x = x
 no_publication (too_long index) s id removes counts m x = x
 no_publication (no_class_file index class_fault place) s id removes counts m x = x
+no_publication (no_text index) s id removes counts m x = x
 no_publication (unreadable index) s id removes counts m x = x
 
 -- Only an exit is answered by the end of the session that tells whether it was stopped, and it leaves the session as it is.
@@ -63,7 +64,7 @@ pub record IsLeft (x : Short) (s : Seen) (meaning : Meaning) (m : Met) (b : Bool
 
 left_by : (x : Short) (s : Seen) (meaning : Meaning) (m : Met) (b : Bool) → (by_memory x s meaning m).1 ≡ exited b → IsLeft x s meaning m b
 left_by Enough s (asks id ask) m b e = absurd (subst IsExited (sym e) tt)
-left_by Enough s (publishes id names removes counts) m b e = absurd (no_publication m.loads s id removes counts m (subst IsExited (sym e) tt))
+left_by Enough s (publishes id files removes counts) m b e = absurd (no_publication m.loads s id removes counts m (subst IsExited (sym e) tt))
 left_by Enough s (says id reply) m b e = absurd (subst IsExited (sym e) tt)
 left_by Enough s (lacks id) m b e = absurd (subst IsExited (sym e) tt)
 left_by Enough s (starts id options) m b e = absurd (subst IsExited (sym e) tt)
@@ -72,7 +73,7 @@ left_by Enough s (edits uri edit) m b e = absurd (subst IsExited (sym e) tt)
 left_by Enough s leaves m b e = record { meant = refl; stopped = ap stop_in (sym e) }
 left_by Enough s drops m b e = absurd (subst IsExited (sym e) tt)
 left_by Lacking s (asks id ask) m b e = absurd (subst IsExited (sym e) tt)
-left_by Lacking s (publishes id names removes counts) m b e = absurd (subst IsExited (sym e) tt)
+left_by Lacking s (publishes id files removes counts) m b e = absurd (subst IsExited (sym e) tt)
 left_by Lacking s (says None reply) m b e = absurd (subst IsExited (sym e) tt)
 left_by Lacking s (says (Some id) reply) m b e = absurd (subst IsExited (sym e) tt)
 left_by Lacking s (lacks id) m b e = absurd (subst IsExited (sym e) tt)

@@ -9,7 +9,7 @@ use Rattle.lsp_forms.specs.declared.forms.Initialize.{Initialize}
 use Rattle.lsp_forms.specs.Forms.{initialize_of}
 use Rattle.answers.specs.declared.types.Phase.{Phase}
 use Rattle.answers.specs.declared.types.Phase.TheVariants.{Fresh, Running, Stopped}
-use Rattle.answers.specs.Asks.{Short, Enough, Lacking, Ending, Met, Loaded, classes, missing, too_long, no_class_file, unreadable}
+use Rattle.answers.specs.Asks.{Short, Enough, Lacking, Ending, Met, Loaded, classes, missing, too_long, no_class_file, no_text, unreadable}
 use Rattle.answers.specs.Sessions.{Seen}
 use Rattle.answers.specs.Messages.{Meaning, asks, publishes, says, lacks, starts, stops, edits, leaves, drops, initialize_by, fresh_request, request_by, meaning_in, meaning_of, published, by_memory, is_stopped, Outcome, no_memory, exited}
 use Rattle.answers.specs.Runs.{Message, ends, outcome, session_after, replies_to}
@@ -35,11 +35,12 @@ begun_published (classes puts) s id removes counts m b = b
 begun_published (missing index) s id removes counts m b = b
 begun_published (too_long index) s id removes counts m b = b
 begun_published (no_class_file index class_fault place) s id removes counts m b = b
+begun_published (no_text index) s id removes counts m b = b
 begun_published (unreadable index) s id removes counts m b = b
 
 begun_stays : (x : Short) (s : Seen) (meaning : Meaning) (m : Met) → IsBegun s.phase → IsBegun (by_memory x s meaning m).0.phase
 begun_stays Enough s (asks id ask) m b = b
-begun_stays Enough s (publishes id names removes counts) m b = begun_published m.loads s id removes counts m b
+begun_stays Enough s (publishes id files removes counts) m b = begun_published m.loads s id removes counts m b
 begun_stays Enough s (says id reply) m b = b
 begun_stays Enough s (lacks id) m b = b
 begun_stays Enough s (starts id options) m b = tt
@@ -48,7 +49,7 @@ begun_stays Enough s (edits uri edit) m b = b
 begun_stays Enough s leaves m b = b
 begun_stays Enough s drops m b = b
 begun_stays Lacking s (asks id ask) m b = b
-begun_stays Lacking s (publishes id names removes counts) m b = b
+begun_stays Lacking s (publishes id files removes counts) m b = b
 begun_stays Lacking s (says None reply) m b = b
 begun_stays Lacking s (says (Some id) reply) m b = b
 begun_stays Lacking s (lacks id) m b = b
@@ -68,11 +69,12 @@ up_published (classes puts) s id removes counts m u = u
 up_published (missing index) s id removes counts m u = u
 up_published (too_long index) s id removes counts m u = u
 up_published (no_class_file index class_fault place) s id removes counts m u = u
+up_published (no_text index) s id removes counts m u = u
 up_published (unreadable index) s id removes counts m u = u
 
 up_stays : (x : Short) (s : Seen) (meaning : Meaning) (m : Met) → IsUp s.phase → ((id : Id) → meaning ≡ stops id → ⊥) → IsUp (by_memory x s meaning m).0.phase
 up_stays Enough s (asks id ask) m u none = u
-up_stays Enough s (publishes id names removes counts) m u none = up_published m.loads s id removes counts m u
+up_stays Enough s (publishes id files removes counts) m u none = up_published m.loads s id removes counts m u
 up_stays Enough s (says id reply) m u none = u
 up_stays Enough s (lacks id) m u none = u
 up_stays Enough s (starts id options) m u none = tt
@@ -81,7 +83,7 @@ up_stays Enough s (edits uri edit) m u none = u
 up_stays Enough s leaves m u none = u
 up_stays Enough s drops m u none = u
 up_stays Lacking s (asks id ask) m u none = u
-up_stays Lacking s (publishes id names removes counts) m u none = u
+up_stays Lacking s (publishes id files removes counts) m u none = u
 up_stays Lacking s (says None reply) m u none = u
 up_stays Lacking s (says (Some id) reply) m u none = u
 up_stays Lacking s (lacks id) m u none = u

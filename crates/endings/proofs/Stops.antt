@@ -15,7 +15,7 @@ use Rattle.endings.specs.Decided.{StoppedStays, ShutdownStops}
 -- What a message can mean in a stopped session: it changes nothing.
 abbrev IsIdle : Meaning → Type 0
 IsIdle (asks id ask) = ⊥
-IsIdle (publishes id names removes counts) = ⊥
+IsIdle (publishes id files removes counts) = ⊥
 IsIdle (says id reply) = Unit {0}
 IsIdle (lacks id) = ⊥
 IsIdle (starts id options) = ⊥
@@ -42,7 +42,7 @@ idle_keeps Enough s (says id reply) m i = refl
 idle_keeps Enough s leaves m i = refl
 idle_keeps Enough s drops m i = refl
 idle_keeps Enough s (asks id ask) m i = absurd i
-idle_keeps Enough s (publishes id names removes counts) m i = absurd i
+idle_keeps Enough s (publishes id files removes counts) m i = absurd i
 idle_keeps Enough s (lacks id) m i = absurd i
 idle_keeps Enough s (starts id options) m i = absurd i
 idle_keeps Enough s (stops id) m i = absurd i
@@ -52,7 +52,7 @@ idle_keeps Lacking s (says (Some id) reply) m i = refl
 idle_keeps Lacking s leaves m i = refl
 idle_keeps Lacking s drops m i = refl
 idle_keeps Lacking s (asks id ask) m i = absurd i
-idle_keeps Lacking s (publishes id names removes counts) m i = absurd i
+idle_keeps Lacking s (publishes id files removes counts) m i = absurd i
 idle_keeps Lacking s (lacks id) m i = absurd i
 idle_keeps Lacking s (starts id options) m i = absurd i
 idle_keeps Lacking s (stops id) m i = absurd i

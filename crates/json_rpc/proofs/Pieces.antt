@@ -1,15 +1,19 @@
 -- Bytes that are written in two parts.
-use Rattle.std.proofs.Common.{◌≡◌, ℕ, ◌+◌, ◌≤◌, ◌<◌, List, [], ◌∷◌, ◌++◌, take, drop, length, get_or, Option, Some, None, sym, ap, ◌∙◌, append_assoc, append-nil, arith, refl, subst, codes, nat_lt, true, false, ◌/◌, ◌%◌, ◌-◌, OnErr}
+use Rattle.std.proofs.Common.{◌≡◌, ℕ, ◌+◌, ◌≤◌, ◌<◌, List, [], ◌∷◌, ◌++◌, take, drop, length, get_or, Option, Some, None, sym, ap, ◌∙◌, append_assoc, append-nil, arith, refl, subst, nat_lt, true, false, ◌/◌, ◌%◌, ◌-◌, OnErr, OnOk}
 use Rattle.std.proofs.lemmas.List.{get_or-drop, length-append, length-drop, take-append-le, take_more, take_all, drop_more, drop_all, take-append-drop}
+use Rattle.std.proofs.lemmas.Grind.{flat_map-append}
 use Rattle.std.proofs.Math.Seq.{take-append-add}
-use Rattle.std.specs.Prelude.{Result, Ok, Err}
+use Rattle.std.specs.List.{flat_map}
+use Rattle.std.specs.Fmt.{signed_decimal}
+use Rattle.std.specs.Prelude.{ℤ, Result, Ok, Err}
 use Rattle.std.specs.Io.KnownBytes.{Appends}
 use Rattle.outside.specs.Causes.{HasCause, Rose}
 use Rattle.outside.specs.Gathered.{WrotePrefix}
 use Rattle.std.specs.Char.{digit_char}
-use Rattle.json.specs.Print.{escape, escape_byte, escape_letter, quoted}
-use Rattle.json_rpc.specs.Replies.{HasRun, before_id, id_text, no_memory_reply, quote}
-use Rattle.json_rpc.specs.declared.message.Id.{Id}
+use Rattle.json.specs.Print.{escape, escape_byte, escape_letter}
+use Rattle.json_rpc.specs.Replies.{HasRun, after_id, before_id, frame_of, head_of, id_text, no_memory_reply, piece_text}
+use Rattle.json_rpc.specs.declared.message.Id.TheVariants.{Number, Text}
+use Rattle.json_rpc.specs.declared.write.Piece.{Piece}
 
 pub appends-none : (a : Option (List ℕ)) → Appends a a []
 appends-none None = tt
@@ -35,25 +39,21 @@ prefix-right a b c xs ys h w = record {
   wrote = let P : List ℕ → Type 0 = λ t. Appends a c t in subst P (sym (take-append-add xs ys w.count)) (appends-both a b c xs (take w.count ys) h w.wrote);
 }
 
-rose-later : (a b c : ℕ) → a ≤ b → Rose b c → Rose a c
+pub rose-later : (a b c : ℕ) → a ≤ b → Rose b c → Rose a c
 rose-later a b c l r = grind (arith, l, r)
 
 pub cause-later : {T E : Type 0} (a b c : ℕ) (r : Result T E) → a ≤ b → HasCause b c r → HasCause a c r
 cause-later a b c (Ok x) l h = record { later = omega (arith, l, h.later); failed = tt }
 cause-later a b c (Err e) l h = record { later = omega (arith, l, h.later); failed = rose-later a b c l h.failed }
 
-flat_map-append : (xs ys : List ℕ) → escape (xs ++ ys) ≡ escape xs ++ escape ys
-flat_map-append [] ys = refl
-flat_map-append (x ∷ xs) ys = ap (λ t. escape_byte x ++ t) (flat_map-append xs ys) ∙ sym (append_assoc (escape_byte x) (escape xs) (escape ys))
-
 pub escape-more : (bs : List ℕ) (i : ℕ) → i < length bs → escape (take (i + 1) bs) ≡ escape (take i bs) ++ escape_byte (get_or bs i 0)
-escape-more bs i l = ap escape (take_more bs i 0 l) ∙ flat_map-append (take i bs) (get_or bs i 0 ∷ []) ∙ ap (λ t. escape (take i bs) ++ t) (append-nil (escape_byte (get_or bs i 0)))
+escape-more bs i l = ap escape (take_more bs i 0 l) ∙ flat_map-append escape_byte (take i bs) (get_or bs i 0 ∷ []) ∙ ap (λ t. escape (take i bs) ++ t) (append-nil (escape_byte (get_or bs i 0)))
 
 pub escape-all : (bs : List ℕ) → escape (take (length bs) bs) ≡ escape bs
 escape-all bs = ap escape (take_all (length bs) bs (omega arith))
 
 pub escape-split : (bs : List ℕ) (i : ℕ) → escape bs ≡ escape (take i bs) ++ escape (drop i bs)
-escape-split bs i = ap escape (sym (take-append-drop i bs)) ∙ flat_map-append (take i bs) (drop i bs)
+escape-split bs i = ap escape (sym (take-append-drop i bs)) ∙ flat_map-append escape_byte (take i bs) (drop i bs)
 
 pub escape-rest : (bs : List ℕ) (i : ℕ) → i < length bs → escape (drop i bs) ≡ escape_byte (get_or bs i 0) ++ escape (drop (i + 1) bs)
 escape-rest bs i l = ap escape (drop_more bs i 0 l)
@@ -86,14 +86,6 @@ short-is b letter e l = escape-short b (omega (arith, e, l)) ∙ ap (λ x. 92 �
 
 pub length-more : (bs : List ℕ) (i : ℕ) → i < length bs → length (escape (take (i + 1) bs)) ≡ length (escape (take i bs)) + length (escape_byte (get_or bs i 0))
 length-more bs i l = ap length (escape-more bs i l) ∙ length-append (escape (take i bs)) (escape_byte (get_or bs i 0))
-
--- The quotes round a text.
-pub quoted-is : (s : List ℕ) → quote ++ (escape s ++ quote) ≡ quoted s
-unfolding quote
-quoted-is s = refl
-
-pub length-quoted : (s : List ℕ) → length (quoted s) ≡ length (escape s) + 2
-length-quoted s = omega (arith, length-append (escape s) (34 ∷ []))
 
 -- A run of bytes that stand for themselves, by one byte more.
 slice-more : (bs : List ℕ) (d i : ℕ) → d ≤ i → i < length bs → take (i + 1 - d) (drop d bs) ≡ take (i - d) (drop d bs) ++ (get_or bs i 0 ∷ [])
@@ -154,12 +146,77 @@ run-end a b c bs d h w = let P : List ℕ → Type 0 = λ t. Appends a c t in su
 pub run-end_prefix : (a b c : Option (List ℕ)) (bs : List ℕ) (d : ℕ) → HasRun a b bs d (length bs) → WrotePrefix b c (take (length bs - d) (drop d bs)) → WrotePrefix a c (escape bs)
 run-end_prefix a b c bs d h w = let P : List ℕ → Type 0 = λ t. WrotePrefix a c t in subst P (run_all a b bs d h) (prefix-right a b c (escape (take d bs)) _ h.wrote w)
 
-pub length-reply : (id : Id) (n : ℕ) → n ≡ length (id_text id) → n + 69 ≡ length (no_memory_reply id)
-unfolding no_memory_reply before_id
-length-reply id n e = omega (arith, e, length-append (id_text id) (codes ",\"jsonrpc\":\"2.0\"}"))
+-- What follows of a result.
+pub on_ok_map : {T E : Type 0} (result : Result T E) {P Q : Type 0} → (P → Q) → OnOk result P → OnOk result Q
+on_ok_map (Ok x) f p = f p
+on_ok_map (Err e) f p = tt
 
-pub ruleset escapes = (escape-short, escape-hex, escape-plain, short-is, length-more, escape-all, length-quoted)
+pub on_err_map : {T E : Type 0} (result : Result T E) {P Q : Type 0} → (P → Q) → OnErr result P → OnErr result Q
+on_err_map (Ok x) f p = tt
+on_err_map (Err e) f p = f p
 
-pub ruleset pieces = (appends-none, appends-both, prefix-left, prefix-right, cause-later, escape-all, length-reply, run-start, run-end, run-end_prefix)
+-- A frame, whose header part is written first.
+pub framed : (a b c : Option (List ℕ)) (head body : List ℕ) (n : ℕ) → head ≡ head_of n → n ≡ length body → Appends a b head → Appends b c body → Appends a c (frame_of body)
+unfolding frame_of
+framed a b c head body n is count h w =
+    let P : List ℕ → Type 0 = λ t. Appends a b t in
+    appends-both a b c (head_of (length body)) body (subst P (is ∙ ap head_of count) h) w
 
-pub ruleset quotes = (quoted-is)
+pub framed-head : (a b : Option (List ℕ)) (head body : List ℕ) (n : ℕ) → head ≡ head_of n → n ≡ length body → WrotePrefix a b head → WrotePrefix a b (frame_of body)
+unfolding frame_of
+framed-head a b head body n is count w =
+    let P : List ℕ → Type 0 = λ t. WrotePrefix a b t in
+    prefix-left a b (head_of (length body)) body (subst P (is ∙ ap head_of count) w)
+
+pub framed-prefix : (a b c : Option (List ℕ)) (head body : List ℕ) (n : ℕ) → head ≡ head_of n → n ≡ length body → Appends a b head → WrotePrefix b c body → WrotePrefix a c (frame_of body)
+unfolding frame_of
+framed-prefix a b c head body n is count h w =
+    let P : List ℕ → Type 0 = λ t. Appends a b t in
+    prefix-right a b c (head_of (length body)) body (subst P (is ∙ ap head_of count) h) w
+
+-- The pieces up to one, and those behind it.
+text-more : (ps : List Piece) (i : ℕ) (d : Piece) → i < length ps → flat_map piece_text (take (i + 1) ps) ≡ flat_map piece_text (take i ps) ++ piece_text (get_or ps i d)
+text-more ps i d l =
+    ap (flat_map piece_text) (take_more ps i d l)
+    ∙ flat_map-append piece_text (take i ps) (get_or ps i d ∷ [])
+    ∙ ap (λ t. flat_map piece_text (take i ps) ++ t) (append-nil (piece_text (get_or ps i d)))
+
+text-split : (ps : List Piece) (i : ℕ) (d : Piece) → i < length ps → flat_map piece_text ps ≡ (flat_map piece_text (take i ps) ++ piece_text (get_or ps i d)) ++ flat_map piece_text (drop (i + 1) ps)
+text-split ps i d l =
+    ap (flat_map piece_text) (sym (take-append-drop (i + 1) ps))
+    ∙ flat_map-append piece_text (take (i + 1) ps) (drop (i + 1) ps)
+    ∙ ap (λ t. t ++ flat_map piece_text (drop (i + 1) ps)) (text-more ps i d l)
+
+pub length-next : (ps : List Piece) (i : ℕ) (d : Piece) (n m : ℕ) → i < length ps → n ≡ length (flat_map piece_text (take i ps)) → m ≡ length (piece_text (get_or ps i d)) → n + m ≡ length (flat_map piece_text (take (i + 1) ps))
+length-next ps i d n m l e f = omega (arith, e, f, ap length (text-more ps i d l), length-append (flat_map piece_text (take i ps)) (piece_text (get_or ps i d)))
+
+pub pieces-next : (a b c : Option (List ℕ)) (ps : List Piece) (i : ℕ) (d : Piece) → i < length ps → Appends a b (flat_map piece_text (take i ps)) → Appends b c (piece_text (get_or ps i d)) → Appends a c (flat_map piece_text (take (i + 1) ps))
+pieces-next a b c ps i d l h w =
+    let P : List ℕ → Type 0 = λ t. Appends a c t in
+    subst P (sym (text-more ps i d l)) (appends-both a b c (flat_map piece_text (take i ps)) (piece_text (get_or ps i d)) h w)
+
+-- A fault while a piece is written.
+pub pieces-prefix : (a b c : Option (List ℕ)) (ps : List Piece) (i : ℕ) (d : Piece) → i < length ps → Appends a b (flat_map piece_text (take i ps)) → WrotePrefix b c (piece_text (get_or ps i d)) → WrotePrefix a c (flat_map piece_text ps)
+pieces-prefix a b c ps i d l h w =
+    let P : List ℕ → Type 0 = λ t. WrotePrefix a c t in
+    subst P (sym (text-split ps i d l)) (prefix-left a c _ (flat_map piece_text (drop (i + 1) ps)) (prefix-right a b c (flat_map piece_text (take i ps)) (piece_text (get_or ps i d)) h w))
+
+pub pieces-all : (ps : List Piece) (i : ℕ) → length ps ≤ i → flat_map piece_text (take i ps) ≡ flat_map piece_text ps
+pieces-all ps i l = ap (flat_map piece_text) (take_all i ps l)
+
+-- The reply for which there was no memory, from its pieces.
+pub reply-number : (z : ℤ) (digits : List ℕ) → digits ≡ signed_decimal z → before_id ++ (digits ++ (after_id ++ [])) ≡ no_memory_reply (Number z)
+unfolding no_memory_reply id_text
+reply-number z digits is = ap (λ t. before_id ++ (digits ++ t)) (append-nil after_id) ∙ ap (λ t. before_id ++ (t ++ after_id)) is
+
+pub reply-text : (s bytes : List ℕ) → bytes ≡ s → before_id ++ ((34 ∷ []) ++ (escape bytes ++ ((34 ∷ []) ++ (after_id ++ [])))) ≡ no_memory_reply (Text s)
+unfolding no_memory_reply id_text
+reply-text s bytes is =
+    ap (λ t. before_id ++ (34 ∷ t))
+    (ap (λ t. escape bytes ++ (34 ∷ t)) (append-nil after_id)
+    ∙ ap (λ t. escape t ++ (34 ∷ after_id)) is
+    ∙ sym (append_assoc (escape s) (34 ∷ []) after_id))
+
+pub ruleset escapes = (escape-short, escape-hex, escape-plain, short-is, length-more, escape-all)
+
+pub ruleset pieces = (appends-none, appends-both, prefix-left, prefix-right, cause-later, escape-all, run-start, run-end, run-end_prefix, pieces-all)

@@ -5,16 +5,18 @@ use Rattle.std.specs.Fmt.{signed_decimal}
 use Rattle.json.specs.Print.{escape, quoted}
 use Rattle.json_rpc.specs.declared.message.Id.{Id}
 use Rattle.json_rpc.specs.declared.message.Id.TheVariants.{Number, Text}
+use Rattle.json_rpc.specs.declared.write.Piece.{Piece}
+use Rattle.json_rpc.specs.declared.write.Piece.TheVariants.{Plain, Escaped}
 
--- What stands before the length, and before the id of the reply below; and a quote.
+-- What stands before the length, and before and behind the id of the reply below.
 unfoldable pub length_mark : List ℕ
 length_mark = codes "Content-Length: "
 
 unfoldable pub before_id : List ℕ
 before_id = codes "{\"error\":{\"code\":-32803,\"message\":\"no memory\"},\"id\":"
 
-unfoldable pub quote : List ℕ
-quote = codes "\""
+unfoldable pub after_id : List ℕ
+after_id = codes ",\"jsonrpc\":\"2.0\"}"
 
 -- The header part of a frame whose body has n bytes (LSP 3.17, "Header Part").
 unfoldable pub head_of : ℕ → List ℕ
@@ -31,7 +33,12 @@ id_text (Text s) = quoted s
 
 -- The reply to a request for which there was no memory: the error -32803 of LSP 3.17, without data.
 unfoldable pub no_memory_reply : Id → List ℕ
-no_memory_reply id = before_id ++ (id_text id ++ codes ",\"jsonrpc\":\"2.0\"}")
+no_memory_reply id = before_id ++ (id_text id ++ after_id)
+
+-- What is written of a piece.
+abbrev pub piece_text : Piece → List ℕ
+piece_text (Plain bytes) = bytes.now
+piece_text (Escaped bytes) = escape bytes.now
 
 -- What stands for the first `done` bytes of a text is written, and those from there up to i are a run that stands for itself.
 pub record HasRun (start now : Option (List ℕ)) (bytes : List ℕ) (done i : ℕ) : Type 0 where

@@ -1,20 +1,27 @@
-ghost use Rattle.std.specs.Prelude.{◌≡◌, ◌≤◌, ◌<◌, ◌+◌, ◌*◌, ◌^◌, ◌++◌, ◌∷◌, [], ℕ, List, Option, length, codes, take, IsTrue, IfOk, OnOk, OnErr};
+ghost use Rattle.std.specs.Prelude.{◌≡◌, ◌≤◌, ◌<◌, ◌+◌, ◌^◌, ◌++◌, ◌∷◌, [], ℕ, List, Option, length, take, IsTrue, IfOk, OnOk, OnErr};
+ghost use Rattle.std.specs.List.{flat_map};
 ghost use Rattle.std.specs.Char.{digit_char};
 ghost use Rattle.std.specs.Io.KnownBytes.{Appends};
 ghost use Rattle.outside.specs.Causes.{HasCause};
 ghost use Rattle.outside.specs.Gathered.{WrotePrefix};
 ghost use Rattle.json.specs.Print.{escape, escape_byte, escape_letter};
-ghost use Rattle.json_rpc.specs.Replies.{HasRun, before_id, frame_of, head_of, id_text, length_mark, no_memory_reply, quote};
+ghost use Rattle.json_rpc.specs.Replies.{HasRun, frame_of, head_of, no_memory_reply, piece_text};
 
 use crate::message::Id;
 use itoa::Buffer;
 use outside::{Failed, Sink, write_all};
 
-/// How many bytes the reply "no memory" has beside its id.
-const ROUND_ID: u128 = 69;
-
 /// Room for a header part: its length has at most 40 digits.
 const HEAD: usize = 64;
+
+/// A part of what is written.
+#[derive(Clone, Copy)]
+pub(crate) enum Piece<'a> {
+    /// These bytes.
+    Plain(&'a [u8]),
+    /// What stands for these bytes in a JSON string.
+    Escaped(&'a [u8]),
+}
 
 /// Puts bytes into a buffer from a place on, and answers the place behind them.
 #[tactic(auto, using(crate::proofs::Heading::heading))]
@@ -29,41 +36,17 @@ fn put(buffer: &mut [u8], place: usize, bytes: &[u8]) -> usize
     place + bytes.len()
 }
 
-/// Puts a header part into a buffer, and answers its length.
-#[tactic(auto, using(crate::proofs::Heading::heading), unfolding(crate::specs::Replies::length_mark))]
-fn put_head(buffer: &mut [u8], digits: &[u8]) -> usize
+/// Puts the header part of a body of so many bytes into a buffer, and answers how long it is.
+#[tactic(auto, using(crate::proofs::Heading::heading), unfolding(crate::specs::Replies::head_of, crate::specs::Replies::length_mark))]
+fn put_head(buffer: &mut [u8], count: u128) -> usize
     requires room { length buffer.old ≡ HEAD }
-    requires few { length digits.now ≤ 40 }
     ensures within { result ≤ HEAD }
-    ensures holds { take result buffer.new ≡ length_mark ++ (digits.now ++ codes "\r\n\r\n") }
-{
-    let mark = put(buffer, 0, b"Content-Length: ");
-    let told = put(buffer, mark, digits);
-    put(buffer, told, b"\r\n\r\n")
-}
-
-/// Writes the header part of a frame, at once.
-#[tactic(auto, using(crate::proofs::Pieces::pieces), unfolding(crate::specs::Replies::head_of))]
-fn write_head<K: Sink>(sink: &mut K, length: u128) -> Result<(), Failed>
-    ensures all { OnOk result (Appends (K.written sink.old) (K.written sink.new) (head_of length)) }
-    ensures prefix { OnErr result (WrotePrefix (K.written sink.old) (K.written sink.new) (head_of length)) }
-    ensures cause { HasCause (K.faults sink.old) (K.faults sink.new) result }
+    ensures holds { take result buffer.new ≡ head_of count }
 {
     let mut digits = Buffer::new();
-    let mut head = [0; HEAD];
-    let end = put_head(&mut head, digits.format(length).as_bytes());
-    write_all(sink, &head[..end])
-}
-
-/// Writes a frame with this body, and takes no memory. After a fault a prefix of the frame is written.
-#[tactic(auto, using(crate::proofs::Pieces::pieces), unfolding(crate::specs::Replies::frame_of))]
-pub fn write_frame<K: Sink>(sink: &mut K, body: &[u8]) -> Result<(), Failed>
-    ensures frame { OnOk result (Appends (K.written sink.old) (K.written sink.new) (frame_of body.now)) }
-    ensures prefix { OnErr result (WrotePrefix (K.written sink.old) (K.written sink.new) (frame_of body.now)) }
-    ensures cause { HasCause (K.faults sink.old) (K.faults sink.new) result }
-{
-    write_head(sink, body.len() as u128)?;
-    write_all(sink, body)
+    let mark = put(buffer, 0, b"Content-Length: ");
+    let told = put(buffer, mark, digits.format(count).as_bytes());
+    put(buffer, told, b"\r\n\r\n")
 }
 
 /// The letter of a byte's short escape in JSON (RFC 8259, section 7), or 0 where it has none.
@@ -92,31 +75,25 @@ fn hex_digit(value: u8) -> u8
     b'a' + (value - 10)
 }
 
-/// Writes what stands for a byte in a JSON string.
+/// Puts what stands for a byte in a JSON string into a buffer, and answers how long it is.
 #[tactic(auto, using(crate::proofs::Pieces::escapes))]
-fn write_byte<K: Sink>(sink: &mut K, byte: u8) -> Result<(), Failed>
-    ensures all { OnOk result (Appends (K.written sink.old) (K.written sink.new) (escape_byte byte)) }
-    ensures prefix { OnErr result (WrotePrefix (K.written sink.old) (K.written sink.new) (escape_byte byte)) }
-    ensures cause { HasCause (K.faults sink.old) (K.faults sink.new) result }
+fn put_escape(buffer: &mut [u8; 6], byte: u8) -> usize
+    ensures within { result ≤ 6 }
+    ensures holds { take result buffer.new ≡ escape_byte byte }
 {
     let letter = escape_letter(byte);
     if letter > 0 {
-        return write_all(sink, &[b'\\', letter]);
+        *buffer = [b'\\', letter, 0, 0, 0, 0];
+        return 2;
     }
     if byte < 32 {
-        return write_all(
-            sink,
-            &[
-                b'\\',
-                b'u',
-                b'0',
-                b'0',
-                hex_digit(byte / 16),
-                hex_digit(byte % 16),
-            ],
-        );
+        let high = hex_digit(byte / 16);
+        let low = hex_digit(byte % 16);
+        *buffer = [b'\\', b'u', b'0', b'0', high, low];
+        return 6;
     }
-    write_all(sink, &[byte])
+    *buffer = [byte, 0, 0, 0, 0, 0];
+    1
 }
 
 /// Whether a byte stands for itself in a JSON string.
@@ -127,18 +104,8 @@ fn is_plain(byte: u8) -> bool
     escape_letter(byte) == 0 && byte >= 32
 }
 
-/// Writes a run of bytes that stand for themselves, and what stands for the byte after it.
-#[tactic(auto, using(crate::proofs::Pieces::pieces))]
-fn write_run<K: Sink>(sink: &mut K, run: &[u8], byte: u8) -> Result<(), Failed>
-    ensures all { OnOk result (Appends (K.written sink.old) (K.written sink.new) (run.now ++ escape_byte byte)) }
-    ensures prefix { OnErr result (WrotePrefix (K.written sink.old) (K.written sink.new) (run.now ++ escape_byte byte)) }
-    ensures cause { HasCause (K.faults sink.old) (K.faults sink.new) result }
-{
-    write_all(sink, run)?;
-    write_byte(sink, byte)
-}
-
 /// Goes on by the byte at i, and answers where the run begins that is to be written yet.
+#[tactic(auto, using(crate::proofs::Pieces::pieces))]
 fn write_next<K: Sink>(sink: &mut K, bytes: &[u8], done: usize, i: usize) -> Result<usize, Failed>
     requires order { done ≤ i }
     requires within { i < length bytes.now }
@@ -152,7 +119,10 @@ fn write_next<K: Sink>(sink: &mut K, bytes: &[u8], done: usize, i: usize) -> Res
     if is_plain(byte) {
         return Ok(done);
     }
-    write_run(sink, &bytes[done..i], byte)?;
+    let mut escaped = [0; 6];
+    let end = put_escape(&mut escaped, byte);
+    write_all(sink, &bytes[done..i])?;
+    write_all(sink, &escaped[..end])?;
     Ok(i + 1)
 }
 
@@ -168,89 +138,6 @@ fn write_escaped<K: Sink>(sink: &mut K, bytes: &[u8]) -> Result<(), Failed>
         done = write_next(sink, bytes, done, i)?;
     }
     write_all(sink, &bytes[done..])
-}
-
-/// Writes a quote.
-#[tactic(auto, unfolding(crate::specs::Replies::quote))]
-fn write_quote<K: Sink>(sink: &mut K) -> Result<(), Failed>
-    ensures all { OnOk result (Appends (K.written sink.old) (K.written sink.new) quote) }
-    ensures prefix { OnErr result (WrotePrefix (K.written sink.old) (K.written sink.new) quote) }
-    ensures cause { HasCause (K.faults sink.old) (K.faults sink.new) result }
-{
-    write_all(sink, b"\"")
-}
-
-/// Writes what stands for a text in a JSON string, and the quote after it.
-#[tactic(auto, using(crate::proofs::Pieces::pieces))]
-fn write_to_quote<K: Sink>(sink: &mut K, bytes: &[u8]) -> Result<(), Failed>
-    ensures all { OnOk result (Appends (K.written sink.old) (K.written sink.new) (escape bytes.now ++ quote)) }
-    ensures prefix { OnErr result (WrotePrefix (K.written sink.old) (K.written sink.new) (escape bytes.now ++ quote)) }
-    ensures cause { HasCause (K.faults sink.old) (K.faults sink.new) result }
-{
-    write_escaped(sink, bytes)?;
-    write_quote(sink)
-}
-
-/// Writes a text as a JSON string.
-#[tactic(auto, using(crate::proofs::Pieces::pieces))]
-fn write_quoted<K: Sink>(sink: &mut K, bytes: &[u8]) -> Result<(), Failed>
-    ensures all { OnOk result (Appends (K.written sink.old) (K.written sink.new) (quote ++ (escape bytes.now ++ quote))) }
-    ensures prefix { OnErr result (WrotePrefix (K.written sink.old) (K.written sink.new) (quote ++ (escape bytes.now ++ quote))) }
-    ensures cause { HasCause (K.faults sink.old) (K.faults sink.new) result }
-{
-    write_quote(sink)?;
-    write_to_quote(sink, bytes)
-}
-
-/// Writes the JSON of an id.
-#[tactic(auto, unfolding(crate::specs::Replies::id_text), using(crate::proofs::Pieces::quotes))]
-fn write_id<K: Sink>(sink: &mut K, id: &Id) -> Result<(), Failed>
-    ensures all { OnOk result (Appends (K.written sink.old) (K.written sink.new) (id_text id.now)) }
-    ensures prefix { OnErr result (WrotePrefix (K.written sink.old) (K.written sink.new) (id_text id.now)) }
-    ensures cause { HasCause (K.faults sink.old) (K.faults sink.new) result }
-{
-    match id {
-        Id::Number(number) => {
-            let mut buffer = Buffer::new();
-            write_all(sink, buffer.format(*number).as_bytes())
-        }
-        Id::Text(text) => write_quoted(sink, text.as_bytes()),
-    }
-}
-
-/// Writes the reply "no memory" from its id on.
-#[tactic(auto, using(crate::proofs::Pieces::pieces))]
-fn write_from_id<K: Sink>(sink: &mut K, id: &Id) -> Result<(), Failed>
-    ensures all { OnOk result (Appends (K.written sink.old) (K.written sink.new) (id_text id.now ++ codes ",\"jsonrpc\":\"2.0\"}")) }
-    ensures prefix { OnErr result (WrotePrefix (K.written sink.old) (K.written sink.new) (id_text id.now ++ codes ",\"jsonrpc\":\"2.0\"}")) }
-    ensures cause { HasCause (K.faults sink.old) (K.faults sink.new) result }
-{
-    write_id(sink, id)?;
-    write_all(sink, b",\"jsonrpc\":\"2.0\"}")
-}
-
-/// Writes the reply "no memory" up to its id.
-#[tactic(auto, unfolding(crate::specs::Replies::before_id))]
-fn write_before_id<K: Sink>(sink: &mut K) -> Result<(), Failed>
-    ensures all { OnOk result (Appends (K.written sink.old) (K.written sink.new) before_id) }
-    ensures prefix { OnErr result (WrotePrefix (K.written sink.old) (K.written sink.new) before_id) }
-    ensures cause { HasCause (K.faults sink.old) (K.faults sink.new) result }
-{
-    write_all(
-        sink,
-        b"{\"error\":{\"code\":-32803,\"message\":\"no memory\"},\"id\":",
-    )
-}
-
-/// Writes the reply "no memory".
-#[tactic(auto, using(crate::proofs::Pieces::pieces), unfolding(crate::specs::Replies::no_memory_reply))]
-fn write_reply<K: Sink>(sink: &mut K, id: &Id) -> Result<(), Failed>
-    ensures all { OnOk result (Appends (K.written sink.old) (K.written sink.new) (no_memory_reply id.now)) }
-    ensures prefix { OnErr result (WrotePrefix (K.written sink.old) (K.written sink.new) (no_memory_reply id.now)) }
-    ensures cause { HasCause (K.faults sink.old) (K.faults sink.new) result }
-{
-    write_before_id(sink)?;
-    write_from_id(sink, id)
 }
 
 /// How many bytes stand for a byte in a JSON string.
@@ -269,7 +156,7 @@ fn escaped_width(byte: u8) -> u128
 #[tactic(auto, using(crate::proofs::Pieces::escapes))]
 fn escaped_length(bytes: &[u8]) -> u128
     ensures length { result ≡ length (escape bytes.now) }
-    ensures bound { result ≤ 6 * length bytes.now }
+    ensures bound { result ≤ 2 ^ 100 }
 {
     let mut length = 0;
     for i in 0..bytes.len() {
@@ -278,29 +165,117 @@ fn escaped_length(bytes: &[u8]) -> u128
     length
 }
 
-/// How many bytes the JSON of an id has.
-#[tactic(auto, unfolding(crate::specs::Replies::id_text), using(crate::proofs::Pieces::escapes))]
-fn id_length(id: &Id) -> u128
-    ensures length { result ≡ length (id_text id.now) }
+/// How many bytes these are.
+fn plain_length(bytes: &[u8]) -> u128
+    ensures length { result ≡ length bytes.now }
     ensures bound { result ≤ 2 ^ 100 }
 {
-    match id {
-        Id::Number(number) => {
-            let mut buffer = Buffer::new();
-            buffer.format(*number).len() as u128
-        }
-        Id::Text(text) => escaped_length(text.as_bytes()) + 2,
+    bytes.len() as u128
+}
+
+/// How many bytes a piece has.
+fn piece_length(piece: &Piece<'_>) -> u128
+    ensures length { result ≡ length (piece_text piece.now) }
+    ensures bound { result ≤ 2 ^ 100 }
+{
+    match *piece {
+        Piece::Plain(bytes) => plain_length(bytes),
+        Piece::Escaped(bytes) => escaped_length(bytes),
     }
+}
+
+/// How many bytes some pieces have.
+fn length_of(pieces: &[Piece<'_>]) -> u128
+    requires few { length pieces.now ≤ 5 }
+    ensures { result ≡ length (flat_map piece_text pieces.now) }
+{
+    let mut length = 0;
+    for piece in pieces {
+        length += piece_length(piece);
+    }
+    length
+}
+
+/// Writes a piece.
+fn write_piece<K: Sink>(sink: &mut K, piece: &Piece<'_>) -> Result<(), Failed>
+    ensures all { OnOk result (Appends (K.written sink.old) (K.written sink.new) (piece_text piece.now)) }
+    ensures prefix { OnErr result (WrotePrefix (K.written sink.old) (K.written sink.new) (piece_text piece.now)) }
+    ensures cause { HasCause (K.faults sink.old) (K.faults sink.new) result }
+{
+    match *piece {
+        Piece::Plain(bytes) => write_all(sink, bytes),
+        Piece::Escaped(bytes) => write_escaped(sink, bytes),
+    }
+}
+
+/// Writes pieces, one after the other.
+#[tactic(auto, using(crate::proofs::Pieces::pieces))]
+fn write_pieces<K: Sink>(sink: &mut K, pieces: &[Piece<'_>]) -> Result<(), Failed>
+    ensures all { OnOk result (Appends (K.written sink.old) (K.written sink.new) (flat_map piece_text pieces.now)) }
+    ensures prefix { OnErr result (WrotePrefix (K.written sink.old) (K.written sink.new) (flat_map piece_text pieces.now)) }
+    ensures cause { HasCause (K.faults sink.old) (K.faults sink.new) result }
+{
+    for piece in pieces {
+        write_piece(sink, piece)?;
+    }
+    Ok(())
+}
+
+/// Writes a frame whose body is these pieces, its header part at once.
+#[tactic(auto, using(crate::proofs::Pieces::pieces), unfolding(crate::specs::Replies::frame_of))]
+fn write_framed<K: Sink>(sink: &mut K, body: &[Piece<'_>]) -> Result<(), Failed>
+    requires few { length body.now ≤ 5 }
+    ensures frame { OnOk result (Appends (K.written sink.old) (K.written sink.new) (frame_of (flat_map piece_text body.now))) }
+    ensures prefix { OnErr result (WrotePrefix (K.written sink.old) (K.written sink.new) (frame_of (flat_map piece_text body.now))) }
+    ensures cause { HasCause (K.faults sink.old) (K.faults sink.new) result }
+{
+    let mut head = [0; HEAD];
+    let end = put_head(&mut head, length_of(body));
+    write_all(sink, &head[..end])?;
+    write_pieces(sink, body)
+}
+
+/// Writes a frame with this body, and takes no memory. After a fault a prefix of the frame is written.
+pub fn write_frame<K: Sink>(sink: &mut K, body: &[u8]) -> Result<(), Failed>
+    ensures frame { OnOk result (Appends (K.written sink.old) (K.written sink.new) (frame_of body.now)) }
+    ensures prefix { OnErr result (WrotePrefix (K.written sink.old) (K.written sink.new) (frame_of body.now)) }
+    ensures cause { HasCause (K.faults sink.old) (K.faults sink.new) result }
+{
+    write_framed(sink, &[Piece::Plain(body)])
 }
 
 /// Writes the frame of the reply "no memory" to this id in pieces, and takes no memory: it counts the
 /// body's length first, and escapes the id as it writes. After a fault a prefix of the frame is written.
-#[tactic(auto, using(crate::proofs::Pieces::pieces), unfolding(crate::specs::Replies::frame_of))]
 pub fn write_no_memory<K: Sink>(sink: &mut K, id: &Id) -> Result<(), Failed>
     ensures frame { OnOk result (Appends (K.written sink.old) (K.written sink.new) (frame_of (no_memory_reply id.now))) }
     ensures prefix { OnErr result (WrotePrefix (K.written sink.old) (K.written sink.new) (frame_of (no_memory_reply id.now))) }
     ensures cause { HasCause (K.faults sink.old) (K.faults sink.new) result }
 {
-    write_head(sink, id_length(id) + ROUND_ID)?;
-    write_reply(sink, id)
+    let before: &[u8] = b"{\"error\":{\"code\":-32803,\"message\":\"no memory\"},\"id\":";
+    let quote: &[u8] = b"\"";
+    let after: &[u8] = b",\"jsonrpc\":\"2.0\"}";
+    match id {
+        Id::Number(number) => {
+            let mut digits = Buffer::new();
+            let shown = digits.format(*number).as_bytes();
+            write_framed(
+                sink,
+                &[
+                    Piece::Plain(before),
+                    Piece::Plain(shown),
+                    Piece::Plain(after),
+                ],
+            )
+        }
+        Id::Text(text) => write_framed(
+            sink,
+            &[
+                Piece::Plain(before),
+                Piece::Plain(quote),
+                Piece::Escaped(text.as_bytes()),
+                Piece::Plain(quote),
+                Piece::Plain(after),
+            ],
+        ),
+    }
 }

@@ -1,9 +1,10 @@
 -- One item of a list of parameters more: what was said of the items before, and then what is said of the rest.
-use Rattle.std.proofs.Common.{◌≡◌, ◌∙◌, ap, sym, ℕ, ◌+◌, Bool, true, false, ◌&&◌, List, [], ◌∷◌, ◌++◌, length, Option, Some, None, Result, Ok, Err, refl, append_assoc, append-nil, arith}
+use Rattle.std.proofs.Common.{◌≡◌, ◌∙◌, ap, sym, ℕ, suc, ◌+◌, Bool, true, false, ◌&&◌, List, [], ◌∷◌, ◌++◌, length, Option, Some, None, Result, Ok, Err, refl, append_assoc, append-nil, arith}
 use Rattle.std.proofs.lemmas.List.{length-append}
 use Rattle.serde_json.specs.Data.{Data, no_items}
 use Rattle.serde_json.specs.View.{view, items_view}
 use Rattle.serde_json.specs.declared.value.Value.{Value}
+use Rattle.lsp_forms.specs.Commands.{size}
 use Rattle.lsp_forms.specs.Params.{both, each, every, first_or, numbered, item_fault}
 use Rattle.lsp_forms.specs.declared.forms.ParamFault.{ParamFault}
 
@@ -67,24 +68,35 @@ unfolding first_or
 from_step done x e (Err f) = refl
 from_step done x e (Ok xs) = ap Ok (sym (append_assoc done (x ∷ []) xs))
 
-pub numbered-more : {X : Type 0} (cause : ℕ) (f : Data → Option X) (all : Result (List X) ParamFault) (done new : List X) (v : Value) (rest more : List Value) (x : X) → all ≡ from done (numbered cause f (length done) (items_view rest)) → rest ≡ v ∷ more → f (view v) ≡ Some x → new ≡ done ++ x ∷ [] → all ≡ from new (numbered cause f (length new) (items_view more))
+pub numbered-more : {X : Type 0} (cause : ℕ) (f : Data → Option X) (n : ℕ) (all : Result (List X) ParamFault) (done new : List X) (v : Value) (rest more : List Value) (x : X) → all ≡ from done (numbered cause f (n + length done) (items_view rest)) → rest ≡ v ∷ more → f (view v) ≡ Some x → new ≡ done ++ x ∷ [] → all ≡ from new (numbered cause f (n + length new) (items_view more))
 unfolding numbered
-numbered-more {X} cause f all done new v rest more x e r w m =
-    let longer : length new ≡ length done + 1 = ap length m ∙ length-append done (x ∷ []) in
-    e ∙ ap (λ vs. from done (numbered cause f (length done) (items_view vs))) r
-    ∙ ap (λ o. from done (first_or o (item_fault cause (length done)) (numbered cause f (length done + 1) (items_view more)))) w
-    ∙ from_step done x (item_fault cause (length done)) (numbered cause f (length done + 1) (items_view more))
-    ∙ ap (λ l. from l (numbered cause f (length done + 1) (items_view more))) (sym m)
-    ∙ ap (λ n. from new (numbered cause f n (items_view more))) (sym longer)
+numbered-more {X} cause f n all done new v rest more x e r w m =
+    let longer : n + length new ≡ n + length done + 1 = omega (arith, ap length m, length-append done (x ∷ [])) in
+    e ∙ ap (λ vs. from done (numbered cause f (n + length done) (items_view vs))) r
+    ∙ ap (λ o. from done (first_or o (item_fault cause (n + length done)) (numbered cause f (n + length done + 1) (items_view more)))) w
+    ∙ from_step done x (item_fault cause (n + length done)) (numbered cause f (n + length done + 1) (items_view more))
+    ∙ ap (λ l. from l (numbered cause f (n + length done + 1) (items_view more))) (sym m)
+    ∙ ap (λ k. from new (numbered cause f k (items_view more))) (sym longer)
 
-pub numbered-stop : {X : Type 0} (cause : ℕ) (f : Data → Option X) (all : Result (List X) ParamFault) (done : List X) (v : Value) (rest more : List Value) → all ≡ from done (numbered cause f (length done) (items_view rest)) → rest ≡ v ∷ more → f (view v) ≡ None → all ≡ Err (item_fault cause (length done))
+pub numbered-start : {X : Type 0} (cause : ℕ) (f : Data → Option X) (n : ℕ) (done : List X) (rest : List Value) → done ≡ [] → numbered cause f n (items_view rest) ≡ from done (numbered cause f (n + length done) (items_view rest))
+numbered-start cause f n done rest e =
+    let none : n ≡ n + length done = omega (arith, ap length e) in
+    ap (λ k. numbered cause f k (items_view rest)) none ∙ from-none (numbered cause f (n + length done) (items_view rest)) ∙ ap (λ l. from l (numbered cause f (n + length done) (items_view rest))) (sym e)
+
+pub numbered-stop : {X : Type 0} (cause : ℕ) (f : Data → Option X) (n : ℕ) (all : Result (List X) ParamFault) (done : List X) (v : Value) (rest more : List Value) → all ≡ from done (numbered cause f (n + length done) (items_view rest)) → rest ≡ v ∷ more → f (view v) ≡ None → all ≡ Err (item_fault cause (n + length done))
 unfolding numbered first_or
-numbered-stop cause f all done v rest more e r w =
-    e ∙ ap (λ vs. from done (numbered cause f (length done) (items_view vs))) r
-    ∙ ap (λ o. from done (first_or o (item_fault cause (length done)) (numbered cause f (length done + 1) (items_view more)))) w
+numbered-stop cause f n all done v rest more e r w =
+    e ∙ ap (λ vs. from done (numbered cause f (n + length done) (items_view vs))) r
+    ∙ ap (λ o. from done (first_or o (item_fault cause (n + length done)) (numbered cause f (n + length done + 1) (items_view more)))) w
 
-pub numbered-end : {X : Type 0} (cause : ℕ) (f : Data → Option X) (all : Result (List X) ParamFault) (done : List X) (rest : List Value) → all ≡ from done (numbered cause f (length done) (items_view rest)) → length rest ≡ 0 → all ≡ Ok done
+pub numbered-end : {X : Type 0} (cause : ℕ) (f : Data → Option X) (n : ℕ) (all : Result (List X) ParamFault) (done : List X) (rest : List Value) → all ≡ from done (numbered cause f (n + length done) (items_view rest)) → length rest ≡ 0 → all ≡ Ok done
 unfolding numbered
-numbered-end cause f all done rest e n = e ∙ ap (λ ds. from done (numbered cause f (length done) ds)) (no_values rest n) ∙ ap Ok (append-nil done)
+numbered-end cause f n all done rest e k = e ∙ ap (λ ds. from done (numbered cause f (n + length done) ds)) (no_values rest k) ∙ ap Ok (append-nil done)
+
+-- How many items a list has.
+pub size-is : (vs : List Value) → size (items_view vs) ≡ length vs
+unfolding size
+size-is [] = refl
+size-is (v ∷ vs) = ap suc (size-is vs)
 
 pub ruleset starts = (after-none, from-none)

@@ -1,6 +1,6 @@
 -- The parameters of `workspace/executeCommand` (LSP 3.17): the command and its one argument, an object.
-use Rattle.std.specs.Prelude.{ℕ, List, codes, bytes_eq, Bool, true, ◌&&◌, is_some, Option, Some, None, option_map, Result, Ok, Err, if◌then◌else◌}
-use Rattle.serde_json.specs.Data.{Data, Num, null, boolean, number, string, array, object, Items, no_items}
+use Rattle.std.specs.Prelude.{ℕ, suc, List, codes, bytes_eq, Bool, true, ◌&&◌, is_some, Option, Some, None, option_map, Result, Ok, Err, if◌then◌else◌}
+use Rattle.serde_json.specs.Data.{Data, Num, null, boolean, number, string, array, object, Items, no_items, item}
 use Rattle.serde_json.specs.Find.{get, at, as_str}
 use Rattle.type_names.specs.Names.{is_internal}
 use Rattle.lsp_forms.specs.Forms.{optional}
@@ -112,12 +112,12 @@ unfoldable pub counts : Option (List ℕ × Num) → Bool
 counts None = true
 counts (Some p) = is_some (word p.1)
 
--- An item of `put`: the path of a file URI.
+-- An item of `put` or of `sources`: the path of a file URI.
 unfoldable pub path_from_text : Option (List ℕ) → Option (List ℕ)
 path_from_text None = None
 path_from_text (Some text) = path_of text
 
--- An item of `remove`: an internal name.
+-- An item of `remove` or of `known`: an internal name.
 unfoldable pub name_from_text : Option (List ℕ) → Option (List ℕ)
 name_from_text None = None
 name_from_text (Some text) = if is_internal true text then Some text else None
@@ -131,30 +131,54 @@ unfoldable pub use_from_pair : Option (List ℕ × Num) → Option (List ℕ × 
 use_from_pair None = None
 use_from_pair (Some p) = use_at p.0 (word p.1)
 
--- `insynth.publish`, whose items are of the right kinds: the first fault of `put`, else of `remove`, else of `counts`.
-unfoldable pub published : Result (List (List ℕ)) ParamFault → Result (List (List ℕ)) ParamFault → Result (List (List ℕ × ℕ)) ParamFault → Result Command ParamFault
-published (Err e) names uses = Err e
-published (Ok paths) (Err e) uses = Err e
-published (Ok paths) (Ok names) (Err e) = Err e
-published (Ok paths) (Ok names) (Ok uses) = Ok (Publish paths names uses)
+-- How many items a list has.
+unfoldable pub size : Items → ℕ
+size no_items = 0
+size (item d ds) = suc (size ds)
 
-unfoldable pub publish_at : Items → Items → Items → Result Command ParamFault
-publish_at puts removes counted =
-    if every is_text puts && (every is_text removes && every is_pair counted) then
+-- The paths of file URIs, the first of which has the number n.
+abbrev pub paths_at : ℕ → Items → Result (List (List ℕ)) ParamFault
+paths_at n ds = numbered 8 (λ d. path_from_text (as_str d)) n ds
+
+-- The internal names of a list, or the fault of this cause of the first item that is none.
+abbrev pub names_at : ℕ → Items → Result (List (List ℕ)) ParamFault
+names_at cause ds = numbered cause (λ d. name_from_text (as_str d)) 0 ds
+
+-- The keys and counts of a list.
+abbrev pub uses_at : Items → Result (List (List ℕ × ℕ)) ParamFault
+uses_at ds = numbered 13 (λ d. use_from_pair (pair_of d)) 0 ds
+
+-- `insynth.publish`, whose items are of the right kinds: the first fault of `put`, else of `sources`, of `remove`, of
+-- `counts`, of `known`.
+unfoldable pub published : Result (List (List ℕ)) ParamFault → Result (List (List ℕ)) ParamFault → Result (List (List ℕ)) ParamFault → Result (List (List ℕ × ℕ)) ParamFault → Result (List (List ℕ)) ParamFault → Result Command ParamFault
+published (Err e) sources names uses known = Err e
+published (Ok paths) (Err e) names uses known = Err e
+published (Ok paths) (Ok sources) (Err e) uses known = Err e
+published (Ok paths) (Ok sources) (Ok names) (Err e) known = Err e
+published (Ok paths) (Ok sources) (Ok names) (Ok uses) (Err e) = Err e
+published (Ok paths) (Ok sources) (Ok names) (Ok uses) (Ok known) = Ok (Publish paths names uses sources known)
+
+-- The items of `sources` are numbered behind those of `put`.
+unfoldable pub publish_at : Items → Items → Items → Items → Items → Result Command ParamFault
+publish_at puts removes counted sources known =
+    if every is_text puts && (every is_text removes && (every is_pair counted && (every is_text sources && every is_text known))) then
     (if every (λ d. counts (pair_of d)) counted then
-    published (numbered 8 (λ d. path_from_text (as_str d)) 0 puts) (numbered 12 (λ d. name_from_text (as_str d)) 0 removes) (numbered 13 (λ d. use_from_pair (pair_of d)) 0 counted)
+    published (paths_at 0 puts) (paths_at (size puts) sources) (names_at 12 removes) (uses_at counted) (names_at 22 known)
     else Err (fault 2))
     else Err (fault 1)
 
-unfoldable pub publish_from : Option Items → Option Items → Option Items → Result Command ParamFault
-publish_from None removes counted = Err (fault 1)
-publish_from (Some puts) None counted = Err (fault 1)
-publish_from (Some puts) (Some removes) None = Err (fault 1)
-publish_from (Some puts) (Some removes) (Some counted) = publish_at puts removes counted
+unfoldable pub publish_from : Option Items → Option Items → Option Items → Option Items → Option Items → Result Command ParamFault
+publish_from None removes counted sources known = Err (fault 1)
+publish_from (Some puts) None counted sources known = Err (fault 1)
+publish_from (Some puts) (Some removes) None sources known = Err (fault 1)
+publish_from (Some puts) (Some removes) (Some counted) None known = Err (fault 1)
+publish_from (Some puts) (Some removes) (Some counted) (Some sources) None = Err (fault 1)
+publish_from (Some puts) (Some removes) (Some counted) (Some sources) (Some known) = publish_at puts removes counted sources known
 
 unfoldable pub publish_of : Option Data → Result Command ParamFault
 publish_of None = Err (fault 1)
-publish_of (Some d) = publish_from (list_of (get (codes "put") d)) (list_of (get (codes "remove") d)) (list_of (get (codes "counts") d))
+publish_of (Some d) =
+    publish_from (list_of (get (codes "put") d)) (list_of (get (codes "remove") d)) (list_of (get (codes "counts") d)) (list_of (get (codes "sources") d)) (list_of (get (codes "known") d))
 
 -- A command by its name.
 unfoldable pub named_command : List ℕ → Option Data → Result Command ParamFault

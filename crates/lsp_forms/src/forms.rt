@@ -3,8 +3,9 @@ use lists::{Items, Text};
 
 /// Why parameters are refused: the cause, and the number in its list that it speaks of, 0 where no list
 /// is meant. The causes are 1 (missing or of the wrong kind), 2 (no whole number, or out of its range),
-/// 7 (an unknown command), 8 (no URI of a file of this host with a path in UTF-8), 12 (no internal name) and
-/// 13 (no key of a member).
+/// 7 (an unknown command), 8 (no URI of a file of this host with a path in UTF-8), 12 (no internal name among those
+/// to remove), 13 (no key of a member) and 22 (no internal name among those that are known). Files to put and source
+/// files are numbered together, the files to put first.
 #[derive(Clone, Copy, Debug, PartialEq, Eq)]
 pub struct ParamFault {
     pub cause: u32,
@@ -76,12 +77,15 @@ pub enum Command {
         cursor: u32,
         item: Option<u32>,
     },
-    /// `insynth.publish`: the decoded paths of class files to put, internal names of classes to remove,
-    /// and how often members are used, each by its key.
+    /// `insynth.publish`: the decoded paths of class files to put, internal names of classes to remove, how often
+    /// members are used, each by its key, the decoded paths of source files whose classes are put after those of
+    /// the class files, and internal names of classes that the names in them may mean.
     Publish {
         puts: Items<Text>,
         removes: Items<Text>,
         counts: Items<(Text, u32)>,
+        sources: Items<Text>,
+        known: Items<Text>,
     },
     /// `insynth.weights`: from here on these are the weights.
     SetWeights(Weights),

@@ -1,8 +1,8 @@
-ghost use Rattle.std.specs.Prelude.{◌≡◌, Ok, Err, IfOk, IfErr, is_some, Option, Some, None, option_map};
+ghost use Rattle.std.specs.Prelude.{◌≡◌, Ok, Err, IfOk, IfErr, ◌&&◌, is_some, length, Option, Some, None, option_map};
 ghost use Rattle.serde_json.specs.Find.{as_str, get};
 ghost use Rattle.serde_json.specs.View.{view, items_view, number_view};
-ghost use Rattle.lsp_forms.specs.Params.{RefusedAs, every, item_fault, numbered};
-ghost use Rattle.lsp_forms.specs.Commands.{counts, is_pair, is_text, list_of, name_from_text, pair_of, path_from_text, publish_at, publish_of, published, use_at, use_from_pair};
+ghost use Rattle.lsp_forms.specs.Params.{RefusedAs, every, item_fault};
+ghost use Rattle.lsp_forms.specs.Commands.{counts, is_pair, is_text, list_of, name_from_text, names_at, pair_of, path_from_text, paths_at, publish_at, publish_of, published, use_at, use_from_pair, uses_at};
 
 use crate::documents::kept;
 use crate::forms::{Command, ParamFault};
@@ -15,7 +15,7 @@ use serde_json::{Number, Value};
 use std::alloc::Global;
 use type_names::is_internal_name;
 
-/// An item of `put` is no URI of a file of this host, or its path isn't UTF-8.
+/// An item of `put` or of `sources` is no URI of a file of this host, or its path isn't UTF-8.
 const NO_FILE: u32 = 8;
 
 /// An item of `remove` is no internal name.
@@ -24,11 +24,14 @@ const NO_NAME: u32 = 12;
 /// An item of `counts` has no key.
 const NO_KEY: u32 = 13;
 
+/// An item of `known` is no internal name.
+const NOT_KNOWN: u32 = 22;
+
 /// The refusal of the item with this number.
-fn item_refused(cause: u32, number: usize) -> Refused<ParamFault>
+fn item_refused(cause: u32, number: u128) -> Refused<ParamFault>
     ensures { result ≡ Refused.Fault (item_fault cause number) }
 {
-    let index = number.min(u32::MAX as usize) as u32;
+    let index = number.min(u32::MAX as u128) as u32;
     Refused::Fault(ParamFault { cause, index })
 }
 
@@ -124,7 +127,7 @@ fn all_count(values: &[Value]) -> bool
     true
 }
 
-/// The path that an item of `put` names.
+/// The path that an item of `put` or of `sources` names.
 #[tactic(auto, unfolding(crate::specs::Commands::path_from_text))]
 fn path_at(alloc: Global, value: &Value) -> Result<Option<Text>, Refused<ParamFault>>
     ensures path { IfOk result (λ path. path ≡ path_from_text (as_str (view value.now))) }
@@ -136,7 +139,7 @@ fn path_at(alloc: Global, value: &Value) -> Result<Option<Text>, Refused<ParamFa
     }
 }
 
-/// The internal name that an item of `remove` is.
+/// The internal name that an item of `remove` or of `known` is.
 #[tactic(auto, unfolding(crate::specs::Commands::name_from_text))]
 fn name_at(alloc: Global, value: &Value) -> Result<Option<Text>, Refused<ParamFault>>
     ensures name { IfOk result (λ name. name ≡ name_from_text (as_str (view value.now))) }
@@ -166,17 +169,22 @@ fn use_at(alloc: Global, value: &Value) -> Result<Option<(Text, u32)>, Refused<P
     Ok(Some((kept(alloc, key)?, count as u32)))
 }
 
-/// The paths of `put`, or the fault of its first item that names no file.
+/// The paths of items, the first of which has the number `from`, or the fault of the first that names no file.
 #[tactic(auto, using(crate::proofs::Lists::starts))]
-fn paths_of(alloc: Global, values: &[Value]) -> Result<Items<Text>, Refused<ParamFault>>
-    ensures paths { IfOk result (λ paths. numbered 8 (λ d. path_from_text (as_str d)) 0 (items_view values.now) ≡ Ok paths) }
-    ensures refusal { IfErr result (λ e. RefusedAs (numbered 8 (λ d. path_from_text (as_str d)) 0 (items_view values.now)) e) }
+fn paths_of(
+    alloc: Global,
+    from: usize,
+    values: &[Value],
+) -> Result<Items<Text>, Refused<ParamFault>>
+    ensures paths { IfOk result (λ paths. paths_at from (items_view values.now) ≡ Ok paths) }
+    ensures refusal { IfErr result (λ e. RefusedAs (paths_at from (items_view values.now)) e) }
 {
     let mut paths = Items::new(alloc);
     let mut rest = values;
     while let Some((value, more)) = rest.split_first() {
         let Some(path) = path_at(alloc, value)? else {
-            return Err(item_refused(NO_FILE, paths.len()));
+            let number = from as u128 + paths.len() as u128;
+            return Err(item_refused(NO_FILE, number));
         };
         match paths.push(path) {
             Ok(()) => {}
@@ -187,17 +195,17 @@ fn paths_of(alloc: Global, values: &[Value]) -> Result<Items<Text>, Refused<Para
     Ok(paths)
 }
 
-/// The names of `remove`, or the fault of its first item that is no internal name.
+/// The names of a list, or the fault of this cause of its first item that is no internal name.
 #[tactic(auto, using(crate::proofs::Lists::starts))]
-fn names_of(alloc: Global, values: &[Value]) -> Result<Items<Text>, Refused<ParamFault>>
-    ensures names { IfOk result (λ names. numbered 12 (λ d. name_from_text (as_str d)) 0 (items_view values.now) ≡ Ok names) }
-    ensures refusal { IfErr result (λ e. RefusedAs (numbered 12 (λ d. name_from_text (as_str d)) 0 (items_view values.now)) e) }
+fn names_of(alloc: Global, cause: u32, values: &[Value]) -> Result<Items<Text>, Refused<ParamFault>>
+    ensures names { IfOk result (λ names. names_at cause (items_view values.now) ≡ Ok names) }
+    ensures refusal { IfErr result (λ e. RefusedAs (names_at cause (items_view values.now)) e) }
 {
     let mut names = Items::new(alloc);
     let mut rest = values;
     while let Some((value, more)) = rest.split_first() {
         let Some(name) = name_at(alloc, value)? else {
-            return Err(item_refused(NO_NAME, names.len()));
+            return Err(item_refused(cause, names.len() as u128));
         };
         match names.push(name) {
             Ok(()) => {}
@@ -211,14 +219,14 @@ fn names_of(alloc: Global, values: &[Value]) -> Result<Items<Text>, Refused<Para
 /// The items of `counts`, or the fault of its first item without a key.
 #[tactic(auto, using(crate::proofs::Lists::starts))]
 fn uses_of(alloc: Global, values: &[Value]) -> Result<Items<(Text, u32)>, Refused<ParamFault>>
-    ensures uses { IfOk result (λ uses. numbered 13 (λ d. use_from_pair (pair_of d)) 0 (items_view values.now) ≡ Ok uses) }
-    ensures refusal { IfErr result (λ e. RefusedAs (numbered 13 (λ d. use_from_pair (pair_of d)) 0 (items_view values.now)) e) }
+    ensures uses { IfOk result (λ uses. uses_at (items_view values.now) ≡ Ok uses) }
+    ensures refusal { IfErr result (λ e. RefusedAs (uses_at (items_view values.now)) e) }
 {
     let mut uses = Items::new(alloc);
     let mut rest = values;
     while let Some((value, more)) = rest.split_first() {
         let Some(found) = use_at(alloc, value)? else {
-            return Err(item_refused(NO_KEY, uses.len()));
+            return Err(item_refused(NO_KEY, uses.len() as u128));
         };
         match uses.push(found) {
             Ok(()) => {}
@@ -236,38 +244,64 @@ fn published(
     puts: &[Value],
     removes: &[Value],
     counted: &[Value],
+    sources: &[Value],
+    known: &[Value],
 ) -> Result<Command, Refused<ParamFault>>
-    ensures form { IfOk result (λ c. published (numbered 8 (λ d. path_from_text (as_str d)) 0 (items_view puts.now)) (numbered 12 (λ d. name_from_text (as_str d)) 0 (items_view removes.now)) (numbered 13 (λ d. use_from_pair (pair_of d)) 0 (items_view counted.now)) ≡ Ok c) }
-    ensures refusal { IfErr result (λ e. RefusedAs (published (numbered 8 (λ d. path_from_text (as_str d)) 0 (items_view puts.now)) (numbered 12 (λ d. name_from_text (as_str d)) 0 (items_view removes.now)) (numbered 13 (λ d. use_from_pair (pair_of d)) 0 (items_view counted.now))) e) }
+    ensures form { IfOk result (λ c. published (paths_at 0 (items_view puts.now)) (paths_at (length puts.now) (items_view sources.now)) (names_at 12 (items_view removes.now)) (uses_at (items_view counted.now)) (names_at 22 (items_view known.now)) ≡ Ok c) }
+    ensures refusal { IfErr result (λ e. RefusedAs (published (paths_at 0 (items_view puts.now)) (paths_at (length puts.now) (items_view sources.now)) (names_at 12 (items_view removes.now)) (uses_at (items_view counted.now)) (names_at 22 (items_view known.now))) e) }
 {
-    let puts = paths_of(alloc, puts)?;
-    let removes = names_of(alloc, removes)?;
+    let sources_from = puts.len();
+    let puts = paths_of(alloc, 0, puts)?;
+    let sources = paths_of(alloc, sources_from, sources)?;
+    let removes = names_of(alloc, NO_NAME, removes)?;
     let counts = uses_of(alloc, counted)?;
+    let known = names_of(alloc, NOT_KNOWN, known)?;
     Ok(Command::Publish {
         puts,
         removes,
         counts,
+        sources,
+        known,
     })
 }
 
-/// A publication whose three parameters are lists.
+/// Whether the items of the five lists are of the right kinds.
+fn are_right(
+    puts: &[Value],
+    removes: &[Value],
+    counted: &[Value],
+    sources: &[Value],
+    known: &[Value],
+) -> bool
+    ensures { result ≡ (every is_text (items_view puts.now) && (every is_text (items_view removes.now) && (every is_pair (items_view counted.now) && (every is_text (items_view sources.now) && every is_text (items_view known.now))))) }
+{
+    are_texts(puts)
+        && are_texts(removes)
+        && are_pairs(counted)
+        && are_texts(sources)
+        && are_texts(known)
+}
+
+/// A publication whose five parameters are lists.
 #[tactic(auto, unfolding(crate::specs::Commands::publish_at))]
 fn publish_at(
     alloc: Global,
     puts: &[Value],
     removes: &[Value],
     counted: &[Value],
+    sources: &[Value],
+    known: &[Value],
 ) -> Result<Command, Refused<ParamFault>>
-    ensures form { IfOk result (λ c. publish_at (items_view puts.now) (items_view removes.now) (items_view counted.now) ≡ Ok c) }
-    ensures refusal { IfErr result (λ e. RefusedAs (publish_at (items_view puts.now) (items_view removes.now) (items_view counted.now)) e) }
+    ensures form { IfOk result (λ c. publish_at (items_view puts.now) (items_view removes.now) (items_view counted.now) (items_view sources.now) (items_view known.now) ≡ Ok c) }
+    ensures refusal { IfErr result (λ e. RefusedAs (publish_at (items_view puts.now) (items_view removes.now) (items_view counted.now) (items_view sources.now) (items_view known.now)) e) }
 {
-    if !are_texts(puts) || !are_texts(removes) || !are_pairs(counted) {
+    if !are_right(puts, removes, counted, sources, known) {
         return Err(refused(MISSING));
     }
     if !all_count(counted) {
         return Err(refused(OUT_OF_RANGE));
     }
-    published(alloc, puts, removes, counted)
+    published(alloc, puts, removes, counted, sources, known)
 }
 
 /// The object of `insynth.publish`.
@@ -288,5 +322,11 @@ pub fn read_publish(alloc: Global, argument: Option<&Value>) -> Result<Command, 
     let Some(counted) = list_of(argument.get("counts")) else {
         return Err(refused(MISSING));
     };
-    publish_at(alloc, puts, removes, counted)
+    let Some(sources) = list_of(argument.get("sources")) else {
+        return Err(refused(MISSING));
+    };
+    let Some(known) = list_of(argument.get("known")) else {
+        return Err(refused(MISSING));
+    };
+    publish_at(alloc, puts, removes, counted, sources, known)
 }

@@ -5,8 +5,8 @@ use crate::status::Status;
 use command_line::Command;
 use std::fmt;
 
-/// What is said where memory was wanting.
-pub const NO_MEMORY: &str = "there was no memory";
+/// What is said where memory was wanting, or where a class file would take more than it may.
+pub const NO_MEMORY: &str = "more memory is needed than there is or is allowed";
 
 /// Where and why the run of a command ended as its status says, in words.
 #[derive(Clone, Copy, Debug)]
@@ -88,6 +88,7 @@ impl Reason<'_> {
             Command::Serve {
                 start: Some(_),
                 pairs: _,
+                ahead: _,
             } if self.status.end == 0 => "the messages, the start text or one of its files",
             _ => "the messages",
         };
@@ -104,7 +105,11 @@ impl Reason<'_> {
             Command::Upgrade => "the upgraded sheet",
             Command::Count { start: _ } => "the counts",
             Command::Sample { number: _ } => "the lines of the sample",
-            Command::Serve { start: _, pairs: _ } => "the replies",
+            Command::Serve {
+                start: _,
+                pairs: _,
+                ahead: _,
+            } => "the replies",
         };
         Stream {
             name,
@@ -139,7 +144,7 @@ impl fmt::Display for Reason<'_> {
             6 => f.write_str(NO_MEMORY),
             7 => write!(
                 f,
-                "{} have more than 1,099,511,627,776 bytes",
+                "{} need more than 1,099,511,627,776 bytes",
                 self.messages()
             ),
             _ => write!(

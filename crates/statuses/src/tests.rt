@@ -15,11 +15,13 @@ const SAMPLE: Command = Command::Sample { number: 1 };
 const SERVE: Command = Command::Serve {
     start: None,
     pairs: 2,
+    ahead: None,
 };
 
 const STARTED: Command = Command::Serve {
     start: Some("F"),
     pairs: 2,
+    ahead: Some(8),
 };
 
 /// A command, the code, end, place and cause of its status, and the two lines; the second is empty where there is none.
@@ -211,31 +213,31 @@ const OTHERS: [Row; 26] = [
         UPGRADE,
         (6, 0, 0, 0),
         "status 6 end 0 place 0 cause 0",
-        "there was no memory",
+        "more memory is needed than there is or is allowed",
     ),
     (
         SAMPLE,
         (6, 0, 0, 0),
         "status 6 end 0 place 0 cause 0",
-        "there was no memory",
+        "more memory is needed than there is or is allowed",
     ),
     (
         SERVE,
         (6, 1, 0, 0),
         "status 6 end 1 place 0 cause 0",
-        "there was no memory",
+        "more memory is needed than there is or is allowed",
     ),
     (
         SERVE,
         (7, 0, 0, 0),
         "status 7 end 0 place 0 cause 0",
-        "the messages have more than 1,099,511,627,776 bytes",
+        "the messages need more than 1,099,511,627,776 bytes",
     ),
     (
         SERVE,
         (7, 1, 0, 0),
         "status 7 end 1 place 0 cause 0",
-        "the messages of end 1 have more than 1,099,511,627,776 bytes",
+        "the messages of end 1 need more than 1,099,511,627,776 bytes",
     ),
     (
         STARTED,

@@ -1,4 +1,4 @@
-use Rattle.std.proofs.Common.{◌≡◌, length}
+use Rattle.std.proofs.Common.{◌≡◌, ◌+◌, length}
 use Rattle.serde_json.specs.View.{items_view}
 use Rattle.serde_json.specs.Find.{as_str}
 use Rattle.lsp_forms.specs.Commands.{name_from_text}
@@ -7,7 +7,7 @@ use Rattle.lsp_forms.proofs.Lists.{from}
 use Rattle.lsp_forms.proofs.publishing.names_of.Given as goal
 
 abbrev pub invariant-loop-value : goal.invariant-loop-value
-invariant-loop-value l = numbered 12 (λ d. name_from_text (as_str d)) 0 (items_view l.values) ≡ from l.names (numbered 12 (λ d. name_from_text (as_str d)) (length l.names) (items_view l.rest))
+invariant-loop-value l = numbered l.cause (λ d. name_from_text (as_str d)) 0 (items_view l.values) ≡ from l.names (numbered l.cause (λ d. name_from_text (as_str d)) (0 + length l.names) (items_view l.rest))
 
 abbrev pub decreases-loop-value : goal.decreases-loop-value
 decreases-loop-value l = length l.rest
