@@ -4,7 +4,7 @@ use Rattle.std.specs.Prelude.{if◌then◌else◌, Some, None}
 use Rattle.decl_index.specs.declared.change.Change.TheVariants.{Publish}
 use Rattle.json_rpc.specs.declared.message.Id.{Id}
 use Rattle.answers.specs.Cursors.{Lists}
-use Rattle.answers.specs.Asks.{Short, Enough, Lacking, Ending, Met, Loaded, classes, missing, too_long, no_class_file, unreadable, by_ask, by_short, lacking, complete, page, close, explain, change, exit, other}
+use Rattle.answers.specs.Asks.{Short, Enough, Lacking, Ending, Met, Loaded, classes, missing, too_long, no_class_file, no_text, unreadable, by_ask, by_short, lacking, complete, page, close, explain, change, exit, other}
 use Rattle.answers.specs.Turns.{next}
 use Rattle.answers.specs.Sessions.{Seen, start}
 use Rattle.answers.specs.Messages.{Meaning, asks, publishes, says, lacks, starts, stops, edits, leaves, drops, meaning_of, ask_by, ask_in, published, by_memory}
@@ -23,6 +23,7 @@ lists_published (classes puts) s id removes counts m is = ap (λ y. (by_short y 
 lists_published (missing index) s id removes counts m is = refl
 lists_published (too_long index) s id removes counts m is = refl
 lists_published (no_class_file index class_fault place) s id removes counts m is = refl
+lists_published (no_text index) s id removes counts m is = refl
 lists_published (unreadable index) s id removes counts m is = refl
 
 lists_kept : (o : Loaded) (l : Lists) (removes : List (List ℕ)) (counts : List (List ℕ × ℕ)) → l ≡ (lacking l (ask_by removes counts o)).0
@@ -30,13 +31,14 @@ lists_kept (classes puts) l removes counts = refl
 lists_kept (missing index) l removes counts = refl
 lists_kept (too_long index) l removes counts = refl
 lists_kept (no_class_file index class_fault place) l removes counts = refl
+lists_kept (no_text index) l removes counts = refl
 lists_kept (unreadable index) l removes counts = refl
 
 -- A step changes the lists as the question does.
 lists_by : (x : Short) (s : Seen) (meaning : Meaning) (m : Met) → m.short ≡ x → (by_memory x s meaning m).0.lists ≡ (by_short x s.lists (ask_in meaning m.loads) m).0
 lists_by Ending s meaning m is = refl
 lists_by Enough s (asks id ask) m is = ap (λ y. (by_short y s.lists ask m).0) is
-lists_by Enough s (publishes id names removes counts) m is = lists_published m.loads s id removes counts m is
+lists_by Enough s (publishes id files removes counts) m is = lists_published m.loads s id removes counts m is
 lists_by Enough s (says id reply) m is = refl
 lists_by Enough s (lacks id) m is = refl
 lists_by Enough s (starts id options) m is = refl
@@ -51,7 +53,7 @@ lists_by Lacking s (asks id (explain k item)) m is = refl
 lists_by Lacking s (asks id (change c)) m is = refl
 lists_by Lacking s (asks id exit) m is = refl
 lists_by Lacking s (asks id other) m is = refl
-lists_by Lacking s (publishes id names removes counts) m is = lists_kept m.loads s.lists removes counts
+lists_by Lacking s (publishes id files removes counts) m is = lists_kept m.loads s.lists removes counts
 lists_by Lacking s (says None reply) m is = refl
 lists_by Lacking s (says (Some id) reply) m is = refl
 lists_by Lacking s (lacks id) m is = refl

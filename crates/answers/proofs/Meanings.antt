@@ -38,7 +38,7 @@ IsQuestion other = ⊥
 
 abbrev pub CanBe : Meaning → Type 0
 CanBe (asks id ask) = IsQuestion ask
-CanBe (publishes id names removes counts) = Unit {0}
+CanBe (publishes id files removes counts) = Unit {0}
 CanBe (says id reply) = IsPlain reply
 CanBe (lacks id) = Unit {0}
 CanBe (starts id options) = Unit {0}
@@ -70,7 +70,7 @@ command_form id (Err f) = tt
 command_form id (Ok (command.Page cursor count)) = tt
 command_form id (Ok (command.Close cursor)) = tt
 command_form id (Ok (command.Explain cursor item)) = tt
-command_form id (Ok (command.Publish names removes counts)) = tt
+command_form id (Ok (command.Publish puts removes counts sources known)) = tt
 command_form id (Ok (command.Withdraw through)) = tt
 command_form id (Ok (command.SetWeights weights)) = tt
 

@@ -13,7 +13,7 @@ use Rattle.answers.specs.declared.types.Cursor.{Cursor}
 use Rattle.terms.specs.Expr.{Expr}
 use Rattle.answers.specs.Failures.{invalid_params, no_class, read_fault}
 use Rattle.answers.specs.Cursors.{Lists, look, with_cursor}
-use Rattle.answers.specs.Asks.{Ask, complete, page, close, explain, change, exit, other, Short, Enough, Lacking, Ending, Met, Loaded, classes, missing, too_long, no_class_file, unreadable, Answer, opened, turned, withdrawn, explained, accepted, refused, quiet, ended, new_cursor, is_used_up, completed_at, completed, turned_or, paged, spelled_or, item_explained, explained_by, explained_in, changed, by_ask, by_short, lacking}
+use Rattle.answers.specs.Asks.{Ask, complete, page, close, explain, change, exit, other, Short, Enough, Lacking, Ending, Met, Loaded, classes, missing, too_long, no_class_file, no_text, unreadable, Answer, opened, turned, withdrawn, explained, accepted, refused, quiet, ended, new_cursor, is_used_up, completed_at, completed, turned_or, paged, spelled_or, item_explained, explained_by, explained_in, changed, by_ask, by_short, lacking}
 use Rattle.answers.specs.Turns.{answer, next, answers_to}
 use Rattle.answers.specs.Sessions.{Seen}
 use Rattle.answers.specs.Replies.{result, failure, reply_text, without_list, not_explained, quiet_reply, reply_of}
@@ -124,6 +124,7 @@ published_tell (classes puts) s id removes counts m is = asks_tell m.short s.lis
 published_tell (missing index) s id removes counts m is = record { id = Some id; reply = failure (invalid_params 9 index); is = refl; plain = tt }
 published_tell (too_long index) s id removes counts m is = record { id = Some id; reply = failure (invalid_params 10 index); is = refl; plain = tt }
 published_tell (no_class_file index class_fault place) s id removes counts m is = record { id = Some id; reply = failure (no_class index class_fault place); is = refl; plain = tt }
+published_tell (no_text index) s id removes counts m is = record { id = Some id; reply = failure (invalid_params 21 index); is = refl; plain = tt }
 published_tell (unreadable index) s id removes counts m is = record { id = Some id; reply = failure (read_fault index); is = refl; plain = tt }
 
 -- Where memory is wanting nothing is told.
@@ -132,12 +133,13 @@ lacking_tell (classes puts) l id removes counts = tt
 lacking_tell (missing index) l id removes counts = tt
 lacking_tell (too_long index) l id removes counts = tt
 lacking_tell (no_class_file index class_fault place) l id removes counts = tt
+lacking_tell (no_text index) l id removes counts = tt
 lacking_tell (unreadable index) l id removes counts = tt
 
 tells_by : (x : Short) (s : Seen) (meaning : Meaning) (m : Met) → m.short ≡ x → CanBe meaning → Tells (by_short x s.lists (ask_in meaning m.loads) m).1 (by_memory x s meaning m).1
 tells_by Ending s meaning m is can = tt
 tells_by Enough s (asks id ask) m is can = asks_tell m.short s.lists m id ask is can
-tells_by Enough s (publishes id names removes counts) m is can = published_tell m.loads s id removes counts m is
+tells_by Enough s (publishes id files removes counts) m is can = published_tell m.loads s id removes counts m is
 tells_by Enough s (says id reply) m is can = record { id = id; reply = reply; is = refl; plain = can }
 tells_by Enough s (lacks id) m is can = tt
 tells_by Enough s (starts id options) m is can = record { id = Some id; reply = result capabilities; is = refl; plain = inr refl }
@@ -152,7 +154,7 @@ tells_by Lacking s (asks id (explain k item)) m is can = tt
 tells_by Lacking s (asks id (change c)) m is can = tt
 tells_by Lacking s (asks id exit) m is can = absurd can
 tells_by Lacking s (asks id other) m is can = absurd can
-tells_by Lacking s (publishes id names removes counts) m is can = lacking_tell m.loads s.lists id removes counts
+tells_by Lacking s (publishes id files removes counts) m is can = lacking_tell m.loads s.lists id removes counts
 tells_by Lacking s (says None reply) m is can = tt
 tells_by Lacking s (says (Some id) reply) m is can = tt
 tells_by Lacking s (lacks id) m is can = tt

@@ -35,13 +35,15 @@ pub data Short : Type 0 where
   Lacking : Short
   Ending : Short
 
--- What the files of a publication gave: their classes in order; or of the first that gave none its number and why: it wasn't
--- there, was too long, was no class file, with the fault's number and place, or couldn't be read.
+-- What the files of a publication gave: the classes that it puts, in order; or the number of the first file that gave nothing and
+-- why: it wasn't there, was too long, was no class file, with the fault's number and place, was a source that isn't UTF-8, or
+-- couldn't be read. Files are numbered through class files and then sources.
 pub data Loaded : Type 0 where
   classes : List ClassSummary → Loaded
   missing : (index : ℕ) → Loaded
   too_long : (index : ℕ) → Loaded
   no_class_file : (index class_fault place : ℕ) → Loaded
+  no_text : (index : ℕ) → Loaded
   unreadable : (index : ℕ) → Loaded
 
 -- What a message met outside the session: the history at which it is decided, what its files gave, the site of its hole, its

@@ -24,8 +24,9 @@ use Rattle.answers.specs.declared.types.Phase.TheVariants.{Fresh, Running, Stopp
 use Rattle.answers.specs.declared.types.DocumentState.{DocumentState}
 use Rattle.answers.specs.declared.types.DocumentState.TheVariants.{Sure, Unsure, NoMemory}
 use Rattle.answers.specs.declared.types.OpenDocument.{OpenDocument}
+use Rattle.answers.specs.declared.types.NamedFiles.{NamedFiles}
 use Rattle.answers.specs.Failures.{Failure, parse_error, invalid_request, unknown_method, not_initialized, invalid_params, no_class, read_fault}
-use Rattle.answers.specs.Asks.{Ask, complete, page, close, explain, change, exit, other, Loaded, classes, missing, too_long, no_class_file, unreadable, Short, Enough, Lacking, Ending, Met, list_answer_to}
+use Rattle.answers.specs.Asks.{Ask, complete, page, close, explain, change, exit, other, Loaded, classes, missing, too_long, no_class_file, no_text, unreadable, Short, Enough, Lacking, Ending, Met, list_answer_to}
 use Rattle.answers.specs.Sessions.{Seen, document_of, with_document, without_document, state_of, state_by}
 use Rattle.answers.specs.Replies.{Reply, result, failure, reply_text, reply_of}
 
@@ -35,12 +36,16 @@ pub data DocumentEdit : Type 0 where
   changing : (changes : Option (List ChangeForm)) → DocumentEdit
   closing : DocumentEdit
 
--- What a message means in a session: a request about lists and versions; a publication, which names its files; a request that
--- the session alone answers, where a message that shows no id has none; a request in a document for which memory was wanting;
--- `initialize` and `shutdown`; a notification of a document; `exit`; or nothing.
+-- What a message names that is no publication.
+abbrev pub no_files : NamedFiles
+no_files = record { puts = []; sources = []; known = [] }
+
+-- What a message means in a session: a request about lists and versions; a publication, which names its files and the classes
+-- that its sources may mean; a request that the session alone answers, where a message that shows no id has none; a request in a
+-- document for which memory was wanting; `initialize` and `shutdown`; a notification of a document; `exit`; or nothing.
 pub data Meaning : Type 0 where
   asks : (id : Id) (ask : Ask) → Meaning
-  publishes : (id : Id) (names removes : List (List ℕ)) (counts : List (List ℕ × ℕ)) → Meaning
+  publishes : (id : Id) (files : NamedFiles) (removes : List (List ℕ)) (counts : List (List ℕ × ℕ)) → Meaning
   says : (id : Option Id) (reply : Reply) → Meaning
   lacks : (id : Id) → Meaning
   starts : (id : Id) (options : Initialize) → Meaning
@@ -77,7 +82,7 @@ command_by id (Err f) = fault_of id f
 command_by id (Ok (command.Page cursor count)) = asks id (page cursor count)
 command_by id (Ok (command.Close cursor)) = asks id (close cursor)
 command_by id (Ok (command.Explain cursor item)) = asks id (explain cursor item)
-command_by id (Ok (command.Publish names removes counts)) = publishes id names removes counts
+command_by id (Ok (command.Publish puts removes counts sources known)) = publishes id (record { puts = puts; sources = sources; known = known }) removes counts
 command_by id (Ok (command.Withdraw through)) = asks id (change (Withdraw through))
 command_by id (Ok (command.SetWeights weights)) = asks id (change (SetWeights weights))
 
@@ -151,29 +156,30 @@ abbrev pub meaning_of : Seen → List ℕ → Meaning
 meaning_of s body = meaning_in s (message_of body)
 
 -- The files that it names.
-abbrev pub files_in : Meaning → List (List ℕ)
-files_in (asks id ask) = []
-files_in (publishes id names removes counts) = names
-files_in (says id reply) = []
-files_in (lacks id) = []
-files_in (starts id options) = []
-files_in (stops id) = []
-files_in (edits uri edit) = []
-files_in leaves = []
-files_in drops = []
+abbrev pub files_in : Meaning → NamedFiles
+files_in (asks id ask) = no_files
+files_in (publishes id files removes counts) = files
+files_in (says id reply) = no_files
+files_in (lacks id) = no_files
+files_in (starts id options) = no_files
+files_in (stops id) = no_files
+files_in (edits uri edit) = no_files
+files_in leaves = no_files
+files_in drops = no_files
 
--- A publication asks for a change where each of its files gave a class.
+-- A publication asks for a change where none of its files gave nothing.
 abbrev pub ask_by : List (List ℕ) → List (List ℕ × ℕ) → Loaded → Ask
 ask_by removes counts (classes puts) = change (Publish puts removes counts)
 ask_by removes counts (missing index) = other
 ask_by removes counts (too_long index) = other
 ask_by removes counts (no_class_file index class_fault place) = other
+ask_by removes counts (no_text index) = other
 ask_by removes counts (unreadable index) = other
 
 -- What it asks of lists and versions, where its files gave this.
 abbrev pub ask_in : Meaning → Loaded → Ask
 ask_in (asks id ask) loads = ask
-ask_in (publishes id names removes counts) loads = ask_by removes counts loads
+ask_in (publishes id files removes counts) loads = ask_by removes counts loads
 ask_in (says id reply) loads = other
 ask_in (lacks id) loads = other
 ask_in (starts id options) loads = other
@@ -214,18 +220,19 @@ asked s id ask m = (
 abbrev pub said : Seen → Option Id → Reply → Seen × Outcome
 said s id reply = (s, replied (reply_text id reply))
 
--- A publication is answered by its change, or by the first of its files that gave no class.
+-- A publication is answered by its change, or by the first of its files that gave nothing.
 abbrev pub published : Seen → Id → List (List ℕ) → List (List ℕ × ℕ) → Met → Loaded → Seen × Outcome
 published s id removes counts m (classes puts) = asked s id (change (Publish puts removes counts)) m
 published s id removes counts m (missing index) = said s (Some id) (failure (invalid_params 9 index))
 published s id removes counts m (too_long index) = said s (Some id) (failure (invalid_params 10 index))
 published s id removes counts m (no_class_file index class_fault place) = said s (Some id) (failure (no_class index class_fault place))
+published s id removes counts m (no_text index) = said s (Some id) (failure (invalid_params 21 index))
 published s id removes counts m (unreadable index) = said s (Some id) (failure (read_fault index))
 
 -- The session and the outcome, where memory isn't wanting.
 abbrev pub enough_for : Seen → Meaning → Met → Seen × Outcome
 enough_for s (asks id ask) m = asked s id ask m
-enough_for s (publishes id names removes counts) m = published s id removes counts m m.loads
+enough_for s (publishes id files removes counts) m = published s id removes counts m m.loads
 enough_for s (says id reply) m = said s id reply
 enough_for s (lacks id) m = (s, no_memory id)
 enough_for s (starts id options) m = (record s { phase = Running; options = options }, replied (reply_text (Some id) (result capabilities)))
@@ -238,7 +245,7 @@ enough_for s drops m = (s, silent)
 -- the id null ends the session.
 abbrev pub lacking_for : Seen → Meaning → Seen × Outcome
 lacking_for s (asks id ask) = (s, no_memory id)
-lacking_for s (publishes id names removes counts) = (s, no_memory id)
+lacking_for s (publishes id files removes counts) = (s, no_memory id)
 lacking_for s (says None reply) = (s, lost)
 lacking_for s (says (Some id) reply) = (s, no_memory id)
 lacking_for s (lacks id) = (s, no_memory id)

@@ -8,4 +8,4 @@ mod laws;
 mod types;
 
 pub use laws::answer_laws;
-pub use types::{Cursor, DocumentState, Hole, OpenDocument, Page, Phase};
+pub use types::{Cursor, DocumentState, Hole, NamedFiles, OpenDocument, Page, Phase};

@@ -35,6 +35,15 @@ pub struct Cursor {
     pub answered: u64,
 }
 
+/// What a publication names: the paths of class files, those of source files, and the internal names of classes that
+/// names in the source files may mean.
+#[derive(Drop)]
+pub struct NamedFiles {
+    pub puts: Items<Text>,
+    pub sources: Items<Text>,
+    pub known: Items<Text>,
+}
+
 /// How far a session has come: before `initialize` was answered, between, and after `shutdown` was answered.
 #[derive(Clone, Copy, Debug)]
 pub enum Phase {

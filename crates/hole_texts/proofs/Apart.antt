@@ -17,7 +17,7 @@ use Rattle.java_shapes.specs.Readable.{IsReadable, IsApart}
 use Rattle.offers.specs.Scenes.{Scene}
 use Rattle.offers.specs.Omissions.{after_three}
 use Rattle.offers.specs.Functional.{faces}
-use Rattle.offers.specs.Types.{types_of}
+use Rattle.scopes.specs.Kinds.{kinds_of}
 use Rattle.offers.specs.Offers.{IsSceneAt}
 use Rattle.scopes.specs.Holes.{IsHoleIn}
 use Rattle.scopes.specs.Declarations.{decls_of}
@@ -55,9 +55,9 @@ unfolding environment_of
 both-by v limit depth s texts =
     let ms = after_three v in
     let fs = faces v in
-    let ts = types_of v ms fs in
+    let ks = kinds_of v ms fs in
     let o = are-origins v limit depth s texts in
-    (readable-by v ts ms (decls_of v ts ms fs) limit depth o, told-by v ts ms (decls_of v ts ms fs) limit depth o)
+    (readable-by v ks ms (decls_of v ks ms fs) limit depth o, told-by v ks ms (decls_of v ks ms fs) limit depth o)
 
 both : (g : Parts) → IsOfHole g → Both g
 both g h =

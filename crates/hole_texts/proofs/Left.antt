@@ -14,47 +14,48 @@ use Rattle.offers.specs.declared.member.Member.{Member}
 use Rattle.offers.specs.Candidates.{same_kind, is_static, is_private}
 use Rattle.offers.specs.Omissions.{same_types, is_kin, is_again, is_under, meet, is_other, crowds, is_crowded, needs_owner, is_written, after_four, after_five, owner_text, taken_names, prefixes, field_texts, is_hidden}
 use Rattle.offers.proofs.Descriptors.{field-one}
+use Rattle.scopes.specs.Kinds.{Kinds}
 use Rattle.hole_texts.proofs.Pairs.{Each2, all-on, all-both, all-filter, each-filter}
 use Rattle.hole_texts.proofs.Paths.{IsFront, front-joined}
 use Rattle.hole_texts.proofs.Members.{IsIn, every-in, IsMember, Differ}
 
 -- the type stands among these
-abbrev pub Stands : List Erased → Erased → Type 0
-Stands ts t = list_any (same_type t) ts ≡ true
+abbrev pub Stands : Kinds → Erased → Type 0
+Stands ks t = list_any (same_type t) ks.types ≡ true
 
 -- of a member that is left, where these are the types, and the members after three omissions
-pub record IsLeft (v : Scene) (ts : List Erased) (ms : List Member) (m : Member) : Type 0 where
+pub record IsLeft (v : Scene) (ks : Kinds) (ms : List Member) (m : Member) : Type 0 where
   pub member : IsMember v m
-  pub own : Stands ts (of_class m.owner)
-  pub params : AllByRecursion (Stands ts) m.params
+  pub own : Stands ks (of_class m.owner)
+  pub params : AllByRecursion (Stands ks) m.params
   pub among : IsIn ms m
-  pub written : is_written v (is_crowded v ts ms m) m ≡ true
-  pub four : IsIn (after_four v ts ms) m
-  pub shown : is_hidden v (taken_names v) (field_texts v (after_four v ts ms)) m ≡ false
+  pub written : is_written v (is_crowded v ks.types ms m) m ≡ true
+  pub four : IsIn (after_four v ks.types ms) m
+  pub shown : is_hidden v (taken_names v) (field_texts v (after_four v ks.types ms)) m ≡ false
 
 -- of one before the omissions by texts
-pub record IsKnown (v : Scene) (ts : List Erased) (m : Member) : Type 0 where
+pub record IsKnown (v : Scene) (ks : Kinds) (m : Member) : Type 0 where
   pub member : IsMember v m
-  pub own : Stands ts (of_class m.owner)
-  pub params : AllByRecursion (Stands ts) m.params
+  pub own : Stands ks (of_class m.owner)
+  pub params : AllByRecursion (Stands ks) m.params
 
-pub five-left : (v : Scene) (ts : List Erased) (ms : List Member) → AllByRecursion (IsKnown v ts) ms → AllByRecursion (IsLeft v ts ms) (after_five v ts ms)
+pub five-left : (v : Scene) (ks : Kinds) (ms : List Member) → AllByRecursion (IsKnown v ks) ms → AllByRecursion (IsLeft v ks ms) (after_five v ks.types ms)
 unfolding after_five after_four
-five-left v ts ms h =
-    let test : Member → Bool = λ m. is_written v (is_crowded v ts ms m) m in
+five-left v ks ms h =
+    let test : Member → Bool = λ m. is_written v (is_crowded v ks.types ms m) m in
     let four = filter test ms in
-    let a = all-filter (λ m. IsKnown v ts m × IsIn ms m) test ms (all-both (IsKnown v ts) (IsIn ms) ms h (every-in ms)) in
-    let b = all-both (λ m. (IsKnown v ts m × IsIn ms m) × (test m ≡ true)) (IsIn four) four a (every-in four) in
+    let a = all-filter (λ m. IsKnown v ks m × IsIn ms m) test ms (all-both (IsKnown v ks) (IsIn ms) ms h (every-in ms)) in
+    let b = all-both (λ m. (IsKnown v ks m × IsIn ms m) × (test m ≡ true)) (IsIn four) four a (every-in four) in
     let shows : Member → Bool = λ m. not (is_hidden v (taken_names v) (field_texts v four) m) in
-    let c = all-filter (λ m. ((IsKnown v ts m × IsIn ms m) × (test m ≡ true)) × IsIn four m) shows four b in
-    all-on (λ m. (((IsKnown v ts m × IsIn ms m) × (test m ≡ true)) × IsIn four m) × (shows m ≡ true)) (IsLeft v ts ms)
+    let c = all-filter (λ m. ((IsKnown v ks m × IsIn ms m) × (test m ≡ true)) × IsIn four m) shows four b in
+    all-on (λ m. (((IsKnown v ks m × IsIn ms m) × (test m ≡ true)) × IsIn four m) × (shows m ≡ true)) (IsLeft v ks ms)
     (λ m k. record { member = k.0.0.0.0.member; own = k.0.0.0.0.own; params = k.0.0.0.0.params; among = k.0.0.0.1; written = k.0.0.1; four = k.0.1; shown = not-true (is_hidden v (taken_names v) (field_texts v four) m) k.1 })
     (filter shows four) c
 
-pub five-differ : (v : Scene) (ts : List Erased) (ms : List Member) → Each2 Differ ms → Each2 Differ (after_five v ts ms)
+pub five-differ : (v : Scene) (ks : Kinds) (ms : List Member) → Each2 Differ ms → Each2 Differ (after_five v ks.types ms)
 unfolding after_five after_four
-five-differ v ts ms h =
-    let test : Member → Bool = λ m. is_written v (is_crowded v ts ms m) m in
+five-differ v ks ms h =
+    let test : Member → Bool = λ m. is_written v (is_crowded v ks.types ms m) m in
     let four = filter test ms in
     each-filter Differ (λ m. not (is_hidden v (taken_names v) (field_texts v four) m)) four (each-filter Differ test ms h)
 
@@ -121,11 +122,11 @@ other-test m n h = not_from_false (bytes_eq m.owner n.owner && same_types m.para
     (false_from_ne_true (bytes_eq m.owner n.owner && same_types m.params n.params) (λ e. let k = and_parts (bytes_eq m.owner n.owner) (same_types m.params n.params) e in h ((bytes_eq-Decides m.owner n.owner).0 k.0) (same-types m.params n.params k.1)))
 
 -- crowding
-pub crowded : (v : Scene) (ts : List Erased) (ms : List Member) (m n : Member) → IsIn ms n → AreKin m n → length m.params ≡ length n.params → AreOthers m n → meet v ts m n ≡ true → is_crowded v ts ms m ≡ true
+pub crowded : (v : Scene) (ks : Kinds) (ms : List Member) (m n : Member) → IsIn ms n → AreKin m n → length m.params ≡ length n.params → AreOthers m n → meet v ks.types m n ≡ true → is_crowded v ks.types ms m ≡ true
 unfolding is_crowded
-crowded v ts ms m n i h l o e =
-    or_right (is_private m) (list_any (crowds v ts m) ms) (i (crowds v ts m)
-    (and_from ((is_kin m n && (length m.params == length n.params)) && is_other m n) (meet v ts m n)
+crowded v ks ms m n i h l o e =
+    or_right (is_private m) (list_any (crowds v ks.types m) ms) (i (crowds v ks.types m)
+    (and_from ((is_kin m n && (length m.params == length n.params)) && is_other m n) (meet v ks.types m n)
     (and_from (is_kin m n && (length m.params == length n.params)) (is_other m n) (and_from (is_kin m n) (length m.params == length n.params) (kin-test m n h) (eq-eqb (length m.params) (length n.params) l)) (other-test m n o)) e))
 
 any-same : {A : Type 0} (p q : A → Bool) (xs : List A) → ((x : A) → p x ≡ true → q x ≡ true) → list_any p xs ≡ true → list_any q xs ≡ true
@@ -135,17 +136,17 @@ any-same p q (x ∷ xs) f e = elim (or_cases (p x) (list_any p xs) e) [
   | inr b ↦ or_right (q x) (list_any q xs) (any-same p q xs f b)
 ]
 
-pub meet-turn : (v : Scene) (ts : List Erased) (m n : Member) → meet v ts m n ≡ true → meet v ts n m ≡ true
-meet-turn v ts m n e = any-same (is_under v m n) (is_under v n m) ts (λ t k. let h = and_parts (at_or_below v t (of_class m.owner)) (at_or_below v t (of_class n.owner)) k in and_from (at_or_below v t (of_class n.owner)) (at_or_below v t (of_class m.owner)) h.1 h.0) e
+pub meet-turn : (v : Scene) (ks : Kinds) (m n : Member) → meet v ks.types m n ≡ true → meet v ks.types n m ≡ true
+meet-turn v ks m n e = any-same (is_under v m n) (is_under v n m) ks.types (λ t k. let h = and_parts (at_or_below v t (of_class m.owner)) (at_or_below v t (of_class n.owner)) k in and_from (at_or_below v t (of_class n.owner)) (at_or_below v t (of_class m.owner)) h.1 h.0) e
 
-pub stands-any : (ts : List Erased) (t : Erased) (p : Erased → Bool) → Stands ts t → p t ≡ true → list_any p ts ≡ true
-stands-any ts t p h e = any-same (same_type t) p ts (λ u k. subst (λ x. p x ≡ true) (same-type t u k) e) h
+pub stands-any : (ks : Kinds) (t : Erased) (p : Erased → Bool) → Stands ks t → p t ≡ true → list_any p ks.types ≡ true
+stands-any ks t p h e = any-same (same_type t) p ks.types (λ u k. subst (λ x. p x ≡ true) (same-type t u k) e) h
 
-pub meet-own : (v : Scene) (ts : List Erased) (m n : Member) → Stands ts (of_class m.owner) → m.owner ≡ n.owner → meet v ts m n ≡ true
-meet-own v ts m n h o =
+pub meet-own : (v : Scene) (ks : Kinds) (m n : Member) → Stands ks (of_class m.owner) → m.owner ≡ n.owner → meet v ks.types m n ≡ true
+meet-own v ks m n h o =
     let t = of_class m.owner in
     let a : at_or_below v t t ≡ true = or_left (same_type t t) (v.below t t) (type-same t) in
-    stands-any ts t (is_under v m n) h (and_from (at_or_below v t (of_class m.owner)) (at_or_below v t (of_class n.owner)) a (subst (λ w. at_or_below v t (of_class w) ≡ true) o a))
+    stands-any ks t (is_under v m n) h (and_from (at_or_below v t (of_class m.owner)) (at_or_below v t (of_class n.owner)) a (subst (λ w. at_or_below v t (of_class w) ≡ true) o a))
 
 pub at-or-below : (v : Scene) (t u : Erased) → (t ≡ u) ⊎ (v.below t u ≡ true) → at_or_below v t u ≡ true
 at-or-below v t u (inl e) = or_left (same_type t u) (v.below t u) (subst (λ x. same_type t x ≡ true) e (type-same t))

@@ -17,7 +17,8 @@ use Rattle.offers.specs.Scenes.{Scene, edited, of_class, denoted, is_among}
 use Rattle.offers.specs.Spellings.{class_spelling}
 use Rattle.offers.specs.Omissions.{after_five, scope_names}
 use Rattle.offers.specs.Functional.{of_base}
-use Rattle.offers.specs.Types.{string_type, number_in}
+use Rattle.offers.specs.Types.{string_type}
+use Rattle.scopes.specs.Kinds.{Kinds, type_number}
 use Rattle.offers.specs.declared.member.Member.{Member}
 use Rattle.offers.specs.declared.member.Face.{Face}
 use Rattle.scopes.specs.Binders.{form_text}
@@ -37,9 +38,9 @@ pub record IsSite (v : Scene) : Type 0 where
   pub class : v.site.class < length v.unit.classes
 
 -- `this`, a variable, a literal, a lambda
-pub record IsThis (v : Scene) (ts : List Erased) (d : Decl) : Type 0 where
+pub record IsThis (v : Scene) (ks : Kinds) (d : Decl) : Type 0 where
   pub form : d.form ≡ This
-  pub result : d.result ≡ number_in ts (of_class (edited v))
+  pub result : d.result ≡ type_number ks (of_class (edited v))
   pub plain : d.crowded ≡ false
 
 pub record IsLocal (v : Scene) (d : Decl) : Type 0 where
@@ -64,40 +65,40 @@ pub record IsLambda (v : Scene) (d : Decl) : Type 0 where
   pub plain : d.crowded ≡ false
 
 -- a member that is left, with the text of its form
-pub record IsShown (v : Scene) (ts : List Erased) (ms : List Member) (m : Member) : Type 0 where
-  pub left : IsLeft v ts ms m
-  pub utf8 : IsUtf8 (form_text (member_decl v ts ms m).form)
+pub record IsShown (v : Scene) (ks : Kinds) (ms : List Member) (m : Member) : Type 0 where
+  pub left : IsLeft v ks ms m
+  pub utf8 : IsUtf8 (form_text (member_decl v ks ms m).form)
 
-pub record IsMade (v : Scene) (ts : List Erased) (ms : List Member) (d : Decl) : Type 0 where
+pub record IsMade (v : Scene) (ks : Kinds) (ms : List Member) (d : Decl) : Type 0 where
   pub member : Member
-  pub shown : IsShown v ts ms member
-  pub is : d ≡ member_decl v ts ms member
+  pub shown : IsShown v ks ms member
+  pub is : d ≡ member_decl v ks ms member
 
-pub data Origin (v : Scene) (ts : List Erased) (ms : List Member) (d : Decl) : Type 0 where
-  this : IsThis v ts d → Origin v ts ms d
-  local : IsLocal v d → Origin v ts ms d
-  literal : IsLiteral d → Origin v ts ms d
-  made : IsMade v ts ms d → Origin v ts ms d
-  lambda : IsLambda v d → Origin v ts ms d
+pub data Origin (v : Scene) (ks : Kinds) (ms : List Member) (d : Decl) : Type 0 where
+  this : IsThis v ks d → Origin v ks ms d
+  local : IsLocal v d → Origin v ks ms d
+  literal : IsLiteral d → Origin v ks ms d
+  made : IsMade v ks ms d → Origin v ks ms d
+  lambda : IsLambda v d → Origin v ks ms d
 
 abbrev pub HasText : Decl → Type 0
 HasText d = IsUtf8 (form_text d.form)
 
 -- the parts of the declarations
-abbrev pub this_decls : Scene → List Erased → List Decl
-this_decls v ts = if v.site.is_static then [] else simple_decl ts This (of_class (edited v)) v.weights.local ∷ []
+abbrev pub this_decls : Scene → Kinds → List Decl
+this_decls v ks = if v.site.is_static then [] else simple_decl ks This (of_class (edited v)) v.weights.local ∷ []
 
-abbrev pub local_decl : Scene → List Erased → Local → Decl
-local_decl v ts l = simple_decl ts (Name l.name) (denoted v l.kind) v.weights.local
+abbrev pub local_decl : Scene → Kinds → Local → Decl
+local_decl v ks l = simple_decl ks (Name l.name) (denoted v l.kind) v.weights.local
 
-abbrev pub local_decls : Scene → List Erased → List Decl
-local_decls v ts = map (local_decl v ts) v.site.locals
+abbrev pub local_decls : Scene → Kinds → List Decl
+local_decls v ks = map (local_decl v ks) v.site.locals
 
-abbrev pub member_decls : Scene → List Erased → List Member → List Decl
-member_decls v ts ms = map (member_decl v ts ms) (after_five v ts ms)
+abbrev pub member_decls : Scene → Kinds → List Member → List Decl
+member_decls v ks ms = map (member_decl v ks ms) (after_five v ks.types ms)
 
-abbrev pub face_decls : Scene → List Erased → List Face → List Decl
-face_decls v ts fs = map (face_decl v ts) fs
+abbrev pub face_decls : Scene → Kinds → List Face → List Decl
+face_decls v ks fs = map (face_decl v ks) fs
 
 pub all-left : {A : Type 0} (P : A → Type 0) (xs ys : List A) → AllByRecursion P (xs ++ ys) → AllByRecursion P xs
 all-left P [] ys h = tt
@@ -116,29 +117,29 @@ all-from P [] f = tt
 all-from P (x ∷ xs) f = (f zero x refl, all-from P xs (λ i y e. f (suc i) y e))
 
 -- each of them has a text
-pub record HaveTexts (v : Scene) (ts : List Erased) (ms : List Member) (fs : List Face) : Type 0 where
-  pub locals : AllByRecursion (λ l. HasText (local_decl v ts l)) v.site.locals
-  pub members : AllByRecursion (λ m. HasText (member_decl v ts ms m)) (after_five v ts ms)
-  pub faces : AllByRecursion (λ f. HasText (face_decl v ts f)) fs
+pub record HaveTexts (v : Scene) (ks : Kinds) (ms : List Member) (fs : List Face) : Type 0 where
+  pub locals : AllByRecursion (λ l. HasText (local_decl v ks l)) v.site.locals
+  pub members : AllByRecursion (λ m. HasText (member_decl v ks ms m)) (after_five v ks.types ms)
+  pub faces : AllByRecursion (λ f. HasText (face_decl v ks f)) fs
 
-pub have-texts : (v : Scene) (ts : List Erased) (ms : List Member) (fs : List Face) → AllByRecursion HasText (decls_of v ts ms fs) → HaveTexts v ts ms fs
+pub have-texts : (v : Scene) (ks : Kinds) (ms : List Member) (fs : List Face) → AllByRecursion HasText (decls_of v ks ms fs) → HaveTexts v ks ms fs
 unfolding decls_of
-have-texts v ts ms fs h =
-    let upper = all-left HasText (((this_decls v ts ++ local_decls v ts) ++ declarations.literals v ts) ++ member_decls v ts ms) (face_decls v ts fs) h in
-    let site = all-left HasText ((this_decls v ts ++ local_decls v ts) ++ declarations.literals v ts) (member_decls v ts ms) upper in
+have-texts v ks ms fs h =
+    let upper = all-left HasText (((this_decls v ks ++ local_decls v ks) ++ declarations.literals v ks) ++ member_decls v ks ms) (face_decls v ks fs) h in
+    let site = all-left HasText ((this_decls v ks ++ local_decls v ks) ++ declarations.literals v ks) (member_decls v ks ms) upper in
     record {
-      locals = all-unmap HasText (local_decl v ts) v.site.locals (all-right HasText (this_decls v ts) (local_decls v ts) (all-left HasText (this_decls v ts ++ local_decls v ts) (declarations.literals v ts) site));
-      members = all-unmap HasText (member_decl v ts ms) (after_five v ts ms) (all-right HasText ((this_decls v ts ++ local_decls v ts) ++ declarations.literals v ts) (member_decls v ts ms) upper);
-      faces = all-unmap HasText (face_decl v ts) fs (all-right HasText (((this_decls v ts ++ local_decls v ts) ++ declarations.literals v ts) ++ member_decls v ts ms) (face_decls v ts fs) h);
+      locals = all-unmap HasText (local_decl v ks) v.site.locals (all-right HasText (this_decls v ks) (local_decls v ks) (all-left HasText (this_decls v ks ++ local_decls v ks) (declarations.literals v ks) site));
+      members = all-unmap HasText (member_decl v ks ms) (after_five v ks.types ms) (all-right HasText ((this_decls v ks ++ local_decls v ks) ++ declarations.literals v ks) (member_decls v ks ms) upper);
+      faces = all-unmap HasText (face_decl v ks) fs (all-right HasText (((this_decls v ks ++ local_decls v ks) ++ declarations.literals v ks) ++ member_decls v ks ms) (face_decls v ks fs) h);
     }
 
 -- the origin of each
-these-if : (b : Bool) (v : Scene) (ts : List Erased) → AllByRecursion (IsThis v ts) (if b then [] else simple_decl ts This (of_class (edited v)) v.weights.local ∷ [])
-these-if true v ts = tt
-these-if false v ts = (record { form = refl; result = refl; plain = refl }, tt)
+these-if : (b : Bool) (v : Scene) (ks : Kinds) → AllByRecursion (IsThis v ks) (if b then [] else simple_decl ks This (of_class (edited v)) v.weights.local ∷ [])
+these-if true v ks = tt
+these-if false v ks = (record { form = refl; result = refl; plain = refl }, tt)
 
-pub these : (v : Scene) (ts : List Erased) → AllByRecursion (IsThis v ts) (this_decls v ts)
-these v ts = these-if v.site.is_static v ts
+pub these : (v : Scene) (ks : Kinds) → AllByRecursion (IsThis v ks) (this_decls v ks)
+these v ks = these-if v.site.is_static v ks
 
 named-among : (ls : List Local) → AllByRecursion (λ l. is_among (map (λ k. k.name) ls) l.name ≡ true) ls
 named-among [] = tt
@@ -153,17 +154,17 @@ among-left xs ys w e = list_any-append (λ t. bytes_eq t w) xs ys ∙ or_left (i
 pub among-right : (xs ys : List (List ℕ)) (w : List ℕ) → is_among ys w ≡ true → is_among (xs ++ ys) w ≡ true
 among-right xs ys w e = list_any-append (λ t. bytes_eq t w) xs ys ∙ or_right (is_among xs w) (is_among ys w) e
 
-pub locals : (v : Scene) (ts : List Erased) → IsSite v → AllByRecursion (λ l. HasText (local_decl v ts l)) v.site.locals → AllByRecursion (IsLocal v) (local_decls v ts)
-locals v ts s t =
-    all-map (IsLocal v) (local_decl v ts) v.site.locals
-    (all-on (λ l. ((is_identifier l.name ≡ true) × HasText (local_decl v ts l)) × (is_among (map (λ k. k.name) v.site.locals) l.name ≡ true)) (λ l. IsLocal v (local_decl v ts l))
+pub locals : (v : Scene) (ks : Kinds) → IsSite v → AllByRecursion (λ l. HasText (local_decl v ks l)) v.site.locals → AllByRecursion (IsLocal v) (local_decls v ks)
+locals v ks s t =
+    all-map (IsLocal v) (local_decl v ks) v.site.locals
+    (all-on (λ l. ((is_identifier l.name ≡ true) × HasText (local_decl v ks l)) × (is_among (map (λ k. k.name) v.site.locals) l.name ≡ true)) (λ l. IsLocal v (local_decl v ks l))
     (λ l k. record { text = l.name; form = refl; taken = among-left (map (λ x. x.name) v.site.locals) v.site.hidden l.name k.1; name = record { utf8 = k.0.1; identifier = k.0.0 }; plain = refl })
     v.site.locals
-    (all-both (λ l. (is_identifier l.name ≡ true) × HasText (local_decl v ts l)) (λ l. is_among (map (λ k. k.name) v.site.locals) l.name ≡ true) v.site.locals
-    (all-both (λ l. is_identifier l.name ≡ true) (λ l. HasText (local_decl v ts l)) v.site.locals s.named t) (named-among v.site.locals)))
+    (all-both (λ l. (is_identifier l.name ≡ true) × HasText (local_decl v ks l)) (λ l. is_among (map (λ k. k.name) v.site.locals) l.name ≡ true) v.site.locals
+    (all-both (λ l. is_identifier l.name ≡ true) (λ l. HasText (local_decl v ks l)) v.site.locals s.named t) (named-among v.site.locals)))
 
-one-literal : (ts : List Erased) (w : List ℕ) (t : Erased) (weight : ℕ) → has literals w ≡ true → IsLiteral (simple_decl ts (Name w) t weight)
-one-literal ts w t weight e = record { text = w; form = refl; is = e; plain = refl }
+one-literal : (ks : Kinds) (w : List ℕ) (t : Erased) (weight : ℕ) → has literals w ≡ true → IsLiteral (simple_decl ks (Name w) t weight)
+one-literal ks w t weight e = record { text = w; form = refl; is = e; plain = refl }
 
 is_zero : has literals (codes "0") ≡ true
 unfolding has
@@ -181,47 +182,47 @@ is_empty : has literals (34 ∷ 34 ∷ []) ≡ true
 unfolding has
 is_empty = refl
 
-pub literal-decls : (v : Scene) (ts : List Erased) → AllByRecursion IsLiteral (declarations.literals v ts)
-literal-decls v ts = (
-  one-literal ts (codes "0") (of_base base.Int) v.weights.literal is_zero,
+pub literal-decls : (v : Scene) (ks : Kinds) → AllByRecursion IsLiteral (declarations.literals v ks)
+literal-decls v ks = (
+  one-literal ks (codes "0") (of_base base.Int) v.weights.literal is_zero,
   (
-    one-literal ts (codes "true") (of_base base.Boolean) v.weights.literal is_true,
+    one-literal ks (codes "true") (of_base base.Boolean) v.weights.literal is_true,
     (
-      one-literal ts (codes "false") (of_base base.Boolean) v.weights.literal is_false,
-      (one-literal ts (34 ∷ 34 ∷ []) string_type v.weights.literal is_empty, tt),
+      one-literal ks (codes "false") (of_base base.Boolean) v.weights.literal is_false,
+      (one-literal ks (34 ∷ 34 ∷ []) string_type v.weights.literal is_empty, tt),
     ),
   ),
 )
 
-pub shown : (v : Scene) (ts : List Erased) (ms : List Member) → AllByRecursion (IsKnown v ts) ms → AllByRecursion (λ m. HasText (member_decl v ts ms m)) (after_five v ts ms) → AllByRecursion (IsShown v ts ms) (after_five v ts ms)
-shown v ts ms h t =
-    all-on (λ m. IsLeft v ts ms m × HasText (member_decl v ts ms m)) (IsShown v ts ms) (λ m k. record { left = k.0; utf8 = k.1 }) (after_five v ts ms)
-    (all-both (IsLeft v ts ms) (λ m. HasText (member_decl v ts ms m)) (after_five v ts ms) (five-left v ts ms h) t)
+pub shown : (v : Scene) (ks : Kinds) (ms : List Member) → AllByRecursion (IsKnown v ks) ms → AllByRecursion (λ m. HasText (member_decl v ks ms m)) (after_five v ks.types ms) → AllByRecursion (IsShown v ks ms) (after_five v ks.types ms)
+shown v ks ms h t =
+    all-on (λ m. IsLeft v ks ms m × HasText (member_decl v ks ms m)) (IsShown v ks ms) (λ m k. record { left = k.0; utf8 = k.1 }) (after_five v ks.types ms)
+    (all-both (IsLeft v ks ms) (λ m. HasText (member_decl v ks ms m)) (after_five v ks.types ms) (five-left v ks ms h) t)
 
-pub made-decls : (v : Scene) (ts : List Erased) (ms : List Member) → AllByRecursion (IsShown v ts ms) (after_five v ts ms) → AllByRecursion (IsMade v ts ms) (member_decls v ts ms)
-made-decls v ts ms h = all-map (IsMade v ts ms) (member_decl v ts ms) (after_five v ts ms) (all-on (IsShown v ts ms) (λ m. IsMade v ts ms (member_decl v ts ms m)) (λ m k. record { member = m; shown = k; is = refl }) (after_five v ts ms) h)
+pub made-decls : (v : Scene) (ks : Kinds) (ms : List Member) → AllByRecursion (IsShown v ks ms) (after_five v ks.types ms) → AllByRecursion (IsMade v ks ms) (member_decls v ks ms)
+made-decls v ks ms h = all-map (IsMade v ks ms) (member_decl v ks ms) (after_five v ks.types ms) (all-on (IsShown v ks ms) (λ m. IsMade v ks ms (member_decl v ks ms m)) (λ m k. record { member = m; shown = k; is = refl }) (after_five v ks.types ms) h)
 
-one-lambda : (v : Scene) (ts : List Erased) (f : Face) → IsSome (class_spelling v f.name) → HasText (face_decl v ts f) → IsLambda v (face_decl v ts f)
+one-lambda : (v : Scene) (ks : Kinds) (f : Face) → IsSome (class_spelling v f.name) → HasText (face_decl v ks f) → IsLambda v (face_decl v ks f)
 unfolding face_decl
-one-lambda v ts f h u =
+one-lambda v ks f h u =
     let same : unwrap_or (class_spelling v f.name) [] ≡ h.text = ap (λ o. unwrap_or o []) h.is in
     record { text = h.text; name = f.name; form = ap Lambda same; utf8 = subst IsUtf8 same u; spelled = h.is; plain = refl }
 
-pub lambdas : (v : Scene) (ts : List Erased) (fs : List Face) → AllByRecursion (λ f. IsSome (class_spelling v f.name)) fs → AllByRecursion (λ f. HasText (face_decl v ts f)) fs → AllByRecursion (IsLambda v) (face_decls v ts fs)
-lambdas v ts fs h t =
-    all-map (IsLambda v) (face_decl v ts) fs (all-on (λ f. IsSome (class_spelling v f.name) × HasText (face_decl v ts f)) (λ f. IsLambda v (face_decl v ts f)) (λ f k. one-lambda v ts f k.0 k.1) fs
-    (all-both (λ f. IsSome (class_spelling v f.name)) (λ f. HasText (face_decl v ts f)) fs h t))
+pub lambdas : (v : Scene) (ks : Kinds) (fs : List Face) → AllByRecursion (λ f. IsSome (class_spelling v f.name)) fs → AllByRecursion (λ f. HasText (face_decl v ks f)) fs → AllByRecursion (IsLambda v) (face_decls v ks fs)
+lambdas v ks fs h t =
+    all-map (IsLambda v) (face_decl v ks) fs (all-on (λ f. IsSome (class_spelling v f.name) × HasText (face_decl v ks f)) (λ f. IsLambda v (face_decl v ks f)) (λ f k. one-lambda v ks f k.0 k.1) fs
+    (all-both (λ f. IsSome (class_spelling v f.name)) (λ f. HasText (face_decl v ks f)) fs h t))
 
-pub origins : (v : Scene) (ts : List Erased) (ms : List Member) (fs : List Face) → IsSite v → AllByRecursion (IsKnown v ts) ms → AllByRecursion (λ f. IsSome (class_spelling v f.name)) fs → HaveTexts v ts ms fs → AllByRecursion (Origin v ts ms) (decls_of v ts ms fs)
+pub origins : (v : Scene) (ks : Kinds) (ms : List Member) (fs : List Face) → IsSite v → AllByRecursion (IsKnown v ks) ms → AllByRecursion (λ f. IsSome (class_spelling v f.name)) fs → HaveTexts v ks ms fs → AllByRecursion (Origin v ks ms) (decls_of v ks ms fs)
 unfolding decls_of
-origins v ts ms fs s known spelled texts =
-    let O = Origin v ts ms in
-    all-append O (((this_decls v ts ++ local_decls v ts) ++ declarations.literals v ts) ++ member_decls v ts ms) (face_decls v ts fs)
-    (all-append O ((this_decls v ts ++ local_decls v ts) ++ declarations.literals v ts) (member_decls v ts ms)
-    (all-append O (this_decls v ts ++ local_decls v ts) (declarations.literals v ts)
-    (all-append O (this_decls v ts) (local_decls v ts)
-    (all-on (IsThis v ts) O (λ d h. this h) (this_decls v ts) (these v ts))
-    (all-on (IsLocal v) O (λ d h. local h) (local_decls v ts) (locals v ts s texts.locals)))
-    (all-on IsLiteral O (λ d h. literal h) (declarations.literals v ts) (literal-decls v ts)))
-    (all-on (IsMade v ts ms) O (λ d h. made h) (member_decls v ts ms) (made-decls v ts ms (shown v ts ms known texts.members))))
-    (all-on (IsLambda v) O (λ d h. lambda h) (face_decls v ts fs) (lambdas v ts fs spelled texts.faces))
+origins v ks ms fs s known spelled texts =
+    let O = Origin v ks ms in
+    all-append O (((this_decls v ks ++ local_decls v ks) ++ declarations.literals v ks) ++ member_decls v ks ms) (face_decls v ks fs)
+    (all-append O ((this_decls v ks ++ local_decls v ks) ++ declarations.literals v ks) (member_decls v ks ms)
+    (all-append O (this_decls v ks ++ local_decls v ks) (declarations.literals v ks)
+    (all-append O (this_decls v ks) (local_decls v ks)
+    (all-on (IsThis v ks) O (λ d h. this h) (this_decls v ks) (these v ks))
+    (all-on (IsLocal v) O (λ d h. local h) (local_decls v ks) (locals v ks s texts.locals)))
+    (all-on IsLiteral O (λ d h. literal h) (declarations.literals v ks) (literal-decls v ks)))
+    (all-on (IsMade v ks ms) O (λ d h. made h) (member_decls v ks ms) (made-decls v ks ms (shown v ks ms known texts.members))))
+    (all-on (IsLambda v) O (λ d h. lambda h) (face_decls v ks fs) (lambdas v ks fs spelled texts.faces))

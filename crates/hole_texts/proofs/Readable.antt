@@ -15,12 +15,13 @@ use Rattle.java_shapes.specs.Grammar.{dimensions}
 use Rattle.java_shapes.specs.Readable.{is_free, AreFreeWords, IsFreeWord, IsFormText, IsTypeText, IsReadable}
 use Rattle.java_shapes.proofs.WordFacts.{Lacks, not_true}
 use Rattle.offers.specs.Scenes.{Scene}
-use Rattle.offers.specs.Spellings.{with_dims, type_text}
+use Rattle.offers.specs.Spellings.{with_dims}
 use Rattle.offers.specs.declared.member.Member.{Member}
 use Rattle.offers.specs.Candidates.{is_static}
 use Rattle.offers.specs.Omissions.{owner_text, static_text, taken_names}
 use Rattle.scopes.specs.Binders.{form_text, is_between, words, is_variable}
 use Rattle.scopes.specs.Declarations.{member_decl}
+use Rattle.scopes.specs.Kinds.{Kinds, listed, kind_text}
 use Rattle.scopes.specs.Environments.{parts_by}
 use Rattle.hole_texts.proofs.Pairs.{all-at, all-append}
 use Rattle.hole_texts.proofs.Paths.{split-cut, split-none, split-joined, joined-one, joined-next}
@@ -152,37 +153,37 @@ free-path g n t e h = subst (λ b. IsPath (is_free (chars b)) (is_free (chars b)
 one-word : (g : Parts) (n : ℕ) (w : List ℕ) → replicate n 112 ≡ g.binder → IsName w → HasFreeWords n w → IsFreeWord g w
 one-word g n w e h f = (h.utf8, subst (λ b. is_free (chars b) (chars w) ≡ true) e (free-word n w h f))
 
-shape-text : (v : Scene) (ts : List Erased) (ms : List Member) (g : Parts) (n : ℕ) (m : Member) (f : Form) → replicate n 112 ≡ g.binder → IsSite v → IsLeft v ts ms m → Shape v m f m.kind (is_static m) → IsUtf8 (form_text f) → HasFreeWords n (form_text f) → IsFormText g f
-shape-text v ts ms g n m f b s h (static_field k t e) u w =
+shape-text : (v : Scene) (ks : Kinds) (ms : List Member) (g : Parts) (n : ℕ) (m : Member) (f : Form) → replicate n 112 ≡ g.binder → IsSite v → IsLeft v ks ms m → Shape v m f m.kind (is_static m) → IsUtf8 (form_text f) → HasFreeWords n (form_text f) → IsFormText g f
+shape-text v ks ms g n m f b s h (static_field k t e) u w =
     let c = subst (λ x. IsUtf8 (form_text x)) e u in
     let d = subst (λ x. HasFreeWords n (form_text x)) e w in
-    subst (IsFormText g) (sym e) (c, inl (free-path g n (chars (static_text v m)) b (static-free v n m s (static-parts v ts ms m s h (λ q. field-made (sym k ∙ q)) t c) c d)))
-shape-text v ts ms g n m f b s h (own_field k t e) u w =
-    let name : IsName m.name = record { utf8 = subst (λ x. IsUtf8 (form_text x)) e u; identifier = name-word v ts ms m s h (λ q. field-made (sym k ∙ q)) } in
+    subst (IsFormText g) (sym e) (c, inl (free-path g n (chars (static_text v m)) b (static-free v n m s (static-parts v ks ms m s h (λ q. field-made (sym k ∙ q)) t c) c d)))
+shape-text v ks ms g n m f b s h (own_field k t e) u w =
+    let name : IsName m.name = record { utf8 = subst (λ x. IsUtf8 (form_text x)) e u; identifier = name-word v ks ms m s h (λ q. field-made (sym k ∙ q)) } in
     subst (IsFormText g) (sym e) (one-word g n m.name b name (subst (λ x. HasFreeWords n (form_text x)) e w))
-shape-text v ts ms g n m f b s h (static_method k t e) u w =
+shape-text v ks ms g n m f b s h (static_method k t e) u w =
     let c = subst (λ x. IsUtf8 (form_text x)) e u in
     let d = subst (λ x. HasFreeWords n (form_text x)) e w in
-    subst (IsFormText g) (sym e) (c, free-path g n (chars (static_text v m)) b (static-free v n m s (static-parts v ts ms m s h (λ q. method-made (sym k ∙ q)) t c) c d))
-shape-text v ts ms g n m f b s h (own_method k t e) u w =
-    let name : IsName m.name = record { utf8 = subst (λ x. IsUtf8 (form_text x)) e u; identifier = name-word v ts ms m s h (λ q. method-made (sym k ∙ q)) } in
+    subst (IsFormText g) (sym e) (c, free-path g n (chars (static_text v m)) b (static-free v n m s (static-parts v ks ms m s h (λ q. method-made (sym k ∙ q)) t c) c d))
+shape-text v ks ms g n m f b s h (own_method k t e) u w =
+    let name : IsName m.name = record { utf8 = subst (λ x. IsUtf8 (form_text x)) e u; identifier = name-word v ks ms m s h (λ q. method-made (sym k ∙ q)) } in
     subst (IsFormText g) (sym e) (one-word g n m.name b name (subst (λ x. HasFreeWords n (form_text x)) e w))
-shape-text v ts ms g n m f b s h (maker k e) u w =
+shape-text v ks ms g n m f b s h (maker k e) u w =
     let c = subst (λ x. IsUtf8 (form_text x)) e u in
     let d = subst (λ x. HasFreeWords n (form_text x)) e w in
-    let spelled = class-spells v m.owner (owner_text v m) (owner-has v ts ms m h (needs-maker m k)).spelled in
+    let spelled = class-spells v m.owner (owner_text v m) (owner-has v ks ms m h (needs-maker m k)).spelled in
     subst (IsFormText g) (sym e) (c, free-path g n (chars (owner_text v m)) b (spelled-free v n m.owner (owner_text v m) s c spelled d))
 
-form-of : (v : Scene) (ts : List Erased) (ms : List Member) (g : Parts) (n : ℕ) (d : Decl) → replicate n 112 ≡ g.binder → IsSite v → Origin v ts ms d → IsUtf8 (form_text d.form) → HasFreeWords n (form_text d.form) → IsFormText g d.form
-form-of v ts ms g n d b s (this h) u w = subst (IsFormText g) (sym h.form) tt
-form-of v ts ms g n d b s (local h) u w =
+form-of : (v : Scene) (ks : Kinds) (ms : List Member) (g : Parts) (n : ℕ) (d : Decl) → replicate n 112 ≡ g.binder → IsSite v → Origin v ks ms d → IsUtf8 (form_text d.form) → HasFreeWords n (form_text d.form) → IsFormText g d.form
+form-of v ks ms g n d b s (this h) u w = subst (IsFormText g) (sym h.form) tt
+form-of v ks ms g n d b s (local h) u w =
     subst (IsFormText g) (sym h.form) (h.name.utf8, inl (free-path g n (chars h.text) b (word-free n h.text h.name (subst (λ x. HasFreeWords n (form_text x)) h.form w))))
-form-of v ts ms g n d b s (literal h) u w =
+form-of v ks ms g n d b s (literal h) u w =
     subst (IsFormText g) (sym h.form) (subst (λ x. IsUtf8 (form_text x)) h.form u, inr (subst (λ x. has literals x ≡ true) (sym (literal-same h.text h.is)) h.is))
-form-of v ts ms g n d b s (made h) u w =
-    let same : d.form ≡ (member_decl v ts ms h.member).form = ap (λ (x : Decl). x.form) h.is in
-    subst (IsFormText g) (sym same) (shape-text v ts ms g n h.member (member_decl v ts ms h.member).form b s h.shown.left (shape v ts ms h.member) h.shown.utf8 (subst (λ x. HasFreeWords n (form_text x)) same w))
-form-of v ts ms g n d b s (lambda h) u w =
+form-of v ks ms g n d b s (made h) u w =
+    let same : d.form ≡ (member_decl v ks ms h.member).form = ap (λ (x : Decl). x.form) h.is in
+    subst (IsFormText g) (sym same) (shape-text v ks ms g n h.member (member_decl v ks ms h.member).form b s h.shown.left (shape v ks ms h.member) h.shown.utf8 (subst (λ x. HasFreeWords n (form_text x)) same w))
+form-of v ks ms g n d b s (lambda h) u w =
     subst (IsFormText g) (sym h.form) (h.utf8, free-path g n (chars h.text) b (spelled-free v n h.name h.text s h.utf8 (class-spells v h.name h.text h.spelled) (subst (λ x. HasFreeWords n (form_text x)) h.form w)))
 
 -- types
@@ -202,11 +203,11 @@ type-of v g n t text b s u h w =
     }
 
 -- the whole
-pub readable-by : (v : Scene) (ts : List Erased) (ms : List Member) (ds : List Decl) (limit depth : ℕ) → AreOrigins v ts ms ds limit depth → IsReadable (parts_by v ts ds limit depth)
-readable-by v ts ms ds limit depth h =
-    let g = parts_by v ts ds limit depth in
+pub readable-by : (v : Scene) (ks : Kinds) (ms : List Member) (ds : List Decl) (limit depth : ℕ) → AreOrigins v ks ms ds limit depth → IsReadable (parts_by v ks ds limit depth)
+readable-by v ks ms ds limit depth h =
+    let g = parts_by v ks ds limit depth in
     let forms = map (λ (d : Decl). form_text d.form) ds in
-    let types = map (type_text v) ts in
+    let types = map (kind_text v) (listed ks) in
     let run = run-of (words (forms ++ types) ++ taken_names v) in
     let n = run.count in
     let b : replicate n 112 ≡ g.binder = sym run.is in
@@ -216,8 +217,8 @@ readable-by v ts ms ds limit depth h =
     record {
       binder_text = subst IsUtf8 b (run-utf8 n);
       binder = subst (λ x. spells_identifier (chars x) ≡ true) b (run-identifier n run.some);
-      forms = λ i d e. form-of v ts ms g n d b h.site (all-at (Origin v ts ms) ds i d h.origins e) (h.texts.forms i d e) (all-at (λ (x : Decl). HasFreeWords n (form_text x.form)) ds i d in_forms e);
+      forms = λ i d e. form-of v ks ms g n d b h.site (all-at (Origin v ks ms) ds i d h.origins e) (h.texts.forms i d e) (all-at (λ (x : Decl). HasFreeWords n (form_text x.form)) ds i d in_forms e);
       types = λ i d a e c w.
-          let t = text-at v ts a h.texts.types (crowded-wants v ts ms d a (all-at (Origin v ts ms) ds i d h.origins e) c w) in
+          let t = text-at v ks a h.texts.types (crowded-wants v ks ms d a (all-at (Origin v ks ms) ds i d h.origins e) c w) in
           subst (IsTypeText g) (sym t.at) (type-of v g n t.kind t.text b h.site t.utf8 t.spelled (all-at (HasFreeWords n) types a t.text in_types t.place));
     }

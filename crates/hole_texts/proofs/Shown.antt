@@ -1,8 +1,7 @@
 -- The forms, the texts and the places of members.
-use Rattle.std.proofs.Common.{◌≡◌, ◌∙◌, inl, inr, sym, ap, ap₂, subst, refl, ℕ, ◌||◌, Bool, true, false, List, [], ◌∷◌, map, get_or, unwrap_or, lit<, IsUtf8, Some}
+use Rattle.std.proofs.Common.{◌≡◌, ◌∙◌, inl, inr, sym, ap, ap₂, subst, refl, ℕ, ◌||◌, Bool, true, false, List, [], ◌∷◌, map, get_or, unwrap_or, lit<, IsUtf8, None, Some}
 use Rattle.std.specs.List.{AllByRecursion}
 use Rattle.std.proofs.lemmas.Bool.{or_left, or_right}
-use Rattle.type_names.specs.declared.kinds.Base.TheVariants as base
 use Rattle.type_names.specs.declared.kinds.Erased.{Erased}
 use Rattle.terms.specs.Apart.{Wants}
 use Rattle.terms.specs.declared.parts.Arg.{Arg}
@@ -18,10 +17,9 @@ use Rattle.offers.specs.declared.member.Kind.TheVariants as kind
 use Rattle.offers.specs.declared.member.Member.{Member}
 use Rattle.offers.specs.Candidates.{same_kind, is_static}
 use Rattle.offers.specs.Omissions.{is_crowded, needs_owner, owner_text, static_text, scope_names}
-use Rattle.offers.specs.Functional.{of_base}
-use Rattle.offers.specs.Types.{number_in}
+use Rattle.scopes.specs.Kinds.{Kinds, listed, type_number}
 use Rattle.scopes.specs.Declarations.{form_by, wants_by, member_decl}
-use Rattle.scopes.proofs.PairLaws.{number-at}
+use Rattle.scopes.proofs.PairLaws.{type-at}
 use Rattle.scopes.proofs.Numbered.{Has}
 use Rattle.hole_texts.proofs.Words.{IsCut, cut-utf8}
 use Rattle.hole_texts.proofs.Spelled.{IsName, IsSpelling, class-spells, one-class, dotless}
@@ -43,21 +41,21 @@ shape-by v m kind.Method true = static_method refl refl refl
 shape-by v m kind.Method false = own_method refl refl refl
 shape-by v m kind.Constructor s = maker refl refl
 
-pub shape : (v : Scene) (ts : List Erased) (ms : List Member) (m : Member) → Shape v m (member_decl v ts ms m).form m.kind (is_static m)
+pub shape : (v : Scene) (ks : Kinds) (ms : List Member) (m : Member) → Shape v m (member_decl v ks ms m).form m.kind (is_static m)
 unfolding member_decl
-shape v ts ms m = shape-by v m m.kind (is_static m)
+shape v ks ms m = shape-by v m m.kind (is_static m)
 
 -- what it wants
-abbrev pub arg_of : List Erased → Erased → Arg
-arg_of ts t = Plain (number_in ts t)
+abbrev pub arg_of : Kinds → Erased → Arg
+arg_of ks t = Plain (type_number ks t)
 
-pub args-are : (v : Scene) (ts : List Erased) (ms : List Member) (m : Member) → (member_decl v ts ms m).args ≡ map (arg_of ts) (wants_by m m.kind (is_static m))
+pub args-are : (v : Scene) (ks : Kinds) (ms : List Member) (m : Member) → (member_decl v ks ms m).args ≡ map (arg_of ks) (wants_by m m.kind (is_static m))
 unfolding member_decl
-args-are v ts ms m = refl
+args-are v ks ms m = refl
 
-pub crowded-is : (v : Scene) (ts : List Erased) (ms : List Member) (m : Member) → (member_decl v ts ms m).crowded ≡ is_crowded v ts ms m
+pub crowded-is : (v : Scene) (ks : Kinds) (ms : List Member) (m : Member) → (member_decl v ks ms m).crowded ≡ is_crowded v ks.types ms m
 unfolding member_decl
-crowded-is v ts ms m = refl
+crowded-is v ks ms m = refl
 
 pub own-wants : (m : Member) → m.kind ≡ kind.Field → is_static m ≡ false → wants_by m m.kind (is_static m) ≡ of_class m.owner ∷ []
 own-wants m k s = ap₂ (λ x y. wants_by m x y) k s
@@ -72,47 +70,50 @@ pub maker-wants : (m : Member) → m.kind ≡ kind.Constructor → wants_by m m.
 maker-wants m k = ap (λ x. wants_by m x (is_static m)) k
 
 -- numbers tell types
-stands-has : (ts : List Erased) (t : Erased) → Stands ts t → Has ts t
+stands-has : (ks : Kinds) (t : Erased) → Stands ks t → Has ks.types t
 unfolding Has
-stands-has ts t h = h
+stands-has ks t h = h
 
-pub number-get : (ts : List Erased) (t d : Erased) → Stands ts t → get_or ts (number_in ts t) d ≡ t
-number-get ts t d h = number-at ts t d (stands-has ts t h)
+pub number-get : (ks : Kinds) (t : Erased) → Stands ks t → get_or (listed ks) (type_number ks t) None ≡ Some t
+number-get ks t h = type-at ks t (stands-has ks t h)
 
-pub same-number : (ts : List Erased) (t u : Erased) → Stands ts t → Stands ts u → number_in ts t ≡ number_in ts u → t ≡ u
-same-number ts t u h k e = sym (number-get ts t (of_base base.Int) h) ∙ ap (λ n. get_or ts n (of_base base.Int)) e ∙ number-get ts u (of_base base.Int) k
+pub some-one : (t u : Erased) → Some t ≡ Some u → t ≡ u
+some-one t u e = cc
+
+pub same-number : (ks : Kinds) (t u : Erased) → Stands ks t → Stands ks u → type_number ks t ≡ type_number ks u → t ≡ u
+same-number ks t u h k e = some-one t u (sym (number-get ks t h) ∙ ap (λ n. get_or (listed ks) n None) e ∙ number-get ks u k)
 
 plain-same : (a b : ℕ) → Plain a ≡ Plain b → a ≡ b
 plain-same a b e = cc
 
-pub same-args : (ts : List Erased) (xs ys : List Erased) → AllByRecursion (Stands ts) xs → AllByRecursion (Stands ts) ys → map (arg_of ts) xs ≡ map (arg_of ts) ys → xs ≡ ys
-same-args ts [] [] h k e = refl
-same-args ts [] (y ∷ ys) h k e = absurd cc
-same-args ts (x ∷ xs) [] h k e = absurd cc
-same-args ts (x ∷ xs) (y ∷ ys) h k e =
-    let heads : arg_of ts x ≡ arg_of ts y = cc in
-    let tails : map (arg_of ts) xs ≡ map (arg_of ts) ys = cc in
-    ap₂ (λ a b. a ∷ b) (same-number ts x y h.0 k.0 (plain-same (number_in ts x) (number_in ts y) heads)) (same-args ts xs ys h.1 k.1 tails)
+pub same-args : (ks : Kinds) (xs ys : List Erased) → AllByRecursion (Stands ks) xs → AllByRecursion (Stands ks) ys → map (arg_of ks) xs ≡ map (arg_of ks) ys → xs ≡ ys
+same-args ks [] [] h k e = refl
+same-args ks [] (y ∷ ys) h k e = absurd cc
+same-args ks (x ∷ xs) [] h k e = absurd cc
+same-args ks (x ∷ xs) (y ∷ ys) h k e =
+    let heads : arg_of ks x ≡ arg_of ks y = cc in
+    let tails : map (arg_of ks) xs ≡ map (arg_of ks) ys = cc in
+    ap₂ (λ a b. a ∷ b) (same-number ks x y h.0 k.0 (plain-same (type_number ks x) (type_number ks y) heads)) (same-args ks xs ys h.1 k.1 tails)
 
 -- a type that is wanted, and what holds of each
-pub record IsWanted (P : Erased → Type 0) (ts : List Erased) (a : ℕ) : Type 0 where
+pub record IsWanted (P : Erased → Type 0) (ks : Kinds) (a : ℕ) : Type 0 where
   pub kind : Erased
   pub holds : P kind
-  pub is : number_in ts kind ≡ a
+  pub is : type_number ks kind ≡ a
 
-pub wanted-one : (P : Erased → Type 0) (ts xs : List Erased) (a : ℕ) → AllByRecursion P xs → Wants (map (arg_of ts) xs) a → IsWanted P ts a
-wanted-one P ts [] a h w = absurd w
-wanted-one P ts (x ∷ xs) a h (inl e) = record { kind = x; holds = h.0; is = e }
-wanted-one P ts (x ∷ xs) a h (inr w) = wanted-one P ts xs a h.1 w
+pub wanted-one : (P : Erased → Type 0) (ks : Kinds) (xs : List Erased) (a : ℕ) → AllByRecursion P xs → Wants (map (arg_of ks) xs) a → IsWanted P ks a
+wanted-one P ks [] a h w = absurd w
+wanted-one P ks (x ∷ xs) a h (inl e) = record { kind = x; holds = h.0; is = e }
+wanted-one P ks (x ∷ xs) a h (inr w) = wanted-one P ks xs a h.1 w
 
 -- a static member, or one that makes, has a spelled owner
 pub record HasOwner (v : Scene) (m : Member) (text : List ℕ) : Type 0 where
   pub spelled : class_spelling v m.owner ≡ Some text
   pub is : owner_text v m ≡ text
 
-pub owner-has : (v : Scene) (ts : List Erased) (ms : List Member) (m : Member) → IsLeft v ts ms m → needs_owner m ≡ true → HasOwner v m (owner_text v m)
-owner-has v ts ms m h n =
-    let k = owner-spelled v (is_crowded v ts ms m) m h.written (or_left (needs_owner m) (is_crowded v ts ms m) n) in
+pub owner-has : (v : Scene) (ks : Kinds) (ms : List Member) (m : Member) → IsLeft v ks ms m → needs_owner m ≡ true → HasOwner v m (owner_text v m)
+owner-has v ks ms m h n =
+    let k = owner-spelled v (is_crowded v ks.types ms m) m h.written (or_left (needs_owner m) (is_crowded v ks.types ms m) n) in
     let same : owner_text v m ≡ k.text = ap (λ o. unwrap_or o []) k.is in
     record { spelled = k.is ∙ ap Some (sym same); is = refl }
 
@@ -128,8 +129,8 @@ named-by v m kind.Field e f = e
 named-by v m kind.Method e f = e
 named-by v m kind.Constructor e f = absurd (f refl)
 
-pub name-word : (v : Scene) (ts : List Erased) (ms : List Member) (m : Member) → IsSite v → IsLeft v ts ms m → (m.kind ≡ kind.Constructor → ⊥) → is_identifier m.name ≡ true
-name-word v ts ms m s h f = subst (λ (w : List ℕ → Bool). w m.name ≡ true) s.word (named-by v m m.kind h.member.named f)
+pub name-word : (v : Scene) (ks : Kinds) (ms : List Member) (m : Member) → IsSite v → IsLeft v ks ms m → (m.kind ≡ kind.Constructor → ⊥) → is_identifier m.name ≡ true
+name-word v ks ms m s h f = subst (λ (w : List ℕ → Bool). w m.name ≡ true) s.word (named-by v m m.kind h.member.named f)
 
 pub field-made : kind.Field ≡ kind.Constructor → ⊥
 field-made e = absurd cc
@@ -143,10 +144,10 @@ pub record IsStatic (v : Scene) (m : Member) : Type 0 where
   pub owner : IsUtf8 (owner_text v m)
   pub spelled : IsSpelling v m.owner (owner_text v m)
 
-pub static-parts : (v : Scene) (ts : List Erased) (ms : List Member) (m : Member) → IsSite v → IsLeft v ts ms m → (m.kind ≡ kind.Constructor → ⊥) → is_static m ≡ true → IsUtf8 (static_text v m) → IsStatic v m
-static-parts v ts ms m s h f e u =
+pub static-parts : (v : Scene) (ks : Kinds) (ms : List Member) (m : Member) → IsSite v → IsLeft v ks ms m → (m.kind ≡ kind.Constructor → ⊥) → is_static m ≡ true → IsUtf8 (static_text v m) → IsStatic v m
+static-parts v ks ms m s h f e u =
     let c : IsCut (owner_text v m) m.name = cut-utf8 46 (lit< tt) (owner_text v m) m.name u in
-    record { name = record { utf8 = c.rest; identifier = name-word v ts ms m s h f }; owner = c.front; spelled = class-spells v m.owner (owner_text v m) (owner-has v ts ms m h (needs-static m e)).spelled }
+    record { name = record { utf8 = c.rest; identifier = name-word v ks ms m s h f }; owner = c.front; spelled = class-spells v m.owner (owner_text v m) (owner-has v ks ms m h (needs-static m e)).spelled }
 
 -- of two with one text
 pub same-static : (v : Scene) (m n : Member) → IsSite v → IsStatic v m → IsStatic v n → static_text v m ≡ static_text v n → (m.owner ≡ n.owner) × (m.name ≡ n.name)

@@ -27,11 +27,11 @@ use Rattle.offers.specs.declared.member.Kind.TheVariants as kind
 use Rattle.offers.specs.declared.member.Member.{Member}
 use Rattle.offers.specs.Candidates.{same_kind, is_static}
 use Rattle.offers.specs.Omissions.{after_four, owner_text, static_text, scope_names, field_names, names_around, names_above, taken_names, is_static_field, field_text, field_texts}
-use Rattle.offers.specs.Types.{number_in, is_below_at}
+use Rattle.scopes.specs.Kinds.{Kinds, count, type_number, is_below_in}
 use Rattle.scopes.specs.Binders.{form_text}
 use Rattle.scopes.specs.Declarations.{member_decl}
 use Rattle.scopes.specs.Environments.{parts_by}
-use Rattle.scopes.proofs.Numbered.{Has}
+use Rattle.scopes.proofs.Numbered.{Has, type-among}
 use Rattle.scopes.proofs.PairLaws.{pairs-are}
 use Rattle.hole_texts.proofs.Pairs.{all-at}
 use Rattle.hole_texts.proofs.Paths.{IsFront, front-of, front-first}
@@ -96,12 +96,12 @@ pub record IsOwn (v : Scene) (s : List ℕ) (hidden : Bool) : Type 0 where
 field-parts : (f : Form) (s t : List ℕ) (h k : Bool) → f ≡ Field s h → f ≡ Field t k → (s ≡ t) × (h ≡ k)
 field-parts f s t h k a b = let p : s ≡ t = cc in let q : h ≡ k = cc in (p, q)
 
-this-number : (v : Scene) (ts : List Erased) (ms : List Member) (d : Decl) → Origin v ts ms d → d.form ≡ This → d.result ≡ number_in ts (of_class (edited v))
-this-number v ts ms d (this h) e = h.result
-this-number v ts ms d (local h) e = let q = h.form in absurd cc
-this-number v ts ms d (literal h) e = let q = h.form in absurd cc
-this-number v ts ms d (made h) e = absurd (not-this v h.member (member_decl v ts ms h.member).form h.member.kind (is_static h.member) (shape v ts ms h.member) (sym (ap (λ x. x.form) h.is) ∙ e))
-this-number v ts ms d (lambda h) e = let q = h.form in absurd cc
+this-number : (v : Scene) (ks : Kinds) (ms : List Member) (d : Decl) → Origin v ks ms d → d.form ≡ This → d.result ≡ type_number ks (of_class (edited v))
+this-number v ks ms d (this h) e = h.result
+this-number v ks ms d (local h) e = let q = h.form in absurd cc
+this-number v ks ms d (literal h) e = let q = h.form in absurd cc
+this-number v ks ms d (made h) e = absurd (not-this v h.member (member_decl v ks ms h.member).form h.member.kind (is_static h.member) (shape v ks ms h.member) (sym (ap (λ x. x.form) h.is) ∙ e))
+this-number v ks ms d (lambda h) e = let q = h.form in absurd cc
 
 receiver-of : (xs : List Arg) (b a : ℕ) → xs ≡ Plain b ∷ [] → IsOf xs a → b ≡ a
 receiver-of xs b a e h = only (subst (λ z. IsOf z a) e h)
@@ -109,18 +109,18 @@ receiver-of xs b a e h = only (subst (λ z. IsOf z a) e h)
     only : IsOf (Plain b ∷ []) a → b ≡ a
     only q = q
 
-stands-has : (ts : List Erased) (t : Erased) → Stands ts t → Has ts t
+stands-has : (ks : Kinds) (t : Erased) → Stands ks t → Has ks.types t
 unfolding Has
-stands-has ts t h = h
+stands-has ks t h = h
 
-below-owner : (v : Scene) (ts : List Erased) (ds : List Decl) (limit depth : ℕ) (owner : List ℕ) → Stands ts (of_class (edited v)) → Stands ts (of_class owner) → is_below (parts_by v ts ds limit depth) (number_in ts (of_class (edited v))) (number_in ts (of_class owner)) ≡ true → (edited v ≡ owner) ⊎ (v.below (of_class (edited v)) (of_class owner) ≡ true)
+below-owner : (v : Scene) (ks : Kinds) (ds : List Decl) (limit depth : ℕ) (owner : List ℕ) → Stands ks (of_class (edited v)) → Stands ks (of_class owner) → is_below (parts_by v ks ds limit depth) (type_number ks (of_class (edited v))) (type_number ks (of_class owner)) ≡ true → (edited v ≡ owner) ⊎ (v.below (of_class (edited v)) (of_class owner) ≡ true)
 unfolding is_below
-below-owner v ts ds limit depth owner h k e =
-    let a = number_in ts (of_class (edited v)) in
-    let b = number_in ts (of_class owner) in
-    elim (or_cases (a == b) (is_pair (pairs_of (length ts) (is_below_at v ts)) a b) e) [
-      | inl q ↦ inl (class-name (edited v) owner (same-number ts (of_class (edited v)) (of_class owner) h k (eqb-true a b q)))
-      | inr q ↦ inr (sym (pairs-are v ts (of_class (edited v)) (of_class owner) (stands-has ts (of_class (edited v)) h) (stands-has ts (of_class owner) k)) ∙ q)
+below-owner v ks ds limit depth owner h k e =
+    let a = type_number ks (of_class (edited v)) in
+    let b = type_number ks (of_class owner) in
+    elim (or_cases (a == b) (is_pair (pairs_of (count ks) (is_below_in v ks)) a b) e) [
+      | inl q ↦ inl (class-name (edited v) owner (same-number ks (of_class (edited v)) (of_class owner) h k (eqb-true a b q)))
+      | inr q ↦ inr (sym (pairs-are v ks (Some (of_class (edited v))) (Some (of_class owner)) (type-among ks (of_class (edited v)) (stands-has ks (of_class (edited v)) h)) (type-among ks (of_class owner) (stands-has ks (of_class owner) k))) ∙ q)
     ]
 
 own-shape : (v : Scene) (m : Member) (f : Form) (k : Kind) (s : Bool) (t : List ℕ) (h : Bool) → Shape v m f k s → f ≡ Field t h → (k ≡ kind.Field) × (s ≡ false) × (t ≡ m.name) × (h ≡ is_among (scope_names v) m.name)
@@ -130,68 +130,68 @@ own-shape v m f k s t h (static_method a b e) q = absurd cc
 own-shape v m f k s t h (own_method a b e) q = absurd cc
 own-shape v m f k s t h (maker a e) q = absurd cc
 
-own-made : (v : Scene) (ts : List Erased) (ms : List Member) (ds : List Decl) (limit depth : ℕ) → IsSite v → Stands ts (of_class (edited v)) → AllByRecursion (Origin v ts ms) ds → (d : Decl) (s : List ℕ) (hidden : Bool) → IsMade v ts ms d → IsOwnField (parts_by v ts ds limit depth) d s hidden → IsOwn v s hidden
-own-made v ts ms ds limit depth site own all d s hidden k h =
+own-made : (v : Scene) (ks : Kinds) (ms : List Member) (ds : List Decl) (limit depth : ℕ) → IsSite v → Stands ks (of_class (edited v)) → AllByRecursion (Origin v ks ms) ds → (d : Decl) (s : List ℕ) (hidden : Bool) → IsMade v ks ms d → IsOwnField (parts_by v ks ds limit depth) d s hidden → IsOwn v s hidden
+own-made v ks ms ds limit depth site own all d s hidden k h =
     let m = k.member in
-    let f = (member_decl v ts ms m).form in
+    let f = (member_decl v ks ms m).form in
     let form : f ≡ Field s hidden = sym (ap (λ (x : Decl). x.form) k.is) ∙ h.form in
-    let p = own-shape v m f m.kind (is_static m) s hidden (shape v ts ms m) form in
-    let args : d.args ≡ Plain (number_in ts (of_class m.owner)) ∷ [] = ap (λ (x : Decl). x.args) k.is ∙ args-are v ts ms m ∙ ap (map (arg_of ts)) (own-wants m p.0 p.1) in
-    let owner : number_in ts (of_class m.owner) ≡ h.owner = receiver-of d.args (number_in ts (of_class m.owner)) h.owner args h.receiver in
-    let number : h.this.result ≡ number_in ts (of_class (edited v)) = this-number v ts ms h.this (all-at (Origin v ts ms) ds h.number h.this all h.declared) h.is_this in
-    let g = parts_by v ts ds limit depth in
-    let below : is_below g (number_in ts (of_class (edited v))) (number_in ts (of_class m.owner)) ≡ true = subst (λ x. is_below g x (number_in ts (of_class m.owner)) ≡ true) number (subst (λ x. is_below g h.this.result x ≡ true) (sym owner) h.below) in
+    let p = own-shape v m f m.kind (is_static m) s hidden (shape v ks ms m) form in
+    let args : d.args ≡ Plain (type_number ks (of_class m.owner)) ∷ [] = ap (λ (x : Decl). x.args) k.is ∙ args-are v ks ms m ∙ ap (map (arg_of ks)) (own-wants m p.0 p.1) in
+    let owner : type_number ks (of_class m.owner) ≡ h.owner = receiver-of d.args (type_number ks (of_class m.owner)) h.owner args h.receiver in
+    let number : h.this.result ≡ type_number ks (of_class (edited v)) = this-number v ks ms h.this (all-at (Origin v ks ms) ds h.number h.this all h.declared) h.is_this in
+    let g = parts_by v ks ds limit depth in
+    let below : is_below g (type_number ks (of_class (edited v))) (type_number ks (of_class m.owner)) ≡ true = subst (λ x. is_below g x (type_number ks (of_class m.owner)) ≡ true) number (subst (λ x. is_below g h.this.result x ≡ true) (sym owner) h.below) in
     let text : IsUtf8 m.name = subst IsUtf8 p.2 (subst (λ x. IsUtf8 (form_text x)) form k.shown.utf8) in
-    let word = name-word v ts ms m site k.shown.left (λ q. field-made (sym p.0 ∙ q)) in
-    let taken = field-taken v m site k.shown.left.member p.0 (below-owner v ts ds limit depth m.owner own k.shown.left.own below) in
+    let word = name-word v ks ms m site k.shown.left (λ q. field-made (sym p.0 ∙ q)) in
+    let taken = field-taken v m site k.shown.left.member p.0 (below-owner v ks ds limit depth m.owner own k.shown.left.own below) in
     record {
       name = subst IsName (sym p.2) (record { utf8 = text; identifier = word });
       taken = subst (λ w. is_among (taken_names v) w ≡ true) (sym p.2) taken;
       hides = subst (λ w. hidden ≡ is_among (scope_names v) w) (sym p.2) p.3;
     }
 
-pub own-is : (v : Scene) (ts : List Erased) (ms : List Member) (ds : List Decl) (limit depth : ℕ) → IsSite v → Stands ts (of_class (edited v)) → AllByRecursion (Origin v ts ms) ds → (d : Decl) (s : List ℕ) (hidden : Bool) → Origin v ts ms d → IsOwnField (parts_by v ts ds limit depth) d s hidden → IsOwn v s hidden
-own-is v ts ms ds limit depth site own all d s hidden (this k) h = let a = k.form in let b = h.form in absurd cc
-own-is v ts ms ds limit depth site own all d s hidden (local k) h = let a = k.form in let b = h.form in absurd cc
-own-is v ts ms ds limit depth site own all d s hidden (literal k) h = let a = k.form in let b = h.form in absurd cc
-own-is v ts ms ds limit depth site own all d s hidden (made k) h = own-made v ts ms ds limit depth site own all d s hidden k h
-own-is v ts ms ds limit depth site own all d s hidden (lambda k) h = let a = k.form in let b = h.form in absurd cc
+pub own-is : (v : Scene) (ks : Kinds) (ms : List Member) (ds : List Decl) (limit depth : ℕ) → IsSite v → Stands ks (of_class (edited v)) → AllByRecursion (Origin v ks ms) ds → (d : Decl) (s : List ℕ) (hidden : Bool) → Origin v ks ms d → IsOwnField (parts_by v ks ds limit depth) d s hidden → IsOwn v s hidden
+own-is v ks ms ds limit depth site own all d s hidden (this k) h = let a = k.form in let b = h.form in absurd cc
+own-is v ks ms ds limit depth site own all d s hidden (local k) h = let a = k.form in let b = h.form in absurd cc
+own-is v ks ms ds limit depth site own all d s hidden (literal k) h = let a = k.form in let b = h.form in absurd cc
+own-is v ks ms ds limit depth site own all d s hidden (made k) h = own-made v ks ms ds limit depth site own all d s hidden k h
+own-is v ks ms ds limit depth site own all d s hidden (lambda k) h = let a = k.form in let b = h.form in absurd cc
 
 -- a static member whose text is cut before a dot
-pub record IsDottedBy (v : Scene) (ts : List Erased) (ms : List Member) (front : List ℕ) : Type 0 where
+pub record IsDottedBy (v : Scene) (ks : Kinds) (ms : List Member) (front : List ℕ) : Type 0 where
   pub member : Member
-  pub left : IsLeft v ts ms member
+  pub left : IsLeft v ks ms member
   pub static : is_static member ≡ true
   pub parts_are : IsStatic v member
   pub cut : IsFront (owner_text v member) front
 
-dotted-static : (v : Scene) (ts : List Erased) (ms : List Member) (front rest : List ℕ) (m : Member) → IsSite v → IsLeft v ts ms m → (m.kind ≡ kind.Constructor → ⊥) → is_static m ≡ true → IsUtf8 (static_text v m) → static_text v m ≡ front ++ 46 ∷ rest → IsDottedBy v ts ms front
-dotted-static v ts ms front rest m site h f s u e =
-    let k = static-parts v ts ms m site h f s u in
+dotted-static : (v : Scene) (ks : Kinds) (ms : List Member) (front rest : List ℕ) (m : Member) → IsSite v → IsLeft v ks ms m → (m.kind ≡ kind.Constructor → ⊥) → is_static m ≡ true → IsUtf8 (static_text v m) → static_text v m ≡ front ++ 46 ∷ rest → IsDottedBy v ks ms front
+dotted-static v ks ms front rest m site h f s u e =
+    let k = static-parts v ks ms m site h f s u in
     record { member = m; left = h; static = s; parts_are = k; cut = front-of (owner_text v m) m.name front rest (dotless m.name k.name) (sym e) }
 
-dotted-shape : (v : Scene) (ts : List Erased) (ms : List Member) (front rest : List ℕ) (m : Member) (f : Form) → IsSite v → IsLeft v ts ms m → IsUtf8 (form_text f) → Shape v m f m.kind (is_static m) → IsDotted f (front ++ 46 ∷ rest) → IsDottedBy v ts ms front
-dotted-shape v ts ms front rest m f site h u (static_field k s e) d = dotted-static v ts ms front rest m site h (λ q. field-made (sym k ∙ q)) s (subst (λ x. IsUtf8 (form_text x)) e u) (subst (λ x. IsDotted x (front ++ 46 ∷ rest)) e d)
-dotted-shape v ts ms front rest m f site h u (own_field k s e) d = absurd (subst (λ x. IsDotted x (front ++ 46 ∷ rest)) e d)
-dotted-shape v ts ms front rest m f site h u (static_method k s e) d = dotted-static v ts ms front rest m site h (λ q. method-made (sym k ∙ q)) s (subst (λ x. IsUtf8 (form_text x)) e u) (subst (λ x. IsDotted x (front ++ 46 ∷ rest)) e d)
-dotted-shape v ts ms front rest m f site h u (own_method k s e) d = absurd (subst (λ x. IsDotted x (front ++ 46 ∷ rest)) e d)
-dotted-shape v ts ms front rest m f site h u (maker k e) d = absurd (subst (λ x. IsDotted x (front ++ 46 ∷ rest)) e d)
+dotted-shape : (v : Scene) (ks : Kinds) (ms : List Member) (front rest : List ℕ) (m : Member) (f : Form) → IsSite v → IsLeft v ks ms m → IsUtf8 (form_text f) → Shape v m f m.kind (is_static m) → IsDotted f (front ++ 46 ∷ rest) → IsDottedBy v ks ms front
+dotted-shape v ks ms front rest m f site h u (static_field k s e) d = dotted-static v ks ms front rest m site h (λ q. field-made (sym k ∙ q)) s (subst (λ x. IsUtf8 (form_text x)) e u) (subst (λ x. IsDotted x (front ++ 46 ∷ rest)) e d)
+dotted-shape v ks ms front rest m f site h u (own_field k s e) d = absurd (subst (λ x. IsDotted x (front ++ 46 ∷ rest)) e d)
+dotted-shape v ks ms front rest m f site h u (static_method k s e) d = dotted-static v ks ms front rest m site h (λ q. method-made (sym k ∙ q)) s (subst (λ x. IsUtf8 (form_text x)) e u) (subst (λ x. IsDotted x (front ++ 46 ∷ rest)) e d)
+dotted-shape v ks ms front rest m f site h u (own_method k s e) d = absurd (subst (λ x. IsDotted x (front ++ 46 ∷ rest)) e d)
+dotted-shape v ks ms front rest m f site h u (maker k e) d = absurd (subst (λ x. IsDotted x (front ++ 46 ∷ rest)) e d)
 
-pub dotted-by : (v : Scene) (ts : List Erased) (ms : List Member) (front rest : List ℕ) (c : Decl) → IsSite v → Origin v ts ms c → IsDotted c.form (front ++ 46 ∷ rest) → IsDottedBy v ts ms front
-dotted-by v ts ms front rest c site (this k) d = absurd (subst (λ x. IsDotted x (front ++ 46 ∷ rest)) k.form d)
-dotted-by v ts ms front rest c site (local k) d = absurd (lacks_not 46 k.text front rest (dotless k.text k.name) (subst (λ x. IsDotted x (front ++ 46 ∷ rest)) k.form d))
-dotted-by v ts ms front rest c site (literal k) d = absurd (lacks_not 46 k.text front rest (literal_word k.text k.is).dotless (subst (λ x. IsDotted x (front ++ 46 ∷ rest)) k.form d))
-dotted-by v ts ms front rest c site (made k) d = dotted-shape v ts ms front rest k.member (member_decl v ts ms k.member).form site k.shown.left k.shown.utf8 (shape v ts ms k.member) (subst (λ (x : Decl). IsDotted x.form (front ++ 46 ∷ rest)) k.is d)
-dotted-by v ts ms front rest c site (lambda k) d = absurd (subst (λ x. IsDotted x (front ++ 46 ∷ rest)) k.form d)
+pub dotted-by : (v : Scene) (ks : Kinds) (ms : List Member) (front rest : List ℕ) (c : Decl) → IsSite v → Origin v ks ms c → IsDotted c.form (front ++ 46 ∷ rest) → IsDottedBy v ks ms front
+dotted-by v ks ms front rest c site (this k) d = absurd (subst (λ x. IsDotted x (front ++ 46 ∷ rest)) k.form d)
+dotted-by v ks ms front rest c site (local k) d = absurd (lacks_not 46 k.text front rest (dotless k.text k.name) (subst (λ x. IsDotted x (front ++ 46 ∷ rest)) k.form d))
+dotted-by v ks ms front rest c site (literal k) d = absurd (lacks_not 46 k.text front rest (literal_word k.text k.is).dotless (subst (λ x. IsDotted x (front ++ 46 ∷ rest)) k.form d))
+dotted-by v ks ms front rest c site (made k) d = dotted-shape v ks ms front rest k.member (member_decl v ks ms k.member).form site k.shown.left k.shown.utf8 (shape v ks ms k.member) (subst (λ (x : Decl). IsDotted x.form (front ++ 46 ∷ rest)) k.is d)
+dotted-by v ks ms front rest c site (lambda k) d = absurd (subst (λ x. IsDotted x (front ++ 46 ∷ rest)) k.form d)
 
 -- no such front is a name that is taken, or a static field
-pub front-free : (v : Scene) (ts : List Erased) (ms : List Member) (front : List ℕ) → IsDottedBy v ts ms front → IsName front → is_among (taken_names v) front ≡ true → ⊥
-front-free v ts ms front h n e =
-    let f = first-free v (taken_names v) (field_texts v (after_four v ts ms)) h.member h.left.shown h.static in
+pub front-free : (v : Scene) (ks : Kinds) (ms : List Member) (front : List ℕ) → IsDottedBy v ks ms front → IsName front → is_among (taken_names v) front ≡ true → ⊥
+front-free v ks ms front h n e =
+    let f = first-free v (taken_names v) (field_texts v (after_four v ks.types ms)) h.member h.left.shown h.static in
     both_ways (is_among (taken_names v) front) (ap (is_among (taken_names v)) (front-first (owner_text v h.member) front (dotless front n) h.cut) ∙ f.0) e
 
-front-literal : (v : Scene) (ts : List Erased) (ms : List Member) (front : List ℕ) → IsSite v → IsDottedBy v ts ms front → has literals front ≡ true → ⊥
-front-literal v ts ms front site h e =
+front-literal : (v : Scene) (ks : Kinds) (ms : List Member) (front : List ℕ) → IsSite v → IsDottedBy v ks ms front → has literals front ≡ true → ⊥
+front-literal v ks ms front site h e =
     let k = h.parts_are in
     let first : front ≡ k.spelled.first = front-first (owner_text v h.member) front (literal_word front e).dotless h.cut ∙ ap (λ ps. get_or ps 0 []) (spelling-parts v h.member.owner (owner_text v h.member) site.word k.owner k.spelled) in
     let name : IsName k.spelled.first = (spelling-names v h.member.owner (owner_text v h.member) site.word k.owner k.spelled).0 in
@@ -201,26 +201,26 @@ field-by : (b : Bool) (w : List ℕ) → b ≡ true → is_among (if b then w �
 field-by true w e = let q : bytes_eq w w ≡ true = search (rules, tests) in or_left (bytes_eq w w) false q
 field-by false w e = absurd (false≢true e)
 
-front-field : (v : Scene) (ts : List Erased) (ms : List Member) (front : List ℕ) (m : Member) → IsDottedBy v ts ms front → IsLeft v ts ms m → m.kind ≡ kind.Field → is_static m ≡ true → front ≡ static_text v m → ⊥
-front-field v ts ms front m h k kind_is s e =
-    let f = first-free v (taken_names v) (field_texts v (after_four v ts ms)) h.member h.left.shown h.static in
+front-field : (v : Scene) (ks : Kinds) (ms : List Member) (front : List ℕ) (m : Member) → IsDottedBy v ks ms front → IsLeft v ks ms m → m.kind ≡ kind.Field → is_static m ≡ true → front ≡ static_text v m → ⊥
+front-field v ks ms front m h k kind_is s e =
+    let f = first-free v (taken_names v) (field_texts v (after_four v ks.types ms)) h.member h.left.shown h.static in
     let test : is_static_field m ≡ true = and_from (same_kind m.kind kind.Field) (is_static m) (ap (λ x. same_kind x kind.Field) kind_is) s in
     let one : is_among (field_text v m) front ≡ true = ap (is_among (field_text v m)) e ∙ field-by (is_static_field m) (static_text v m) test in
-    let among : is_among (field_texts v (after_four v ts ms)) front ≡ true = sym (among-flat (field_text v) (after_four v ts ms) front) ∙ k.four (λ x. is_among (field_text v x) front) one in
-    false≢true (sym f.1 ∙ front-prefix (is_among (field_texts v (after_four v ts ms))) (owner_text v h.member) front h.cut among)
+    let among : is_among (field_texts v (after_four v ks.types ms)) front ≡ true = sym (among-flat (field_text v) (after_four v ks.types ms) front) ∙ k.four (λ x. is_among (field_text v x) front) one in
+    false≢true (sym f.1 ∙ front-prefix (is_among (field_texts v (after_four v ks.types ms))) (owner_text v h.member) front h.cut among)
 
-pub front-no-name : (v : Scene) (ts : List Erased) (ms : List Member) (front : List ℕ) (d : Decl) → IsSite v → IsDottedBy v ts ms front → Origin v ts ms d → d.form ≡ Name front → ⊥
-front-no-name v ts ms front d site h (this k) e = let a = k.form in cc
-front-no-name v ts ms front d site h (local k) e =
+pub front-no-name : (v : Scene) (ks : Kinds) (ms : List Member) (front : List ℕ) (d : Decl) → IsSite v → IsDottedBy v ks ms front → Origin v ks ms d → d.form ≡ Name front → ⊥
+front-no-name v ks ms front d site h (this k) e = let a = k.form in cc
+front-no-name v ks ms front d site h (local k) e =
     let a = k.form in
     let same : k.text ≡ front = cc in
-    front-free v ts ms front h (subst IsName same k.name) (scope-taken v front (subst (λ w. is_among (scope_names v) w ≡ true) same k.taken))
-front-no-name v ts ms front d site h (literal k) e =
+    front-free v ks ms front h (subst IsName same k.name) (scope-taken v front (subst (λ w. is_among (scope_names v) w ≡ true) same k.taken))
+front-no-name v ks ms front d site h (literal k) e =
     let a = k.form in
     let same : k.text ≡ front = cc in
-    front-literal v ts ms front site h (subst (λ w. has literals w ≡ true) same k.is)
-front-no-name v ts ms front d site h (made k) e =
-    let f = (member_decl v ts ms k.member).form in
-    let p = name-shape v k.member f k.member.kind (is_static k.member) front (shape v ts ms k.member) (sym (ap (λ (x : Decl). x.form) k.is) ∙ e) in
-    front-field v ts ms front k.member h k.shown.left p.kind_is p.static p.is
-front-no-name v ts ms front d site h (lambda k) e = let a = k.form in cc
+    front-literal v ks ms front site h (subst (λ w. has literals w ≡ true) same k.is)
+front-no-name v ks ms front d site h (made k) e =
+    let f = (member_decl v ks ms k.member).form in
+    let p = name-shape v k.member f k.member.kind (is_static k.member) front (shape v ks ms k.member) (sym (ap (λ (x : Decl). x.form) k.is) ∙ e) in
+    front-field v ks ms front k.member h k.shown.left p.kind_is p.static p.is
+front-no-name v ks ms front d site h (lambda k) e = let a = k.form in cc

@@ -1,9 +1,7 @@
 -- No two declarations of an environment look alike, unless casts or receivers tell them apart.
-use Rattle.std.proofs.Common.{◌≡◌, ◌∙◌, inl, inr, sym, ap, subst, refl, arith, ℕ, zero, suc, ◌<◌, ◌==◌, Bool, true, false, List, [], ◌∷◌, length, map, get_or}
-use Rattle.std.specs.List.{list_any}
-use Rattle.std.proofs.lemmas.Bool.{false≢true, or_left, or_right, or_cases, eqb-true}
+use Rattle.std.proofs.Common.{◌≡◌, ◌∙◌, inl, inr, sym, ap, subst, refl, ℕ, ◌==◌, Bool, true, false, List, ◌∷◌, length, map, get_or, Option, None, Some}
+use Rattle.std.proofs.lemmas.Bool.{false≢true, or_cases, eqb-true}
 use Rattle.std.proofs.lemmas.List.{length-map}
-use Rattle.type_names.specs.declared.kinds.Base.TheVariants as base
 use Rattle.type_names.specs.declared.kinds.Erased.{Erased}
 use Rattle.terms.specs.Typing.{is_pair, is_below}
 use Rattle.terms.specs.Apart.{IsOf, AreAlike, HasReceiver, AreTold}
@@ -19,16 +17,15 @@ use Rattle.offers.specs.Pairs.{pairs_of}
 use Rattle.offers.specs.declared.member.Member.{Member}
 use Rattle.offers.specs.Candidates.{is_static}
 use Rattle.offers.specs.Omissions.{is_under, meet, is_crowded}
-use Rattle.offers.specs.Functional.{of_base}
-use Rattle.offers.specs.Types.{number_in, is_below_at}
-use Rattle.offers.specs.Spellings.{type_text}
+use Rattle.scopes.specs.Kinds.{Kinds, listed, count, type_number, is_outcome_below, is_below_in}
 use Rattle.scopes.specs.Declarations.{wants_by, member_decl}
 use Rattle.scopes.specs.Environments.{parts_by}
 use Rattle.scopes.proofs.OrderPairs.{rows_known}
+use Rattle.scopes.proofs.Listed.{some-listed}
 use Rattle.hole_texts.proofs.Members.{Differ}
 use Rattle.hole_texts.proofs.Left.{Stands, AreKin, others, others-turn, crowded, meet-turn, meet-own, at-or-below}
 use Rattle.hole_texts.proofs.Origins.{IsSite, IsShown}
-use Rattle.hole_texts.proofs.Shown.{arg_of, args-are, crowded-is, number-get, same-args}
+use Rattle.hole_texts.proofs.Shown.{arg_of, args-are, crowded-is, number-get, some-one, same-args}
 
 -- two declarations at two places
 pub record AreUnlike (g : Parts) (c d : Decl) : Type 0 where
@@ -117,37 +114,37 @@ lambda-unlike g c d t e n = record {
 }
 
 -- two members: what both are
-pub record ArePair (v : Scene) (ts : List Erased) (ms : List Member) (m n : Member) : Type 0 where
+pub record ArePair (v : Scene) (ks : Kinds) (ms : List Member) (m n : Member) : Type 0 where
   pub site : IsSite v
-  pub first : IsShown v ts ms m
-  pub second : IsShown v ts ms n
+  pub first : IsShown v ks ms m
+  pub second : IsShown v ks ms n
   pub differ : Differ m n
 
-record AreCrowded (v : Scene) (ts : List Erased) (ms : List Member) (m n : Member) : Type 0 where
-  pub first : is_crowded v ts ms m ≡ true
-  pub second : is_crowded v ts ms n ≡ true
+record AreCrowded (v : Scene) (ks : Kinds) (ms : List Member) (m n : Member) : Type 0 where
+  pub first : is_crowded v ks.types ms m ≡ true
+  pub second : is_crowded v ks.types ms n ≡ true
 
-both-crowded : (v : Scene) (ts : List Erased) (ms : List Member) (m n : Member) → ArePair v ts ms m n → AreKin m n → length m.params ≡ length n.params → meet v ts m n ≡ true → AreCrowded v ts ms m n
-both-crowded v ts ms m n p k l e =
+both-crowded : (v : Scene) (ks : Kinds) (ms : List Member) (m n : Member) → ArePair v ks ms m n → AreKin m n → length m.params ≡ length n.params → meet v ks.types m n ≡ true → AreCrowded v ks ms m n
+both-crowded v ks ms m n p k l e =
     let o = others m n k p.differ in
     let turned : AreKin n m = record { kind_is = sym k.kind_is; name_is = sym k.name_is } in
     record {
-      first = crowded v ts ms m n p.second.left.among k l o e;
-      second = crowded v ts ms n m p.first.left.among turned (sym l) (others-turn m n o) (meet-turn v ts m n e);
+      first = crowded v ks ms m n p.second.left.among k l o e;
+      second = crowded v ks ms n m p.first.left.among turned (sym l) (others-turn m n o) (meet-turn v ks m n e);
     }
 
 -- told by casts
-by-casts : (v : Scene) (ts : List Erased) (ms : List Member) (ds : List Decl) (limit depth : ℕ) (m n : Member) → AreCrowded v ts ms m n → (map (arg_of ts) (wants_by m m.kind (is_static m)) ≡ map (arg_of ts) (wants_by n n.kind (is_static n)) → ⊥) → AreTold (parts_by v ts ds limit depth) (member_decl v ts ms m) (member_decl v ts ms n)
-by-casts v ts ms ds limit depth m n c f = inl (crowded-is v ts ms m ∙ c.first, crowded-is v ts ms n ∙ c.second, λ e. f (sym (args-are v ts ms m) ∙ e ∙ args-are v ts ms n))
+by-casts : (v : Scene) (ks : Kinds) (ms : List Member) (ds : List Decl) (limit depth : ℕ) (m n : Member) → AreCrowded v ks ms m n → (map (arg_of ks) (wants_by m m.kind (is_static m)) ≡ map (arg_of ks) (wants_by n n.kind (is_static n)) → ⊥) → AreTold (parts_by v ks ds limit depth) (member_decl v ks ms m) (member_decl v ks ms n)
+by-casts v ks ms ds limit depth m n c f = inl (crowded-is v ks ms m ∙ c.first, crowded-is v ks ms n ∙ c.second, λ e. f (sym (args-are v ks ms m) ∙ e ∙ args-are v ks ms n))
 
 -- members of one owner, and with one number of parameters
-pub by-params : (v : Scene) (ts : List Erased) (ms : List Member) (ds : List Decl) (limit depth : ℕ) (m n : Member) → ArePair v ts ms m n → AreKin m n → m.owner ≡ n.owner → wants_by m m.kind (is_static m) ≡ m.params → wants_by n n.kind (is_static n) ≡ n.params → length (member_decl v ts ms m).args ≡ length (member_decl v ts ms n).args → AreTold (parts_by v ts ds limit depth) (member_decl v ts ms m) (member_decl v ts ms n)
-by-params v ts ms ds limit depth m n p k o wm wn l =
-    let am : (member_decl v ts ms m).args ≡ map (arg_of ts) m.params = args-are v ts ms m ∙ ap (map (arg_of ts)) wm in
-    let an : (member_decl v ts ms n).args ≡ map (arg_of ts) n.params = args-are v ts ms n ∙ ap (map (arg_of ts)) wn in
-    let same : length m.params ≡ length n.params = sym (length-map m.params (arg_of ts)) ∙ ap length (sym am) ∙ l ∙ ap length an ∙ length-map n.params (arg_of ts) in
-    by-casts v ts ms ds limit depth m n (both-crowded v ts ms m n p k same (meet-own v ts m n p.first.left.own o))
-    (λ e. others m n k p.differ o (same-args ts m.params n.params p.first.left.params p.second.left.params (sym (ap (map (arg_of ts)) wm) ∙ e ∙ ap (map (arg_of ts)) wn)))
+pub by-params : (v : Scene) (ks : Kinds) (ms : List Member) (ds : List Decl) (limit depth : ℕ) (m n : Member) → ArePair v ks ms m n → AreKin m n → m.owner ≡ n.owner → wants_by m m.kind (is_static m) ≡ m.params → wants_by n n.kind (is_static n) ≡ n.params → length (member_decl v ks ms m).args ≡ length (member_decl v ks ms n).args → AreTold (parts_by v ks ds limit depth) (member_decl v ks ms m) (member_decl v ks ms n)
+by-params v ks ms ds limit depth m n p k o wm wn l =
+    let am : (member_decl v ks ms m).args ≡ map (arg_of ks) m.params = args-are v ks ms m ∙ ap (map (arg_of ks)) wm in
+    let an : (member_decl v ks ms n).args ≡ map (arg_of ks) n.params = args-are v ks ms n ∙ ap (map (arg_of ks)) wn in
+    let same : length m.params ≡ length n.params = sym (length-map m.params (arg_of ks)) ∙ ap length (sym am) ∙ l ∙ ap length an ∙ length-map n.params (arg_of ks) in
+    by-casts v ks ms ds limit depth m n (both-crowded v ks ms m n p k same (meet-own v ks m n p.first.left.own o))
+    (λ e. others m n k p.differ o (same-args ks m.params n.params p.first.left.params p.second.left.params (sym (ap (map (arg_of ks)) wm) ∙ e ∙ ap (map (arg_of ks)) wn)))
 
 -- a type that stands where an owner is wanted
 first-of : (xs : List Arg) (b a : ℕ) (more : List Arg) → xs ≡ Plain b ∷ more → IsOf xs a → a ≡ b
@@ -156,33 +153,37 @@ first-of xs b a more e h = sym (only (subst (λ z. IsOf z a) e h))
     only : IsOf (Plain b ∷ more) a → b ≡ a
     only q = q
 
-below-type : (v : Scene) (ts : List Erased) (ds : List Decl) (limit depth t : ℕ) (u : Erased) → Stands ts u → is_below (parts_by v ts ds limit depth) t (number_in ts u) ≡ true → at_or_below v (get_or ts t (of_base base.Int)) u ≡ true
+record IsLow (v : Scene) (k : Option Erased) (u : Erased) : Type 0 where
+  pub kind : Erased
+  pub is : k ≡ Some kind
+  pub below : at_or_below v kind u ≡ true
+
+low-by : (v : Scene) (k : Option Erased) (u : Erased) → is_outcome_below v k (Some u) ≡ true → IsLow v k u
+low-by v None u e = absurd (false≢true e)
+low-by v (Some t) u e = record { kind = t; is = refl; below = at-or-below v t u (inr e) }
+
+below-type : (v : Scene) (ks : Kinds) (ds : List Decl) (limit depth t : ℕ) (u : Erased) → Stands ks u → is_below (parts_by v ks ds limit depth) t (type_number ks u) ≡ true → IsLow v (get_or (listed ks) t None) u
 unfolding is_below
-below-type v ts ds limit depth t u h e = elim (or_cases (t == number_in ts u) (is_pair (pairs_of (length ts) (is_below_at v ts)) t (number_in ts u)) e) [
-  | inl a ↦ at-or-below v (get_or ts t (of_base base.Int)) u (inl (ap (λ k. get_or ts k (of_base base.Int)) (eqb-true t (number_in ts u) a) ∙ number-get ts u (of_base base.Int) h))
-  | inr b ↦ at-or-below v (get_or ts t (of_base base.Int)) u (inr (ap (v.below (get_or ts t (of_base base.Int))) (sym (number-get ts u (of_base base.Int) h)) ∙ (rows_known (length ts) (is_below_at v ts) (length ts) t (number_in ts u) b).2))
+below-type v ks ds limit depth t u h e = elim (or_cases (t == type_number ks u) (is_pair (pairs_of (count ks) (is_below_in v ks)) t (type_number ks u)) e) [
+  | inl a ↦ record { kind = u; is = ap (λ k. get_or (listed ks) k None) (eqb-true t (type_number ks u) a) ∙ number-get ks u h; below = at-or-below v u u (inl refl) }
+  | inr b ↦ low-by v (get_or (listed ks) t None) u (ap (is_outcome_below v (get_or (listed ks) t None)) (sym (number-get ks u h)) ∙ (rows_known (count ks) (is_below_in v ks) (count ks) t (type_number ks u) b).2)
 ]
 
-any-at : (p : Erased → Bool) (ts : List Erased) (i : ℕ) (d : Erased) → i < length ts → p (get_or ts i d) ≡ true → list_any p ts ≡ true
-any-at p [] i d l e = absurd (omega (arith, l))
-any-at p (t ∷ ts) zero d l e = or_left (p t) (list_any p ts) e
-any-at p (t ∷ ts) (suc i) d l e = or_right (p t) (list_any p ts) (any-at p ts i d (omega arith) e)
-
 -- told by casts where some type is at or below both owners, else by the receivers
-pub by-owners : (v : Scene) (ts : List Erased) (ms : List Member) (ds : List Decl) (limit depth : ℕ) (m n : Member) (xs ys : List Erased) → ArePair v ts ms m n → AreKin m n → HasReceiver (member_decl v ts ms m).form → length m.params ≡ length n.params → (wants_by m m.kind (is_static m) ≡ of_class m.owner ∷ xs) → (wants_by n n.kind (is_static n) ≡ of_class n.owner ∷ ys) → (map (arg_of ts) (wants_by m m.kind (is_static m)) ≡ map (arg_of ts) (wants_by n n.kind (is_static n)) → ⊥) → (b : Bool) → meet v ts m n ≡ b → AreTold (parts_by v ts ds limit depth) (member_decl v ts ms m) (member_decl v ts ms n)
-by-owners v ts ms ds limit depth m n xs ys p k r l wm wn f true e = by-casts v ts ms ds limit depth m n (both-crowded v ts ms m n p k l e) f
-by-owners v ts ms ds limit depth m n xs ys p k r l wm wn f false e =
-    let am : (member_decl v ts ms m).args ≡ map (arg_of ts) (of_class m.owner ∷ xs) = args-are v ts ms m ∙ ap (map (arg_of ts)) wm in
-    let an : (member_decl v ts ms n).args ≡ map (arg_of ts) (of_class n.owner ∷ ys) = args-are v ts ms n ∙ ap (map (arg_of ts)) wn in
+pub by-owners : (v : Scene) (ks : Kinds) (ms : List Member) (ds : List Decl) (limit depth : ℕ) (m n : Member) (xs ys : List Erased) → ArePair v ks ms m n → AreKin m n → HasReceiver (member_decl v ks ms m).form → length m.params ≡ length n.params → (wants_by m m.kind (is_static m) ≡ of_class m.owner ∷ xs) → (wants_by n n.kind (is_static n) ≡ of_class n.owner ∷ ys) → (map (arg_of ks) (wants_by m m.kind (is_static m)) ≡ map (arg_of ks) (wants_by n n.kind (is_static n)) → ⊥) → (b : Bool) → meet v ks.types m n ≡ b → AreTold (parts_by v ks ds limit depth) (member_decl v ks ms m) (member_decl v ks ms n)
+by-owners v ks ms ds limit depth m n xs ys p k r l wm wn f true e = by-casts v ks ms ds limit depth m n (both-crowded v ks ms m n p k l e) f
+by-owners v ks ms ds limit depth m n xs ys p k r l wm wn f false e =
+    let am : (member_decl v ks ms m).args ≡ map (arg_of ks) (of_class m.owner ∷ xs) = args-are v ks ms m ∙ ap (map (arg_of ks)) wm in
+    let an : (member_decl v ks ms n).args ≡ map (arg_of ks) (of_class n.owner ∷ ys) = args-are v ks ms n ∙ ap (map (arg_of ks)) wn in
     inr (
       r,
       λ a b t oa ob low ba bb.
-          let qa : a ≡ number_in ts (of_class m.owner) = first-of (member_decl v ts ms m).args (number_in ts (of_class m.owner)) a (map (arg_of ts) xs) am oa in
-          let qb : b ≡ number_in ts (of_class n.owner) = first-of (member_decl v ts ms n).args (number_in ts (of_class n.owner)) b (map (arg_of ts) ys) an ob in
-          let u = get_or ts t (of_base base.Int) in
-          let x : at_or_below v u (of_class m.owner) ≡ true = below-type v ts ds limit depth t (of_class m.owner) p.first.left.own (subst (λ z. is_below (parts_by v ts ds limit depth) t z ≡ true) qa ba) in
-          let y : at_or_below v u (of_class n.owner) ≡ true = below-type v ts ds limit depth t (of_class n.owner) p.second.left.own (subst (λ z. is_below (parts_by v ts ds limit depth) t z ≡ true) qb bb) in
-          let within : t < length ts = omega (arith, low, length-map ts (type_text v)) in
-          let both : is_under v m n u ≡ true = rw (x, y) refl in
-          false≢true (sym e ∙ any-at (is_under v m n) ts t (of_base base.Int) within both),
+          let qa : a ≡ type_number ks (of_class m.owner) = first-of (member_decl v ks ms m).args (type_number ks (of_class m.owner)) a (map (arg_of ks) xs) am oa in
+          let qb : b ≡ type_number ks (of_class n.owner) = first-of (member_decl v ks ms n).args (type_number ks (of_class n.owner)) b (map (arg_of ks) ys) an ob in
+          let x : IsLow v (get_or (listed ks) t None) (of_class m.owner) = below-type v ks ds limit depth t (of_class m.owner) p.first.left.own (subst (λ z. is_below (parts_by v ks ds limit depth) t z ≡ true) qa ba) in
+          let y : IsLow v (get_or (listed ks) t None) (of_class n.owner) = below-type v ks ds limit depth t (of_class n.owner) p.second.left.own (subst (λ z. is_below (parts_by v ks ds limit depth) t z ≡ true) qb bb) in
+          let one : y.kind ≡ x.kind = some-one y.kind x.kind (sym y.is ∙ x.is) in
+          let under : at_or_below v x.kind (of_class n.owner) ≡ true = subst (λ z. at_or_below v z (of_class n.owner) ≡ true) one y.below in
+          let both : is_under v m n x.kind ≡ true = rw (x.below, under) refl in
+          false≢true (sym e ∙ some-listed ks (is_under v m n) t x.kind x.is both),
     )

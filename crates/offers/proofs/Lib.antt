@@ -20,3 +20,4 @@ pub mod Rivals
 pub mod Placing
 pub mod Spelled
 pub mod FieldNames
+pub mod Heads

@@ -2,30 +2,26 @@
 use Rattle.std.proofs.Common.{◌≡◌, ◌∙◌, ap, subst, sym, refl, ℕ, Bool, true, false, ◌&&◌, ◌||◌, not, List, [], ◌∷◌, map, bytes_eq}
 use Rattle.std.specs.List.{list_any}
 use Rattle.offers.specs.declared.member.Member.{Member}
-use Rattle.offers.specs.Scenes.{Scene, of_class, same_type}
-use Rattle.offers.specs.Candidates.{is_private, value}
-use Rattle.offers.specs.Omissions.{is_instance, same_types, overrides}
+use Rattle.offers.specs.Scenes.{Scene, of_class}
+use Rattle.offers.specs.Candidates.{is_private, value, same_outcome}
+use Rattle.offers.specs.Omissions.{is_instance, same_descriptor, overrides}
 use Rattle.offers.specs.Grouping.{IsRow, AreGroups, row_in, at_place}
 use Rattle.offers.specs.Hashing.{call_hash}
 use Rattle.offers.proofs.Lists.{first-true, second-true}
 use Rattle.offers.proofs.Rows.{any-row}
 use Rattle.offers.proofs.Alike.{one-call}
 
-params-same : (m n : Member) → same_types (value m ∷ m.params) (value n ∷ n.params) ≡ true → same_types m.params n.params ≡ true
-unfolding same_types
-params-same m n e = second-true (same_type (value m) (value n)) (same_types m.params n.params) e
-
 -- one is of the name and the parameter types of the other
 over-call : (v : Scene) (m n : Member) → overrides v m n ≡ true → call_hash n ≡ call_hash m
 unfolding overrides
 over-call v m n e =
-    let same = first-true (bytes_eq m.name n.name && same_types (value m ∷ m.params) (value n ∷ n.params)) _ (second-true (is_instance m && (is_instance n && not (is_private n))) _ e) in
-    one-call m n (first-true (bytes_eq m.name n.name) _ same) (params-same m n (second-true (bytes_eq m.name n.name) _ same))
+    let same = first-true (bytes_eq m.name n.name && same_descriptor m n) _ (second-true (is_instance m && (is_instance n && not (is_private n))) _ e) in
+    one-call m n (first-true (bytes_eq m.name n.name) _ same) (second-true (same_outcome (value m) (value n)) _ (second-true (bytes_eq m.name n.name) _ same))
 
 -- a field, a constructor or a static method stands for none
 not-one : (v : Scene) (m n : Member) → is_instance m ≡ false → overrides v m n ≡ false
 unfolding overrides
-not-one v m n e = ap (λ b. (b && (is_instance n && not (is_private n))) && ((bytes_eq m.name n.name && same_types (value m ∷ m.params) (value n ∷ n.params)) && v.below (of_class m.owner) (of_class n.owner))) e
+not-one v m n e = ap (λ b. (b && (is_instance n && not (is_private n))) && ((bytes_eq m.name n.name && same_descriptor m n) && v.below (of_class m.owner) (of_class n.owner))) e
 
 pub over-none : (v : Scene) (m : Member) (ms : List Member) → is_instance m ≡ false → false ≡ list_any (overrides v m) ms
 over-none v m [] e = refl

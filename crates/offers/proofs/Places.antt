@@ -1,5 +1,6 @@
 -- Items that are sorted from the last to the first.
-use Rattle.std.proofs.Common.{◌≡◌, ◌∙◌, ap, sym, refl, arith, ℕ, zero, suc, ◌+◌, ◌-◌, ◌<◌, ◌≤◌, List, [], ◌∷◌, length, drop, get_or, drop-cons}
+use Rattle.std.proofs.Common.{◌≡◌, ◌∙◌, ap, sym, refl, arith, ℕ, zero, suc, ◌+◌, ◌-◌, ◌<◌, ◌≤◌, List, [], ◌∷◌, ◌++◌, append_assoc, length, drop, get_or, drop-cons}
+use Rattle.std.proofs.lemmas.List.{append-nil}
 use Rattle.offers.specs.Scenes.{put, sorted}
 
 -- the item at a place of a list, and what follows it
@@ -28,3 +29,11 @@ pub sorted-on : {A : Type 0} (text : A → List ℕ) (xs all new : List A) (left
 sorted-on text xs all new left y o l e h f =
     let s : left - 1 + 1 ≡ left = omega arith in
     f ∙ ap (put text y) (h ∙ ap (λ n. sorted text (drop n xs)) (sym s)) ∙ sym (ap (sorted text) (at-place xs (left - 1) y (omega arith) e) ∙ sorted-cons text y (drop (left - 1 + 1) xs))
+
+-- one more is taken from the end
+pub taken-last : {A : Type 0} (text : A → List ℕ) (items left new rest : List A) (x : A) (all next : List A) → items ≡ left ++ rest → left ≡ new ++ x ∷ [] → all ≡ sorted text rest → next ≡ put text x all → (more : List A) × (items ≡ new ++ more) × (next ≡ sorted text more)
+taken-last {A} text items left new rest x all next e f g h =
+    (x ∷ rest, e ∙ ap (λ (z : List A). z ++ rest) f ∙ append_assoc new (x ∷ []) rest, h ∙ ap (put text x) g ∙ sym (sorted-cons text x rest))
+
+pub none-taken : {A : Type 0} (text : A → List ℕ) (items all : List A) → all ≡ [] → (rest : List A) × (items ≡ items ++ rest) × (all ≡ sorted text rest)
+none-taken text items all e = ([], sym (append-nil items), e ∙ sym (sorted-nil text))

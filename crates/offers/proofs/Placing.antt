@@ -4,7 +4,7 @@ use Rattle.std.specs.Prelude.{slice_get}
 use Rattle.type_names.specs.declared.kinds.Erased.{Erased}
 use Rattle.subtyping.specs.Asked.{class_place}
 use Rattle.offers.specs.Views.{Outlook}
-use Rattle.offers.specs.Placing.{ArePlaces}
+use Rattle.offers.specs.Placing.{ArePlaces, head_in, AreHeads}
 
 as-long : {A B : Type 0} (f : A → B) (xs : List A) → length (map f xs) ≡ length xs
 as-long f [] = omega arith
@@ -20,3 +20,9 @@ places-long o types places i h l = omega (arith, ap length h, as-long (λ (t : E
 
 pub place-at : (o : Outlook) (types : List Erased) (places : List (Option ℕ)) (i : ℕ) (kind : Erased) (place : Option ℕ) → ArePlaces o types places → slice_get types i ≡ Some kind → place ≡ get_or places i place → place ≡ class_place o.ancestry.names kind.base
 place-at o types places i kind place h s e = e ∙ ap (λ (ps : List (Option ℕ)). get_or ps i place) h ∙ mapped (λ (t : Erased). class_place o.ancestry.names t.base) types i kind place s
+
+pub heads-long : (o : Outlook) (types : List Erased) (heads : List (Option ℕ)) (i : ℕ) → AreHeads o types heads → i < length types → i < length heads
+heads-long o types heads i h l = omega (arith, ap length h, as-long (head_in o) types)
+
+pub head-at : (o : Outlook) (types : List Erased) (heads : List (Option ℕ)) (i : ℕ) (kind : Erased) (head : Option ℕ) → AreHeads o types heads → slice_get types i ≡ Some kind → head ≡ get_or heads i head → head ≡ head_in o kind
+head-at o types heads i kind head h s e = e ∙ ap (λ (ps : List (Option ℕ)). get_or ps i head) h ∙ mapped (head_in o) types i kind head s

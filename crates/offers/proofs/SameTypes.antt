@@ -44,10 +44,3 @@ none = refl
 
 pub types-end : (whole : Bool) (a b : List Erased) (i : ℕ) → length a ≤ i → length b ≤ i → whole ≡ same_types (drop i a) (drop i b) → true ≡ whole
 types-end whole a b i l m h = sym (h ∙ ap (λ z. same_types z (drop i b)) (dropped i a l) ∙ ap (same_types []) (dropped i b m) ∙ none)
-
--- of a type and a list
-pub cons-no : (x y left right : Erased) (xs ys : List Erased) (same : Bool) → left ≡ x → right ≡ y → same ≡ same_type left right → same ≡ false → false ≡ same_types (x ∷ xs) (y ∷ ys)
-cons-no x y left right xs ys same f g e n = sym (cons-cons x y xs ys ∙ ap (λ t. t && same_types xs ys) (ap (λ z. same_type z y) (sym f) ∙ ap (same_type left) (sym g) ∙ sym e ∙ n))
-
-pub cons-yes : (x y left right : Erased) (xs ys : List Erased) (same rest : Bool) → left ≡ x → right ≡ y → same ≡ same_type left right → same ≡ true → rest ≡ same_types xs ys → rest ≡ same_types (x ∷ xs) (y ∷ ys)
-cons-yes x y left right xs ys same rest f g e n h = h ∙ sym (cons-cons x y xs ys ∙ ap (λ t. t && same_types xs ys) (ap (λ z. same_type z y) (sym f) ∙ ap (same_type left) (sym g) ∙ sym e ∙ n))

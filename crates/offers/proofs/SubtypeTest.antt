@@ -18,20 +18,20 @@ use Rattle.subtyping.proofs.Laws.{below-mono, below-subtype, subtype-below}
 use Rattle.offers.specs.Order.{is_ancestor_at, is_ancestor, is_one_of, is_base_below, is_above_arrays, is_array_below, is_reference, is_below_at, is_below}
 use Rattle.offers.proofs.Descriptors.{base-one}
 
-same : (a b : List ℕ) → bytes_eq a b ≡ true → a ≡ b
+pub same : (a b : List ℕ) → bytes_eq a b ≡ true → a ≡ b
 same a b e = (bytes_eq-Decides a b).0 e
 
-equal : (a b : List ℕ) → a ≡ b → bytes_eq a b ≡ true
+pub equal : (a b : List ℕ) → a ≡ b → bytes_eq a b ≡ true
 equal a b e = (bytes_eq-Decides a b).1 e
 
 or-cases : (a b : Bool) → (a || b) ≡ true → (a ≡ true) ⊎ (b ≡ true)
 or-cases true b e = inl refl
 or-cases false b e = inr e
 
-or-left : (a b : Bool) → a ≡ true → (a || b) ≡ true
+pub or-left : (a b : Bool) → a ≡ true → (a || b) ≡ true
 or-left a b e = rw e refl
 
-or-right : (a b : Bool) → b ≡ true → (a || b) ≡ true
+pub or-right : (a b : Bool) → b ≡ true → (a || b) ≡ true
 or-right true b e = refl
 or-right false b e = e
 
@@ -59,13 +59,13 @@ any-number : (x : ℕ) (ys : List ℕ) → list_any (λ n. n == x) ys ≡ true �
 any-number x [] e = no-true e
 any-number x (y ∷ ys) e = elim (or-cases (y == x) _ e) [ inl h ↦ inl (search (rules, tests, h)) | inr h ↦ inr (any-number x ys h) ]
 
-in-any : (x : ℕ) (ys : List ℕ) → Contains ys x → list_any (λ n. n == x) ys ≡ true
+pub in-any : (x : ℕ) (ys : List ℕ) → Contains ys x → list_any (λ n. n == x) ys ≡ true
 in-any x ys h = number-any x ys (one-of x ys h)
 
-any-in : (x : ℕ) (ys : List ℕ) → list_any (λ n. n == x) ys ≡ true → Contains ys x
+pub any-in : (x : ℕ) (ys : List ℕ) → list_any (λ n. n == x) ys ≡ true → Contains ys x
 any-in x ys e = of-one x ys (any-number x ys e)
 
-base-any : (q : Base) (ps : List Base) → IsOneOf q ps → is_one_of ps q ≡ true
+pub base-any : (q : Base) (ps : List Base) → IsOneOf q ps → is_one_of ps q ≡ true
 unfolding is_one_of
 base-any q [] h = absurd h
 base-any q (p ∷ ps) (inl e) = or-left (bytes_eq (base p) (base q)) _ (equal (base p) (base q) (ap base e))
@@ -164,7 +164,7 @@ test-sound known s h a b e = below-subtype known a b (below-mono h.sound a.dims 
 pub test-complete : (known : KnownClasses) (s : Ancestry) → IsAncestry known s → (a b : Erased) → IsStrictSubtype known a b → is_below s a b ≡ true
 test-complete known s h a b p = if-below s a.dims a.base b.dims b.base (below-mono h.complete a.dims a.base b.dims b.base (subtype-below known a b p))
 
-same-truth : (a b : Bool) → (a ≡ true → b ≡ true) → (b ≡ true → a ≡ true) → a ≡ b
+pub same-truth : (a b : Bool) → (a ≡ true → b ≡ true) → (b ≡ true → a ≡ true) → a ≡ b
 same-truth true b f g = sym (f refl)
 same-truth false true f g = g refl
 same-truth false false f g = refl

@@ -1,5 +1,5 @@
 -- Functional interfaces, and what a lambda of one is (JLS 9.8).
-use Rattle.std.specs.Prelude.{ℕ, Bool, ◌&&◌, ◌||◌, not, if◌then◌else◌, List, [], ◌∷◌, codes, bytes_eq, is_some, unwrap_or, Option, Some, None}
+use Rattle.std.specs.Prelude.{ℕ, Bool, ◌&&◌, ◌||◌, not, if◌then◌else◌, List, [], ◌∷◌, codes, bytes_eq, is_some, Option, Some, None}
 use Rattle.std.specs.List.{list_any, list_all, filter, flat_map}
 use Rattle.type_names.specs.declared.kinds.Base.{Base}
 use Rattle.type_names.specs.declared.kinds.Base.TheVariants.{Int, Long}
@@ -14,7 +14,6 @@ use Rattle.offers.specs.declared.member.Face.{Face}
 use Rattle.offers.specs.Scenes.{Scene, of_class, at_or_below}
 use Rattle.offers.specs.Spellings.{class_spelling}
 use Rattle.offers.specs.Reach.{offered}
-use Rattle.offers.specs.Candidates.{has_result}
 use Rattle.offers.specs.Omissions.{same_types}
 
 -- An interface at or above a class.
@@ -74,21 +73,21 @@ promises v faces owner = filter (is_promise v faces owner) owner.methods
 abbrev pub group : Scene → List ClassSummary → List MethodSummary
 group v faces = flat_map (promises v faces) faces
 
--- The methods are one, by name and descriptor, and it has a result.
+-- The methods are one, by name and descriptor.
 abbrev pub is_same_call : MethodSummary → MethodSummary → Bool
 is_same_call m n = has_call m.name m.params n && bytes_eq (outcome m.result) (outcome n.result)
 
 abbrev pub one_method : List MethodSummary → Option MethodSummary
 one_method [] = None
-one_method (m ∷ ms) = if has_result m.result && list_all (is_same_call m) ms then Some m else None
+one_method (m ∷ ms) = if list_all (is_same_call m) ms then Some m else None
 
 -- The one method of a functional interface.
 unfoldable pub method_in : Scene → ClassSummary → Option MethodSummary
 method_in v c = if (is_interface c && is_some (class_spelling v c.name)) && is_whole v c then one_method (group v (faces_above v c)) else None
 
--- A functional interface with what its lambda takes and gives.
+-- A functional interface with what its lambda takes and gives; it may give nothing.
 abbrev pub face_of : List ℕ → MethodSummary → Face
-face_of name m = record { name = name; params = m.params; result = unwrap_or m.result (of_class name) }
+face_of name m = record { name = name; params = m.params; result = m.result }
 
 abbrev pub faces_by : List ℕ → Option MethodSummary → List Face
 faces_by name None = []

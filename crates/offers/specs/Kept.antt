@@ -1,10 +1,11 @@
 -- What is kept while members are asked whether they are crowded, and classes for the interfaces above them.
-use Rattle.std.specs.Prelude.{◌≡◌, List, map}
+use Rattle.std.specs.Prelude.{◌≡◌, ℕ, List, map, slice_get, Some}
 use Rattle.type_names.specs.declared.kinds.Erased.{Erased}
 use Rattle.offers.specs.declared.crowds.OwnedMembers.{OwnedMembers}
 use Rattle.offers.specs.declared.crowds.BelowOwner.{BelowOwner}
 use Rattle.offers.specs.declared.crowds.Crowding.{Crowding}
 use Rattle.offers.specs.declared.interfaces.KnownInterfaces.{KnownInterfaces}
+use Rattle.offers.specs.declared.member.Member.{Member}
 use Rattle.offers.specs.Scenes.{of_class}
 use Rattle.offers.specs.Views.{Outlook, scene}
 use Rattle.offers.specs.Placing.{IsPlaced}
@@ -13,9 +14,17 @@ use Rattle.offers.specs.Missing.{interfaces}
 use Rattle.offers.specs.Grouping.{AreGroups}
 use Rattle.offers.specs.Hashing.{count_hash}
 
+-- What stands at a place of the first list stands there in the second.
+abbrev pub IsKeptIn : List Erased → List Erased → Type 0
+IsKeptIn old new = (i : ℕ) (kind : Erased) → slice_get old i ≡ Some kind → slice_get new i ≡ Some kind
+
+-- For each member the place of its owner's type among these.
+abbrev pub AreOwners : List Member → List Erased → List ℕ → Type 0
+AreOwners members kinds places = map (slice_get kinds) places ≡ map (λ m. Some (of_class m.owner)) members
+
 -- The owners are those of the members, each with its place.
 pub record AreOwned (o : Outlook) (all : OwnedMembers) : Type 0 where
-  pub owners : all.owners.types ≡ map (λ m. of_class m.owner) all.members
+  pub owners : AreOwners all.members all.owners.types all.at.items
   pub placed : IsPlaced o all.owners
 
 -- The types are those of these that are at or below the owner, each with the place of its class.

@@ -31,7 +31,7 @@ pub record IsSceneAt (state : State) (u : unit.Unit) (site : HoleSite) (v : Scen
   pub weights : v.weights ≡ state.weights
   pub word : v.word ≡ is_identifier
 
--- The types mentioned, their pairs, the members after the five omissions, and the functional interfaces.
+-- The types of values that are mentioned, their pairs, the members after the five omissions, and the functional interfaces.
 pub record IsOffer (v : Scene) (o : Offer) : Type 0 where
   pub types : o.types ≡ environment_types v
   pub pairs : o.pairs ≡ pairs_of (length (environment_types v)) (is_below_at v (environment_types v))

@@ -10,7 +10,7 @@ use Rattle.offers.specs.Reach.{offered}
 use Rattle.offers.specs.Spellings.{parts, class_spelling, spelling}
 use Rattle.offers.specs.declared.member.Kind.TheVariants as kind
 use Rattle.offers.specs.declared.member.Member.{Member}
-use Rattle.offers.specs.Candidates.{same_kind, is_static, is_private, value, candidates}
+use Rattle.offers.specs.Candidates.{same_kind, is_static, is_private, value, same_outcome, candidates}
 
 unfoldable pub same_types : List Erased → List Erased → Bool
 same_types [] [] = true
@@ -44,10 +44,13 @@ after_two v = flat_map (λ c. firsts (filter (is_named v) (candidates v c))) (of
 abbrev pub is_instance : Member → Bool
 is_instance m = same_kind m.kind kind.Method && not (is_static m)
 
+abbrev pub same_descriptor : Member → Member → Bool
+same_descriptor m n = same_outcome (value m) (value n) && same_types m.params n.params
+
 unfoldable pub overrides : Scene → Member → Member → Bool
 overrides v m n =
     (is_instance m && (is_instance n && not (is_private n)))
-    && ((bytes_eq m.name n.name && same_types (value m ∷ m.params) (value n ∷ n.params)) && v.below (of_class m.owner) (of_class n.owner))
+    && ((bytes_eq m.name n.name && same_descriptor m n) && v.below (of_class m.owner) (of_class n.owner))
 
 abbrev pub left_of : Scene → List Member → List Member
 left_of v ms = filter (λ m. not (list_any (overrides v m) ms)) ms

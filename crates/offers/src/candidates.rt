@@ -2,7 +2,7 @@ ghost use Rattle.std.specs.Prelude.{◌≡◌, ◌++◌, map, IfOk, OnOk, if◌t
 ghost use Rattle.std.specs.List.{filter};
 ghost use Rattle.offers.specs.declared.member.Kind.{Kind};
 ghost use Rattle.offers.specs.Scenes.{edited, is_open};
-ghost use Rattle.offers.specs.Candidates.{same_kind, has_result, field_of, method_of, is_static_in, is_made, gives, is_candidate, candidates};
+ghost use Rattle.offers.specs.Candidates.{same_kind, field_of, method_of, is_static_in, is_made, gives, is_candidate, candidates};
 ghost use Rattle.offers.specs.Views.{scene};
 
 use crate::member::{Kind, Member};
@@ -22,13 +22,6 @@ pub fn same_kind(a: Kind, b: Kind) -> bool
         Kind::Method => matches!(b, Kind::Method),
         Kind::Constructor => matches!(b, Kind::Constructor),
     }
-}
-
-/// Whether a call with this outcome has a result.
-pub(crate) fn has_result(outcome: &Option<Erased>) -> bool
-    ensures { result ≡ has_result outcome.now }
-{
-    outcome.is_some()
 }
 
 /// A copy of a type that may be missing.
@@ -102,13 +95,13 @@ fn is_made(class: &ClassSummary) -> bool
         && is_static_in(&class.nesting)
 }
 
-/// Whether a member gives a value.
+/// Whether a class gives a member: a constructor only where `new` makes the class.
 fn gives(class: &ClassSummary, member: &Member) -> bool
     ensures { result ≡ gives class.now member.now member.now.kind }
 {
     match member.kind {
         Kind::Field => true,
-        Kind::Method => has_result(&member.result) && member.name.as_str() != "<clinit>",
+        Kind::Method => member.name.as_str() != "<clinit>",
         Kind::Constructor => is_made(class),
     }
 }

@@ -1,11 +1,11 @@
-ghost use Rattle.std.specs.Prelude.{◌≡◌, slice_get, map, Some, IfOk, OnOk};
+ghost use Rattle.std.specs.Prelude.{◌≡◌, true, slice_get, Some, IfOk, IfSome, OnOk};
 ghost use Rattle.std.specs.List.{list_any};
 ghost use Rattle.offers.specs.Scenes.{of_class};
 ghost use Rattle.offers.specs.Omissions.{is_other, is_crowded};
 ghost use Rattle.offers.specs.Grouping.{at_place};
 ghost use Rattle.offers.specs.Placing.{IsPlaced};
 ghost use Rattle.offers.specs.Rivals.{is_rival, has_under, is_met, types_under};
-ghost use Rattle.offers.specs.Kept.{AreOwned, IsKept, IsCrowding};
+ghost use Rattle.offers.specs.Kept.{IsKeptIn, AreOwners, AreOwned, IsKept, IsCrowding};
 ghost use Rattle.offers.specs.Views.{scene};
 
 use crate::groups::Groups;
@@ -18,7 +18,7 @@ use crate::types::same_types;
 use crate::view::{View, of_class};
 use lists::{Copies, Items, Text};
 use std::alloc::{AllocError, Global};
-use type_names::Erased;
+use type_names::{Base, Erased};
 
 /// Whether members differ in their owners or their parameter types.
 fn is_other(a: &Member, b: &Member) -> bool
@@ -34,15 +34,60 @@ fn is_rival(a: &Member, b: &Member) -> bool
     is_kin(a, b) && a.params.len() == b.params.len() && is_other(a, b)
 }
 
-/// The types of the owners of members.
-fn owners_of(alloc: Global, members: &[Member]) -> Result<Items<Erased>, AllocError>
-    ensures { IfOk result (λ all. all ≡ map (λ m. of_class m.owner) members.now) }
+/// Whether a type is the class of this name. Only that a yes is right is said: on a no hangs time alone.
+fn is_of_class(kind: &Erased, name: &Text) -> bool
+    ensures { result ≡ true → kind.now ≡ of_class name.now }
 {
-    let mut all = Items::new(alloc);
-    for member in members {
-        all.push(of_class(alloc, &member.owner)?)?;
+    match &kind.base {
+        Base::Class(other) => kind.dims == 0 && other.as_str() == name.as_str(),
+        _ => false,
     }
-    Ok(all)
+}
+
+/// The place of the last of these types, if it is the class of this name.
+fn last_place(kinds: &[Erased], name: &Text) -> Option<usize>
+    ensures { IfSome result (λ at. slice_get kinds.now at ≡ Some (of_class name.now)) }
+{
+    if kinds.is_empty() {
+        return None;
+    }
+    let at = kinds.len() - 1;
+    if is_of_class(&kinds[at], name) {
+        return Some(at);
+    }
+    None
+}
+
+/// The place of the class of this name, which is added unless it is the last one.
+fn place_for(alloc: Global, kinds: &mut Items<Erased>, name: &Text) -> Result<usize, AllocError>
+    ensures here { IfOk result (λ at. slice_get kinds.new at ≡ Some (of_class name.now)) }
+    ensures kept { OnOk result (IsKeptIn kinds.old kinds.new) }
+{
+    if let Some(at) = last_place(kinds.as_slice(), name) {
+        return Ok(at);
+    }
+    let at = kinds.len();
+    kinds.push(of_class(alloc, name)?)?;
+    Ok(at)
+}
+
+/// The types of owners, and for each member the place of its owner's.
+#[derive(Drop)]
+struct Owners {
+    kinds: Items<Erased>,
+    at: Vec<usize>,
+}
+
+/// The types of the owners of members, one for all members of an owner that stand beside each other.
+fn owners_of(alloc: Global, members: &[Member]) -> Result<Owners, AllocError>
+    ensures { IfOk result (λ all. AreOwners members.now all.kinds all.at.items) }
+{
+    let mut kinds = Items::new(alloc);
+    let mut at = Vec::new(alloc);
+    for member in members {
+        at.push(place_for(alloc, &mut kinds, &member.owner)?)?;
+    }
+    Ok(Owners { kinds, at })
 }
 
 /// Members with the types of their owners.
@@ -50,6 +95,8 @@ fn owners_of(alloc: Global, members: &[Member]) -> Result<Items<Erased>, AllocEr
 pub(crate) struct OwnedMembers<'a> {
     members: MemberList<'a>,
     owners: Placed,
+    /// For each member the place of its owner's type.
+    at: Vec<usize>,
 }
 
 impl<'a> OwnedMembers<'a> {
@@ -62,10 +109,14 @@ impl<'a> OwnedMembers<'a> {
         ensures members { IfOk result (λ all. all.members ≡ members.now) }
         ensures owned { IfOk result (λ all. AreOwned view.now all) }
     {
-        let owners = owners_of(alloc, members)?;
-        let owners = Placed::new(alloc, view, owners)?;
+        let Owners { kinds, at } = owners_of(alloc, members)?;
+        let owners = Placed::new(alloc, view, kinds)?;
         let members = MemberList::new(members);
-        Ok(OwnedMembers { members, owners })
+        Ok(OwnedMembers {
+            members,
+            owners,
+            at,
+        })
     }
 
     /// The members.
@@ -89,7 +140,7 @@ impl<'a> OwnedMembers<'a> {
         requires there { slice_get self.now.members place ≡ Some other.now }
         ensures { result ≡ (scene view.now).below (of_class member.now.owner) (of_class other.now.owner) }
     {
-        self.owners.is_below(view, at, place)
+        self.owners.is_below(view, self.at[at], self.at[place])
     }
 
     /// Whether one of these types is at or below the owner of the member at a place.
@@ -99,7 +150,7 @@ impl<'a> OwnedMembers<'a> {
         requires there { slice_get self.now.members place ≡ Some other.now }
         ensures { result ≡ has_under (scene view.now) under.now.types (of_class other.now.owner) }
     {
-        under.meets(view, &self.owners, place)
+        under.meets(view, &self.owners, self.at[place])
     }
 
     /// Whether the member at a place is a rival of a member, with one of these types at or below its owner.
@@ -116,7 +167,8 @@ impl<'a> OwnedMembers<'a> {
         requires there { slice_get self.now.members place ≡ Some other.now }
         ensures { result ≡ is_met (scene view.now) under.now.types member.now other.now }
     {
-        is_rival(member, other) && self.is_owner_met(view, under, other, place)
+        // The owners are compared by numbers, so they are asked first.
+        self.is_owner_met(view, under, other, place) && is_rival(member, other)
     }
 
     /// Whether there is a member at a place that is.
@@ -159,13 +211,13 @@ fn types_below(
     view: &View<'_>,
     types: &Placed,
     owner: &Text,
-) -> Result<Items<Erased>, AllocError>
+) -> Result<Placed, AllocError>
     requires { IsPlaced view.now types.now }
-    ensures { IfOk result (λ all. all ≡ types_under (scene view.now) types.now.types (of_class owner.now)) }
+    ensures types { IfOk result (λ all. all.types ≡ types_under (scene view.now) types.now.types (of_class owner.now)) }
+    ensures placed { IfOk result (IsPlaced view.now) }
 {
     let high = of_class(alloc, owner)?;
-    let place = view.class_place(&high);
-    types.under(alloc, view, &high, place)
+    types.under(alloc, view, &high)
 }
 
 impl BelowOwner {
@@ -180,8 +232,7 @@ impl BelowOwner {
         ensures owner { IfOk result (λ below. below.owner ≡ owner.now) }
         ensures kept { IfOk result (IsKept view.now types.now.types) }
     {
-        let under = types_below(alloc, view, types, owner)?;
-        let types = Placed::new(alloc, view, under)?;
+        let types = types_below(alloc, view, types, owner)?;
         Ok(BelowOwner {
             owner: owner.copy(alloc)?,
             types,

@@ -7,12 +7,12 @@ ghost use Rattle.offers.specs.Missing.{missing};
 ghost use Rattle.offers.specs.Views.{scene};
 
 use crate::calls::{are_same_calls, has_body, is_of_object};
-use crate::candidates::has_result;
+use crate::candidates::copy_type;
 use crate::interfaces::{KnownInterfaces, faces_above, is_below, is_interface, is_whole, missing};
 use crate::member::Face;
 use crate::reach::{ABSTRACT, has_flag};
 use crate::spelling::class_spelling;
-use crate::view::{View, of_class};
+use crate::view::View;
 use known_classes::{ClassSummary, MethodSummary};
 use lists::{Copies, Items, Text, copy_all};
 use std::alloc::{AllocError, Global};
@@ -124,16 +124,13 @@ fn group(
     Ok(all)
 }
 
-/// A copy of the method that all of these are, where they are one and it has a result.
+/// A copy of the method that all of these are, where they are one.
 fn one_method(alloc: Global, methods: &[MethodSummary]) -> Result<Option<MethodSummary>, AllocError>
     ensures { IfOk result (λ one. one ≡ one_method methods.now) }
 {
     match methods {
         [] => Ok(None),
         [first, more @ ..] => {
-            if !has_result(&first.result) {
-                return Ok(None);
-            }
             let same = are_same_calls(alloc, first, more)?;
             if !same {
                 return Ok(None);
@@ -176,14 +173,10 @@ fn method_in(
 fn face_of(alloc: Global, name: &Text, method: &MethodSummary) -> Result<Face, AllocError>
     ensures { IfOk result (λ face. face ≡ face_of name.now method.now) }
 {
-    let kind = match &method.result {
-        Some(kind) => kind.copy(alloc)?,
-        None => of_class(alloc, name)?,
-    };
     Ok(Face {
         name: name.copy(alloc)?,
         params: copy_all(alloc, &method.params)?,
-        result: kind,
+        result: copy_type(alloc, &method.result)?,
     })
 }
 

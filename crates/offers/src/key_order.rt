@@ -3,7 +3,7 @@ ghost use Rattle.offers.specs.Scenes.{put, sorted};
 ghost use Rattle.offers.specs.Sorting.{IsPlace, Rises};
 
 use known_classes::ClassSummary;
-use lists::Copies;
+use lists::{Copies, Items};
 use std::alloc::{AllocError, Global};
 use std::cmp::Ordering;
 use std::collections::VecDeque;
@@ -86,6 +86,33 @@ pub(crate) fn sorted<T: Keyed + Copies + Drop>(
     while left > 0 {
         left -= 1;
         put(alloc, &mut all, &items[left])?;
+    }
+    Ok(Vec::from(all))
+}
+
+/// Puts an item in its place among sorted ones, unless one of its key is there.
+fn put_item<T: Keyed + Drop>(all: &mut VecDeque<T>, item: T) -> Result<(), AllocError>
+    requires { Rises T.key_of all.old.items }
+    ensures { OnOk result (all.new.items ≡ put T.key_of item all.old.items) }
+{
+    let Some(at) = place(all, &item) else {
+        return Ok(());
+    };
+    all.insert(at, item)?;
+    Ok(())
+}
+
+/// These items themselves in rising order of their keys, of each key one.
+pub(crate) fn in_order<T: Keyed + Drop>(
+    alloc: Global,
+    items: Items<T>,
+) -> Result<Vec<T>, AllocError>
+    ensures { IfOk result (λ all. all.items ≡ sorted T.key_of items) }
+{
+    let mut left = items;
+    let mut all = VecDeque::new(alloc);
+    while let Some(item) = left.pop() {
+        put_item(&mut all, item)?;
     }
     Ok(Vec::from(all))
 }

@@ -39,7 +39,7 @@ pub use functional::faces;
 pub use hidden::after_five;
 pub use laws::one_scene;
 pub use member::{Face, Kind, Member};
-pub use mentioned::{string_type, types_of};
+pub use mentioned::{mentions_void, string_type, types_of};
 pub use names::{scope_names, taken_names};
 pub use offer::{Offer, offered_members, own_summaries};
 pub use offered::offered as offered_classes;

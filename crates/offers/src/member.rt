@@ -22,12 +22,13 @@ pub struct Member {
     pub result: Option<Erased>,
 }
 
-/// A functional interface (JLS 9.8) by its internal name, with what its one method takes and gives.
+/// A functional interface (JLS 9.8) by its internal name, with what its one method takes and gives; a method without
+/// result gives nothing.
 #[derive(Debug, Drop)]
 pub struct Face {
     pub name: Text,
     pub params: Items<Erased>,
-    pub result: Erased,
+    pub result: Option<Erased>,
 }
 
 impl Copies for Member {

@@ -29,7 +29,7 @@ use type_names::Erased;
 /// What the classes that a hole sees offer there.
 #[derive(Debug, Drop)]
 pub struct Offer {
-    /// The types that are mentioned, in rising byte order of their descriptors.
+    /// The types of values that are mentioned, in rising byte order of their descriptors.
     pub types: Items<Erased>,
     /// The numbers of types of which the first is a strict subtype of the second, in rising order.
     pub pairs: Items<(u32, u32)>,

@@ -6,7 +6,7 @@ ghost use Rattle.offers.specs.Reach.{access_of, is_local, is_accessible, is_in_r
 ghost use Rattle.offers.specs.Reached.{IsReachOf};
 ghost use Rattle.offers.specs.Views.{scene};
 
-use crate::key_order::sorted;
+use crate::key_order::in_order;
 use crate::reach::{Reach, access_of, is_open};
 use crate::texts::is_among;
 use crate::view::View;
@@ -124,6 +124,6 @@ pub fn offered(alloc: Global, view: &View<'_>) -> Result<Items<ClassSummary>, Al
 {
     let reach = Reach::new(alloc, view)?;
     let all = kept(alloc, view, &reach)?;
-    let all = sorted(alloc, all.as_slice())?;
+    let all = in_order(alloc, all)?;
     Ok(Items::from_vec(all))
 }

@@ -1,10 +1,10 @@
-ghost use Rattle.std.specs.Prelude.{◌≡◌, ◌&&◌, not, IfOk, ◌∷◌, slice_get, Some, map};
+ghost use Rattle.std.specs.Prelude.{◌≡◌, ◌&&◌, not, IfOk, slice_get, Some, map};
 ghost use Rattle.std.specs.List.{list_any, filter};
 ghost use Rattle.offers.specs.declared.member.Kind.{Kind};
-ghost use Rattle.offers.specs.Scenes.{of_class, same_type};
+ghost use Rattle.offers.specs.Scenes.{of_class};
 ghost use Rattle.offers.specs.Reach.{offered};
-ghost use Rattle.offers.specs.Candidates.{value};
-ghost use Rattle.offers.specs.Omissions.{is_instance, same_types, overrides, left_of, after_two, after_three};
+ghost use Rattle.offers.specs.Candidates.{same_outcome};
+ghost use Rattle.offers.specs.Omissions.{is_instance, same_descriptor, overrides, left_of, after_two, after_three};
 ghost use Rattle.offers.specs.Grouping.{AreGroups, at_place};
 ghost use Rattle.offers.specs.Hashing.{call_hash};
 ghost use Rattle.offers.specs.Kept.{AreOwned};
@@ -21,6 +21,7 @@ use crate::view::View;
 use known_classes::ClassSummary;
 use lists::{Copies, Items};
 use std::alloc::{AllocError, Global};
+use type_names::Erased;
 
 /// Whether a member is a method that isn't static.
 pub(crate) fn is_instance(member: &Member) -> bool
@@ -29,13 +30,26 @@ pub(crate) fn is_instance(member: &Member) -> bool
     same_kind(member.kind, Kind::Method) && !is_static(member)
 }
 
+/// Whether two outcomes are one type, or both none.
+fn same_outcome(a: &Option<Erased>, b: &Option<Erased>) -> bool
+    ensures { result ≡ same_outcome a.now b.now }
+{
+    match a {
+        Some(kind) => match b {
+            Some(other) => same_type(kind, other),
+            None => false,
+        },
+        None => b.is_none(),
+    }
+}
+
 /// Whether methods have one descriptor.
 fn same_descriptor(alloc: Global, a: &Member, b: &Member) -> Result<bool, AllocError>
-    ensures { IfOk result (λ same. same ≡ same_types (value a.now ∷ a.now.params) (value b.now ∷ b.now.params)) }
+    ensures { IfOk result (λ same. same ≡ same_descriptor a.now b.now) }
 {
     let left = value(alloc, a)?;
     let right = value(alloc, b)?;
-    if !same_type(&left, &right) {
+    if !same_outcome(&left, &right) {
         return Ok(false);
     }
     Ok(same_types(a.params.as_slice(), b.params.as_slice()))
@@ -54,7 +68,7 @@ fn is_same_below(
     requires owned { AreOwned view.now members.now }
     requires here { slice_get members.now.members at ≡ Some a.now }
     requires there { slice_get members.now.members place ≡ Some b.now }
-    ensures { IfOk result (λ yes. yes ≡ (same_types (value a.now ∷ a.now.params) (value b.now ∷ b.now.params) && (scene view.now).below (of_class a.now.owner) (of_class b.now.owner))) }
+    ensures { IfOk result (λ yes. yes ≡ (same_descriptor a.now b.now && (scene view.now).below (of_class a.now.owner) (of_class b.now.owner))) }
 {
     if !members.is_owner_below(view, a, at, b, place) {
         return Ok(false);

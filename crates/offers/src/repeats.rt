@@ -1,4 +1,4 @@
-ghost use Rattle.std.specs.Prelude.{◌≡◌, ◌||◌, [], fold, IfOk, OnOk};
+ghost use Rattle.std.specs.Prelude.{◌≡◌, ◌||◌, not, is_some, [], fold, IfOk, OnOk};
 ghost use Rattle.std.specs.List.{list_any, filter, flat_map};
 ghost use Rattle.offers.specs.declared.member.Kind.{Kind};
 ghost use Rattle.java_units.specs.Identifiers.{is_identifier};
@@ -8,7 +8,7 @@ ghost use Rattle.offers.specs.Grouping.{at_place};
 ghost use Rattle.offers.specs.Hashing.{call_hash};
 ghost use Rattle.offers.specs.Views.{scene};
 
-use crate::candidates::{candidates, same_kind};
+use crate::candidates::{candidates, copy_type, same_kind};
 use crate::groups::Groups;
 use crate::hashes::call_hash;
 use crate::member::{Kind, Member};
@@ -36,17 +36,25 @@ pub(crate) fn is_private(member: &Member) -> bool
     has_flag(member.flags, PRIVATE)
 }
 
-/// The type of what a member gives.
-pub fn value(alloc: Global, member: &Member) -> Result<Erased, AllocError>
+/// The type of what a member gives, none where it is a method without result.
+pub fn value(alloc: Global, member: &Member) -> Result<Option<Erased>, AllocError>
     ensures { IfOk result (λ kind. kind ≡ value member.now) }
 {
-    if let Kind::Constructor = member.kind {
-        let class = of_class(alloc, &member.owner)?;
-        return Ok(class);
+    match member.kind {
+        Kind::Constructor => Ok(Some(of_class(alloc, &member.owner)?)),
+        Kind::Field => copy_type(alloc, &member.result),
+        Kind::Method => copy_type(alloc, &member.result),
     }
-    match &member.result {
-        Some(kind) => kind.copy(alloc),
-        None => of_class(alloc, &member.owner),
+}
+
+/// Whether a member is a method without result.
+pub(crate) fn gives_nothing(member: &Member) -> bool
+    ensures { result ≡ not (is_some (value member.now)) }
+{
+    match member.kind {
+        Kind::Constructor => false,
+        Kind::Field => member.result.is_none(),
+        Kind::Method => member.result.is_none(),
     }
 }
 

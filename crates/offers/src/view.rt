@@ -9,6 +9,7 @@ ghost use Rattle.subtyping.specs.Places.{IsAncestry};
 ghost use Rattle.subtyping.specs.Asked.{class_place};
 ghost use Rattle.offers.specs.Sites.{IsSiteOf};
 ghost use Rattle.offers.specs.Scenes.{of_class, denoted, edited, package_here, own_names};
+ghost use Rattle.offers.specs.Order.{is_ancestor_at};
 ghost use Rattle.offers.specs.Views.{scene};
 
 use class_summary::{Resolver, internal_name, joined};
@@ -286,6 +287,13 @@ impl<'a> View<'a> {
         ensures { result ≡ (scene self.now).below a.now b.now }
     {
         self.subtypes.is_sub_at(a, low, b, high)
+    }
+
+    /// Whether the class at the place `high` among the ancestors stands above the class at the place `low`.
+    pub fn is_ancestor(&self, low: usize, high: usize) -> bool
+        ensures { result ≡ is_ancestor_at self.now.ancestry.rows (Some low) (Some high) }
+    {
+        self.subtypes.above(low).binary_search(&high).is_ok()
     }
 
     /// The canonical name of a class.

@@ -1,5 +1,8 @@
 pub mod OrderPairs
 pub mod Every
+pub mod Listed
+pub mod MovedPairs
+pub mod KindTexts
 pub mod Numbered
 pub mod Declared
 pub mod Ordered

@@ -1,15 +1,18 @@
--- Each type mentioned has a number.
-use Rattle.std.proofs.Common.{◌≡◌, ◌∙◌, ap, sym, subst, refl, arith, rules, tests, ℕ, suc, ◌<◌, nat_lt, Bool, true, false, ◌||◌, cond, List, [], ◌∷◌, ◌++◌, length, bytes_eq, Ordering, Less, Equal, Greater}
+-- Each type that is mentioned has a number.
+use Rattle.std.proofs.Common.{◌≡◌, ◌∙◌, ap, sym, subst, refl, arith, rules, tests, ℕ, suc, ◌<◌, nat_lt, Bool, true, false, ◌||◌, cond, List, [], ◌∷◌, ◌++◌, length, map, take, drop, bytes_eq, Option, Some, None, Ordering, Less, Equal, Greater}
 use Rattle.std.specs.List.{AllByRecursion, flat_map, list_any}
 use Rattle.std.specs.Ordering.{nat_cmp, is_eq}
 use Rattle.std.specs.Cmp.Lexicographic.{slice_cmp}
 use Rattle.std.proofs.lemmas.Slice.Eq.{bytes_eq-Decides}
 use Rattle.std.proofs.lemmas.Map.Text.{is_eq-slice_cmp}
 use Rattle.type_names.specs.declared.kinds.Erased.{Erased}
-use Rattle.type_names.specs.Descriptors.{field}
+use Rattle.type_names.specs.Descriptors.{field, outcome}
 use Rattle.offers.specs.Scenes.{same_type, put, put_by, sorted}
-use Rattle.offers.specs.Types.{number_in}
+use Rattle.offers.specs.Candidates.{same_outcome}
+use Rattle.scopes.specs.Kinds.{Kinds, listed, count, place_among, number_in}
+use Rattle.scopes.specs.Numbers.{early_ones}
 use Rattle.scopes.proofs.Every.{every-on}
+use Rattle.scopes.proofs.Listed.{put-void}
 
 -- the type is among these
 unfoldable pub Has : List Erased → Erased → Type 0
@@ -72,15 +75,15 @@ unfolding put
 put-new x [] t h = or-left (same_type t x) _ h
 put-new x (y ∷ ys) t h = put-new-by (slice_cmp nat_cmp (field x) (field y)) x y ys (put field x ys) t (equal-texts (field x) (field y)) h (put-new x ys t h)
 
-put-old-by : (o : Ordering) (x y : Erased) (ys more : List Erased) (t : Erased) → (same_type t y || list_any (same_type t) ys) ≡ true → (list_any (same_type t) ys ≡ true → list_any (same_type t) more ≡ true) → list_any (same_type t) (put_by o x y ys more) ≡ true
-put-old-by Less x y ys more t h k = or-right (same_type t x) _ h
-put-old-by Equal x y ys more t h k = h
-put-old-by Greater x y ys more t h k = by (same_type t y) (list_any (same_type t) ys) (list_any (same_type t) more) h k
+put-old-by : {A : Type 0} (test : A → Bool) (o : Ordering) (x y : A) (ys more : List A) → (test y || list_any test ys) ≡ true → (list_any test ys ≡ true → list_any test more ≡ true) → list_any test (put_by o x y ys more) ≡ true
+put-old-by test Less x y ys more h k = or-right (test x) _ h
+put-old-by test Equal x y ys more h k = h
+put-old-by test Greater x y ys more h k = by (test y) (list_any test ys) (list_any test more) h k
 
-put-old : (x : Erased) (ys : List Erased) (t : Erased) → list_any (same_type t) ys ≡ true → list_any (same_type t) (put field x ys) ≡ true
+put-old : {A : Type 0} (text : A → List ℕ) (test : A → Bool) (x : A) (ys : List A) → list_any test ys ≡ true → list_any test (put text x ys) ≡ true
 unfolding put
-put-old x [] t h = absurd (search (rules, h))
-put-old x (y ∷ ys) t h = put-old-by (slice_cmp nat_cmp (field x) (field y)) x y ys (put field x ys) t h (put-old x ys t)
+put-old text test x [] h = absurd (let e = h in cc)
+put-old text test x (y ∷ ys) h = put-old-by test (slice_cmp nat_cmp (text x) (text y)) x y ys (put text x ys) h (put-old text test x ys)
 
 split : (a b c : Bool) → (a || b) ≡ true → (a ≡ true → c ≡ true) → (b ≡ true → c ≡ true) → c ≡ true
 split true b c e f g = f refl
@@ -90,17 +93,51 @@ pub sorted-has : (xs : List Erased) (t : Erased) → Has xs t → Has (sorted fi
 unfolding Has sorted
 sorted-has [] t h = h
 sorted-has (x ∷ xs) t h = split (same_type t x) (list_any (same_type t) xs) (list_any (same_type t) (put field x (sorted field xs))) h
-    (put-new x (sorted field xs) t) (λ k. put-old x (sorted field xs) t (sorted-has xs t k))
+    (put-new x (sorted field xs) t) (λ k. put-old field (same_type t) x (sorted field xs) (sorted-has xs t k))
+
+-- what is among all types, also without a value
+unfoldable pub Among : Kinds → Option Erased → Type 0
+Among ks k = list_any (same_outcome k) (listed ks) ≡ true
+
+any-some : (ts : List Erased) (t : Erased) → list_any (same_outcome (Some t)) (map Some ts) ≡ list_any (same_type t) ts
+any-some [] t = refl
+any-some (u ∷ us) t = ap (λ b. same_type t u || b) (any-some us t)
+
+has-among : (ts : List Erased) (b : Bool) (t : Erased) → Has ts t → list_any (same_outcome (Some t)) (listed (record { types = ts; void = b })) ≡ true
+unfolding Has listed
+has-among ts true t h = put-old outcome (same_outcome (Some t)) None (map Some ts) (any-some ts t ∙ h)
+has-among ts false t h = any-some ts t ∙ h
+
+pub type-among : (ks : Kinds) (t : Erased) → Has ks.types t → Among ks (Some t)
+unfolding Among
+type-among ks t h = has-among ks.types ks.void t h
+
+any-none : (us : List Erased) (rest : List (Option Erased)) → list_any (same_outcome None) (map Some us ++ None ∷ rest) ≡ true
+any-none [] rest = refl
+any-none (u ∷ us) rest = any-none us rest
+
+none-among : (ts : List Erased) (b : Bool) → b ≡ true → list_any (same_outcome None) (listed (record { types = ts; void = b })) ≡ true
+unfolding listed
+none-among ts true e = ap (λ (us : List (Option Erased)). list_any (same_outcome None) us) (put-void ts) ∙ any-none (take (early_ones ts) ts) (map Some (drop (early_ones ts) ts))
+none-among ts false e = absurd (let h = e in cc)
+
+pub void-among : (ks : Kinds) → ks.void ≡ true → Among ks None
+unfolding Among
+void-among ks e = none-among ks.types ks.void e
 
 -- the number of such a type
 number-by : (a b : Bool) (n m : ℕ) → (a || b) ≡ true → (b ≡ true → n < m) → cond a 0 (suc n) < suc m
 number-by true b n m e f = omega arith
 number-by false b n m e f = let l = f e in omega (arith, l)
 
-pub number-below : (ts : List Erased) (t : Erased) → Has ts t → number_in ts t < length ts
-unfolding Has number_in
-number-below [] t h = absurd (search (rules, h))
-number-below (u ∷ us) t h = number-by (same_type t u) (list_any (same_type t) us) (number_in us t) (length us) h (number-below us t)
+place-below : (us : List (Option Erased)) (k : Option Erased) → list_any (same_outcome k) us ≡ true → place_among us k < length us
+unfolding place_among
+place-below [] k h = absurd (let e = h in cc)
+place-below (u ∷ us) k h = number-by (same_outcome k u) (list_any (same_outcome k) us) (place_among us k) (length us) h (place-below us k)
 
-pub number-lt : (ts : List Erased) (t : Erased) → Has ts t → nat_lt (number_in ts t) (length ts) ≡ true
-number-lt ts t h = let l = number-below ts t h in search (rules, tests, arith)
+pub number-below : (ks : Kinds) (k : Option Erased) → Among ks k → number_in ks k < count ks
+unfolding Among number_in
+number-below ks k h = place-below (listed ks) k h
+
+pub number-lt : (ks : Kinds) (k : Option Erased) → Among ks k → nat_lt (number_in ks k) (count ks) ≡ true
+number-lt ks k h = let l = number-below ks k h in search (rules, tests, arith)

@@ -15,7 +15,8 @@ use Rattle.offers.specs.Candidates.{is_static, value, key}
 use Rattle.offers.specs.Omissions.{after_five, is_crowded, owner_text, static_text, scope_names}
 use Rattle.offers.specs.declared.member.Face.{Face}
 use Rattle.offers.specs.Functional.{of_base}
-use Rattle.offers.specs.Types.{string_type, number_in}
+use Rattle.offers.specs.Types.{string_type}
+use Rattle.scopes.specs.Kinds.{Kinds, number_in, type_number}
 
 -- Weights of members: of the edited class, of its package, and of others by their usage.
 unfoldable pub weight_of : Scene → Member → ℕ
@@ -39,45 +40,45 @@ wants_by m kind.Method true = m.params
 wants_by m kind.Method false = of_class m.owner ∷ m.params
 wants_by m kind.Constructor static = m.params
 
-unfoldable pub member_decl : Scene → List Erased → List Member → Member → Decl
-member_decl v ts ms m = record {
-  args = map (λ t. Plain (number_in ts t)) (wants_by m m.kind (is_static m));
-  result = number_in ts (value m);
+unfoldable pub member_decl : Scene → Kinds → List Member → Member → Decl
+member_decl v ks ms m = record {
+  args = map (λ t. Plain (type_number ks t)) (wants_by m m.kind (is_static m));
+  result = number_in ks (value m);
   weight = weight_of v m;
-  crowded = is_crowded v ts ms m;
+  crowded = is_crowded v ks.types ms m;
   form = form_by v m m.kind (is_static m);
 }
 
-abbrev pub simple_decl : List Erased → Form → Erased → ℕ → Decl
-simple_decl ts f t weight = record { args = []; result = number_in ts t; weight = weight; crowded = false; form = f }
+abbrev pub simple_decl : Kinds → Form → Erased → ℕ → Decl
+simple_decl ks f t weight = record { args = []; result = type_number ks t; weight = weight; crowded = false; form = f }
 
-unfoldable pub face_decl : Scene → List Erased → Face → Decl
-face_decl v ts f = record {
-  args = Fun (map (number_in ts) f.params) (number_in ts f.result) ∷ [];
-  result = number_in ts (of_class f.name);
+unfoldable pub face_decl : Scene → Kinds → Face → Decl
+face_decl v ks f = record {
+  args = Fun (map (type_number ks) f.params) (number_in ks f.result) ∷ [];
+  result = type_number ks (of_class f.name);
   weight = v.weights.lambda;
   crowded = false;
   form = form.Lambda (unwrap_or (class_spelling v f.name) []);
 }
 
-abbrev pub string_literal : Scene → List Erased → List Decl
-string_literal v ts = simple_decl ts (form.Name (34 ∷ 34 ∷ [])) string_type v.weights.literal ∷ []
+abbrev pub string_literal : Scene → Kinds → List Decl
+string_literal v ks = simple_decl ks (form.Name (34 ∷ 34 ∷ [])) string_type v.weights.literal ∷ []
 
-abbrev pub literals : Scene → List Erased → List Decl
-literals v ts =
-    simple_decl ts (form.Name (codes "0")) (of_base Int) v.weights.literal ∷ simple_decl ts (form.Name (codes "true")) (of_base Boolean) v.weights.literal
-    ∷ simple_decl ts (form.Name (codes "false")) (of_base Boolean) v.weights.literal ∷ string_literal v ts
+abbrev pub literals : Scene → Kinds → List Decl
+literals v ks =
+    simple_decl ks (form.Name (codes "0")) (of_base Int) v.weights.literal ∷ simple_decl ks (form.Name (codes "true")) (of_base Boolean) v.weights.literal
+    ∷ simple_decl ks (form.Name (codes "false")) (of_base Boolean) v.weights.literal ∷ string_literal v ks
 
 -- `this`, variables and literals.
-abbrev pub site_decls : Scene → List Erased → List Decl
-site_decls v ts =
-    (if v.site.is_static then [] else simple_decl ts form.This (of_class (edited v)) v.weights.local ∷ [])
-    ++ map (λ l. simple_decl ts (form.Name l.name) (denoted v l.kind) v.weights.local) v.site.locals
-    ++ literals v ts
+abbrev pub site_decls : Scene → Kinds → List Decl
+site_decls v ks =
+    (if v.site.is_static then [] else simple_decl ks form.This (of_class (edited v)) v.weights.local ∷ [])
+    ++ map (λ l. simple_decl ks (form.Name l.name) (denoted v l.kind) v.weights.local) v.site.locals
+    ++ literals v ks
 
 -- The declarations in order.
-unfoldable pub decls_of : Scene → List Erased → List Member → List Face → List Decl
-decls_of v ts ms fs =
-    site_decls v ts
-    ++ map (member_decl v ts ms) (after_five v ts ms)
-    ++ map (face_decl v ts) fs
+unfoldable pub decls_of : Scene → Kinds → List Member → List Face → List Decl
+decls_of v ks ms fs =
+    site_decls v ks
+    ++ map (member_decl v ks ms) (after_five v ks.types ms)
+    ++ map (face_decl v ks) fs

@@ -1,3 +1,4 @@
+pub mod Kinds
 pub mod Declarations
 pub mod Binders
 pub mod Environments

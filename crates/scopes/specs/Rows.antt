@@ -138,11 +138,12 @@ overloads = scene_by (use_unit (codes "s") (codes "String")) (site_by true (code
 
 unfoldable pub of_overloads : Parts
 of_overloads = record {
-  types = codes "int" ∷ codes "Object" ∷ codes "String" ∷ codes "T" ∷ codes "Use" ∷ codes "boolean" ∷ [];
+  types = codes "int" ∷ codes "Object" ∷ codes "String" ∷ codes "T" ∷ codes "Use" ∷ codes "void" ∷ codes "boolean" ∷ [];
   pairs = (2, 1) ∷ (3, 1) ∷ (4, 1) ∷ [];
-  decls = decl_by 5 false (form.Name (codes "s")) [] 2 ∷ literals_by 0 5 2
+  decls = decl_by 5 false (form.Name (codes "s")) [] 2 ∷ literals_by 0 6 2
       (decl_by 25 false (form.New (codes "T")) [] 3 ∷ decl_by 25 true (form.Call (codes "T.m")) (Plain 1 ∷ []) 0
-      ∷ decl_by 25 true (form.Call (codes "T.m")) (Plain 2 ∷ []) 0 ∷ decl_by 20 false (form.New (codes "Use")) [] 4 ∷ []);
+      ∷ decl_by 25 true (form.Call (codes "T.m")) (Plain 2 ∷ []) 0 ∷ decl_by 20 false (form.Call (codes "Use.go")) (Plain 2 ∷ []) 5
+      ∷ decl_by 20 false (form.New (codes "Use")) [] 4 ∷ []);
   goal = 0;
   limit = 45;
   depth = 1;
@@ -159,11 +160,12 @@ overriding = scene_by (use_unit (codes "b") (codes "B")) (site_by true (codes "i
 
 unfoldable pub of_overriding : Parts
 of_overriding = record {
-  types = codes "int" ∷ codes "String" ∷ codes "A" ∷ codes "B" ∷ codes "Use" ∷ codes "boolean" ∷ [];
+  types = codes "int" ∷ codes "String" ∷ codes "A" ∷ codes "B" ∷ codes "Use" ∷ codes "void" ∷ codes "boolean" ∷ [];
   pairs = (3, 2) ∷ [];
-  decls = decl_by 5 false (form.Name (codes "b")) [] 3 ∷ literals_by 0 5 1
+  decls = decl_by 5 false (form.Name (codes "b")) [] 3 ∷ literals_by 0 6 1
       (decl_by 25 true (form.New (codes "A")) [] 2 ∷ decl_by 25 false (form.Method (codes "m")) (Plain 2 ∷ []) 0
-      ∷ decl_by 25 true (form.New (codes "B")) [] 3 ∷ decl_by 20 false (form.New (codes "Use")) [] 4 ∷ []);
+      ∷ decl_by 25 true (form.New (codes "B")) [] 3 ∷ decl_by 20 false (form.Call (codes "Use.go")) (Plain 3 ∷ []) 5
+      ∷ decl_by 20 false (form.New (codes "Use")) [] 4 ∷ []);
   goal = 0;
   limit = 45;
   depth = 1;
@@ -181,11 +183,12 @@ two_promises = scene_by (use_unit (codes "b") (codes "B")) (site_by true (codes 
 
 unfoldable pub of_two_promises : Parts
 of_two_promises = record {
-  types = codes "int" ∷ codes "String" ∷ codes "B" ∷ codes "I" ∷ codes "J" ∷ codes "Use" ∷ codes "boolean" ∷ [];
+  types = codes "int" ∷ codes "String" ∷ codes "B" ∷ codes "I" ∷ codes "J" ∷ codes "Use" ∷ codes "void" ∷ codes "boolean" ∷ [];
   pairs = (2, 3) ∷ (2, 4) ∷ [];
-  decls = decl_by 5 false (form.Name (codes "b")) [] 2 ∷ literals_by 0 6 1
+  decls = decl_by 5 false (form.Name (codes "b")) [] 2 ∷ literals_by 0 7 1
       (decl_by 25 false (form.New (codes "B")) [] 2 ∷ decl_by 25 true (form.Method (codes "m")) (Plain 3 ∷ []) 0
-      ∷ decl_by 25 true (form.Method (codes "m")) (Plain 4 ∷ []) 0 ∷ decl_by 20 false (form.New (codes "Use")) [] 5
+      ∷ decl_by 25 true (form.Method (codes "m")) (Plain 4 ∷ []) 0 ∷ decl_by 20 false (form.Call (codes "Use.go")) (Plain 2 ∷ []) 6
+      ∷ decl_by 20 false (form.New (codes "Use")) [] 5
       ∷ decl_by 10 false (form.Lambda (codes "I")) (Fun [] 0 ∷ []) 3 ∷ decl_by 10 false (form.Lambda (codes "J")) (Fun [] 0 ∷ []) 4 ∷ []);
   goal = 0;
   limit = 45;
@@ -212,10 +215,10 @@ readers = scene_by
 
 unfoldable pub of_readers : Parts
 of_readers = record {
-  types = codes "int" ∷ codes "Demo" ∷ codes "BufferedReader" ∷ codes "FileReader" ∷ codes "Reader" ∷ codes "String" ∷ codes "boolean" ∷ [];
+  types = codes "int" ∷ codes "Demo" ∷ codes "BufferedReader" ∷ codes "FileReader" ∷ codes "Reader" ∷ codes "String" ∷ codes "void" ∷ codes "boolean" ∷ [];
   pairs = (2, 4) ∷ (3, 4) ∷ [];
-  decls = decl_by 5 false (form.Name (codes "name")) [] 5 ∷ literals_by 0 6 5
-      (decl_by 20 false (form.New (codes "Demo")) [] 1 ∷ decl_by 1000 false (form.New (codes "BufferedReader")) (Plain 4 ∷ []) 2
+  decls = decl_by 5 false (form.Name (codes "name")) [] 5 ∷ literals_by 0 7 5
+      (decl_by 20 false (form.Call (codes "Demo.go")) (Plain 5 ∷ []) 6 ∷ decl_by 20 false (form.New (codes "Demo")) [] 1 ∷ decl_by 1000 false (form.New (codes "BufferedReader")) (Plain 4 ∷ []) 2
       ∷ decl_by 1000 false (form.New (codes "FileReader")) (Plain 5 ∷ []) 3 ∷ []);
   goal = 4;
   limit = 4000;
@@ -232,12 +235,32 @@ hidden_field = scene_by (unit_by [] [] (codes "P") (record { name = codes "k"; f
 
 unfoldable pub of_hidden_field : Parts
 of_hidden_field = record {
-  types = codes "int" ∷ codes "P" ∷ codes "String" ∷ codes "boolean" ∷ [];
+  types = codes "int" ∷ codes "P" ∷ codes "String" ∷ codes "void" ∷ codes "boolean" ∷ [];
   pairs = [];
-  decls = decl_by 5 false form.This [] 1 ∷ decl_by 5 false (form.Name (codes "k")) [] 0 ∷ literals_by 0 3 2
-      (decl_by 20 false (form.Field (codes "k") true) (Plain 1 ∷ []) 0 ∷ decl_by 20 false (form.New (codes "P")) [] 1 ∷ []);
+  decls = decl_by 5 false form.This [] 1 ∷ decl_by 5 false (form.Name (codes "k")) [] 0 ∷ literals_by 0 4 2
+      (decl_by 20 false (form.Field (codes "k") true) (Plain 1 ∷ []) 0 ∷ decl_by 20 false (form.Method (codes "f")) (Plain 1 ∷ Plain 0 ∷ []) 3 ∷ decl_by 20 false (form.New (codes "P")) [] 1 ∷ []);
   goal = 0;
   limit = 30;
+  depth = 1;
+  binder = codes "p";
+  steps = usual_steps;
+}
+
+-- A functional interface whose method has no result, and a method without result for its lambda to call.
+unfoldable pub no_result : Scene
+no_result = scene_by (use_unit (codes "k") (codes "int")) (site_by true (codes "K") (codes "k") (codes "int") (codes "c"))
+    (class_by (codes "q/K") 1537 (object_name ∷ []) [] (method_by 1025 (codes "put") (int ∷ []) None ∷ []) ∷ [])
+    (use_class (int ∷ [])) []
+
+unfoldable pub of_no_result : Parts
+of_no_result = record {
+  types = codes "int" ∷ codes "String" ∷ codes "K" ∷ codes "Use" ∷ codes "void" ∷ codes "boolean" ∷ [];
+  pairs = [];
+  decls = decl_by 5 false (form.Name (codes "k")) [] 0 ∷ literals_by 0 5 1
+      (decl_by 25 false (form.Method (codes "put")) (Plain 2 ∷ Plain 0 ∷ []) 4 ∷ decl_by 20 false (form.Call (codes "Use.go")) (Plain 0 ∷ []) 4
+      ∷ decl_by 20 false (form.New (codes "Use")) [] 3 ∷ decl_by 10 false (form.Lambda (codes "K")) (Fun (0 ∷ []) 4 ∷ []) 2 ∷ []);
+  goal = 2;
+  limit = 50;
   depth = 1;
   binder = codes "p";
   steps = usual_steps;

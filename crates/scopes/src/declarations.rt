@@ -5,8 +5,8 @@ ghost use Rattle.offers.specs.Candidates.{value};
 ghost use Rattle.offers.specs.Spellings.{class_spelling};
 ghost use Rattle.offers.specs.Scenes.{of_class, denoted, edited};
 ghost use Rattle.offers.specs.Kept.{IsCrowding};
-ghost use Rattle.offers.specs.Types.{number_in};
 ghost use Rattle.offers.specs.Views.{scene};
+ghost use Rattle.scopes.specs.Kinds.{number_in, type_number};
 ghost use Rattle.scopes.specs.Declarations.{member_decl, simple_decl, face_decl, literals, string_literal, site_decls};
 
 use crate::forms::{args_of, form_of};
@@ -124,7 +124,7 @@ fn member_decl(
 ) -> Result<Decl, AllocError>
     requires names { scope.now ≡ scope_names (scene spellings.now) }
     requires kept { IsCrowding spellings.now crowding.old }
-    requires types { crowding.old.types.types ≡ numbers.now }
+    requires types { crowding.old.types.types ≡ numbers.now.types }
     ensures exact { IfOk result (λ decl. decl ≡ member_decl (scene spellings.now) numbers.now crowding.old.members.members member.now) }
     ensures types { crowding.new.types ≡ crowding.old.types }
     ensures members { crowding.new.members ≡ crowding.old.members }
@@ -144,12 +144,12 @@ fn member_decl(
     })
 }
 
-/// The number of the type of what a member gives.
+/// The number of the type of what a member gives, that of `void` where it gives no value.
 fn result_of(alloc: Global, numbers: &Numbers<'_>, member: &Member) -> Result<u32, AllocError>
     ensures { IfOk result (λ n. n ≡ number_in numbers.now (value member.now)) }
 {
-    let kind = value(alloc, member)?;
-    Ok(numbers.of(&kind))
+    let outcome = value(alloc, member)?;
+    Ok(numbers.of_outcome(&outcome))
 }
 
 /// Adds the declarations of those of the members that are left.
@@ -179,7 +179,7 @@ fn numbers_of(
     numbers: &Numbers<'_>,
     kinds: &[Erased],
 ) -> Result<Items<u32>, AllocError>
-    ensures { IfOk result (λ all. all ≡ map (number_in numbers.now) kinds.now) }
+    ensures { IfOk result (λ all. all ≡ map (type_number numbers.now) kinds.now) }
 {
     let mut all = Items::new(alloc);
     for kind in kinds {
@@ -190,11 +190,11 @@ fn numbers_of(
 
 /// The lambda that a functional interface is made from.
 fn face_args(alloc: Global, numbers: &Numbers<'_>, face: &Face) -> Result<Items<Arg>, AllocError>
-    ensures { IfOk result (λ args. args ≡ Arg.Fun (map (number_in numbers.now) face.now.params) (number_in numbers.now face.now.result) ∷ []) }
+    ensures { IfOk result (λ args. args ≡ Arg.Fun (map (type_number numbers.now) face.now.params) (number_in numbers.now face.now.result) ∷ []) }
 {
     let params = numbers_of(alloc, numbers, face.params.as_slice())?;
     let mut args = Items::new(alloc);
-    args.push(Arg::Fun(params, numbers.of(&face.result)))?;
+    args.push(Arg::Fun(params, numbers.of_outcome(&face.result)))?;
     Ok(args)
 }
 
@@ -210,7 +210,7 @@ fn face_text(alloc: Global, spellings: &Spellings<'_>, face: &Face) -> Result<Te
 
 /// The number of the type of a functional interface.
 fn face_number(alloc: Global, numbers: &Numbers<'_>, face: &Face) -> Result<u32, AllocError>
-    ensures { IfOk result (λ n. n ≡ number_in numbers.now (of_class face.now.name)) }
+    ensures { IfOk result (λ n. n ≡ type_number numbers.now (of_class face.now.name)) }
 {
     let kind = of_class(alloc, &face.name)?;
     Ok(numbers.of(&kind))

@@ -3,8 +3,8 @@ ghost use Rattle.terms.specs.declared.parts.Arg.TheVariants.{Plain};
 ghost use Rattle.offers.specs.Candidates.{is_static};
 ghost use Rattle.offers.specs.Omissions.{scope_names};
 ghost use Rattle.offers.specs.Scenes.{of_class};
-ghost use Rattle.offers.specs.Types.{number_in};
 ghost use Rattle.offers.specs.Views.{scene};
+ghost use Rattle.scopes.specs.Kinds.{type_number};
 ghost use Rattle.scopes.specs.Declarations.{form_by, wants_by};
 
 use crate::numbers::Numbers;
@@ -113,7 +113,7 @@ fn plain_args(
     numbers: &Numbers<'_>,
     kinds: &[Erased],
 ) -> Result<Items<Arg>, AllocError>
-    ensures { IfOk result (λ args. args ≡ map (λ t. Plain (number_in numbers.now t)) kinds.now) }
+    ensures { IfOk result (λ args. args ≡ map (λ t. Plain (type_number numbers.now t)) kinds.now) }
 {
     let mut args = Items::new(alloc);
     for kind in kinds {
@@ -128,7 +128,7 @@ pub(crate) fn args_of(
     numbers: &Numbers<'_>,
     member: &Member,
 ) -> Result<Items<Arg>, AllocError>
-    ensures { IfOk result (λ args. args ≡ map (λ t. Plain (number_in numbers.now t)) (wants_by member.now member.now.kind (is_static member.now))) }
+    ensures { IfOk result (λ args. args ≡ map (λ t. Plain (type_number numbers.now t)) (wants_by member.now member.now.kind (is_static member.now))) }
 {
     let kinds = wants(alloc, member)?;
     let args = plain_args(alloc, numbers, kinds.as_slice())?;

@@ -2,24 +2,25 @@ ghost use Rattle.std.specs.Prelude.{◌≡◌, ◌<◌, ◌≤◌, ◌++◌, map
 ghost use Rattle.offers.specs.Omissions.{after_three, taken_names};
 ghost use Rattle.offers.specs.Scenes.{denoted};
 ghost use Rattle.offers.specs.Sites.{IsSiteOf};
-ghost use Rattle.offers.specs.Types.{number_in};
 ghost use Rattle.offers.specs.Views.{scene};
+ghost use Rattle.scopes.specs.Kinds.{type_number};
 ghost use Rattle.scopes.specs.Declarations.{decls_of};
 ghost use Rattle.scopes.specs.Environments.{IsSeen, IsEnvironmentAt, steps_of, parts_by, environment_of};
 ghost use Rattle.terms.specs.Faults.{greatest_depth};
 
 use crate::binder::binder;
 use crate::declarations::{add_faces, add_members, site_decls};
+use crate::kind_pairs::kind_pairs;
 use crate::numbers::Numbers;
-use crate::type_texts::type_texts;
+use crate::type_texts::kind_texts;
 use decl_index::Index;
 use java_bodies::HoleSite;
 use java_units::Unit;
 use known_classes::Merged;
 use lists::{Items, Text};
 use offers::{
-    Face, Member, Spellings, View, after_five, after_three, faces, offered_classes, own_summaries,
-    pairs_of, scope_names, taken_names, types_of,
+    Face, Member, Spellings, View, after_five, after_three, faces, mentions_void, offered_classes,
+    own_summaries, scope_names, taken_names, types_of,
 };
 use std::alloc::{AllocError, Global};
 use subtyping::Subtypes;
@@ -32,20 +33,23 @@ struct Seen {
     members: Items<Member>,
     faces: Items<Face>,
     types: Vec<Erased>,
+    void: bool,
 }
 
 /// What a view sees.
 fn seen_of(alloc: Global, view: &View<'_>) -> Result<Seen, AllocError>
-    ensures { IfOk result (λ s. IsSeen (scene view.now) s.members s.faces s.types.items) }
+    ensures { IfOk result (λ s. IsSeen (scene view.now) s.members s.faces (record { types = s.types.items; void = s.void })) }
 {
     let classes = offered_classes(alloc, view)?;
     let members = after_three(alloc, view, classes.as_slice())?;
     let faces = faces(alloc, view, classes.as_slice())?;
     let types = types_of(alloc, view, members.as_slice(), faces.as_slice())?;
+    let void = mentions_void(members.as_slice(), faces.as_slice());
     Ok(Seen {
         members,
         faces,
         types,
+        void,
     })
 }
 
@@ -81,7 +85,7 @@ fn decls_of(
 
 /// The number of the goal's type.
 fn goal_of(alloc: Global, view: &View<'_>, numbers: &Numbers<'_>) -> Result<u32, AllocError>
-    ensures { IfOk result (λ n. n ≡ number_in numbers.now (denoted (scene view.now) view.now.site.wanted)) }
+    ensures { IfOk result (λ n. n ≡ type_number numbers.now (denoted (scene view.now) view.now.site.wanted)) }
 {
     let kind = view.wanted(alloc)?;
     Ok(numbers.of(&kind))
@@ -114,9 +118,9 @@ fn parts_of(
 {
     let view = spellings.view();
     let goal = goal_of(alloc, view, numbers)?;
-    let types = type_texts(alloc, spellings, numbers.types())?;
+    let types = kind_texts(alloc, spellings, numbers)?;
     let binder = binder(alloc, decls.as_slice(), types.as_slice(), names)?;
-    let pairs = pairs_of(alloc, view, numbers.types())?;
+    let pairs = kind_pairs(alloc, view, numbers)?;
     Ok(Parts {
         types,
         pairs,
@@ -134,7 +138,7 @@ fn parts(alloc: Global, view: &View<'_>, limit: u32, depth: u32) -> Result<Parts
     ensures { IfOk result (λ parts. parts ≡ environment_of (scene view.now) limit depth) }
 {
     let seen = seen_of(alloc, view)?;
-    let numbers = Numbers::new(&seen.types)?;
+    let numbers = Numbers::new(&seen.types, seen.void)?;
     let names = taken_names(alloc, view)?;
     let spellings = Spellings::new(alloc, view, numbers.types())?;
     let decls = decls_of(alloc, &spellings, &seen, &numbers, names.as_slice())?;

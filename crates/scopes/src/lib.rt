@@ -1,5 +1,5 @@
 // The environment of a hole: what is offered there as types, subtype pairs and declarations. `environment` makes it
-// exactly. The main definition is `environment_of`; each environment is proved valid, and five holes are worked out
+// exactly. The main definition is `environment_of`; each environment is proved valid, and six holes are worked out
 // by hand. It stands on `offers` and `terms`.
 #![tactic(auto)]
 
@@ -7,6 +7,7 @@ mod binder;
 mod declarations;
 mod forms;
 mod hole;
+mod kind_pairs;
 mod laws;
 mod numbers;
 mod rows;

@@ -1,9 +1,11 @@
-ghost use Rattle.std.specs.Prelude.{◌≡◌, [], map, unwrap_or, Some, IfOk};
+ghost use Rattle.std.specs.Prelude.{◌≡◌, ◌∷◌, [], codes, map, unwrap_or, if◌then◌else◌, Some, IfOk};
 ghost use Rattle.known_classes.specs.Known.{canonical};
 ghost use Rattle.offers.specs.Spellings.{class_spelling, base_by, type_text};
 ghost use Rattle.offers.specs.Views.{scene};
+ghost use Rattle.scopes.specs.Kinds.{listed, kind_text};
 ghost use Rattle.scopes.specs.Texts.{class_text};
 
+use crate::numbers::Numbers;
 use lists::{Items, Text};
 use offers::{Spellings, with_dims};
 use std::alloc::{AllocError, Global};
@@ -49,8 +51,8 @@ fn type_text(alloc: Global, spellings: &Spellings<'_>, kind: &Erased) -> Result<
     Ok(text)
 }
 
-/// The texts of types.
-pub(crate) fn type_texts(
+/// The texts of types of values.
+fn type_texts(
     alloc: Global,
     spellings: &Spellings<'_>,
     kinds: &[Erased],
@@ -61,5 +63,32 @@ pub(crate) fn type_texts(
     for kind in kinds {
         all.push(type_text(alloc, spellings, kind)?)?;
     }
+    Ok(all)
+}
+
+/// The text of a type without a value, if there is one.
+fn void_texts(alloc: Global, void: bool) -> Result<Items<Text>, AllocError>
+    ensures { IfOk result (λ all. all ≡ (if void then codes "void" ∷ [] else [])) }
+{
+    let mut all = Items::new(alloc);
+    if void {
+        all.push(Text::from_str(alloc, "void")?)?;
+    }
+    Ok(all)
+}
+
+/// The texts of all types of an environment.
+pub(crate) fn kind_texts(
+    alloc: Global,
+    spellings: &Spellings<'_>,
+    numbers: &Numbers<'_>,
+) -> Result<Items<Text>, AllocError>
+    ensures { IfOk result (λ all. all ≡ map (kind_text (scene spellings.now)) (listed numbers.now)) }
+{
+    let types = numbers.types();
+    let place = numbers.place();
+    let mut all = type_texts(alloc, spellings, &types[..place])?;
+    all.append(void_texts(alloc, numbers.has_void())?)?;
+    all.append(type_texts(alloc, spellings, &types[place..])?)?;
     Ok(all)
 }
