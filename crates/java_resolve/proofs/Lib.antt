@@ -15,6 +15,7 @@ pub mod TextFacts
 pub mod Algebra
 pub mod Heading
 pub mod Gathering
+pub mod Going
 pub mod Keys
 pub mod Indexing
 pub mod Sites

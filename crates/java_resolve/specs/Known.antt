@@ -13,6 +13,7 @@ use Rattle.terms.specs.declared.parts.Form.{Form}
 use Rattle.terms.specs.declared.parts.Form.TheVariants.{Name, This, Call, New, Method, Field, Lambda}
 use Rattle.terms.specs.declared.parts.Parts.{Parts}
 use Rattle.java_resolve.specs.Pieces.{Piece, sign, word, joined}
+use Rattle.java_resolve.specs.declared.passing.Passing.{Passing}
 
 -- the words of a text, of whose first these characters were read
 unfoldable pub words : List ℕ → List ℕ → List (List ℕ)
@@ -76,6 +77,10 @@ pub record IsUnknownPlace (declared : List ℕ → Bool) (ps : List Piece) (at :
 abbrev pub Passes : (List ℕ → Bool) → List Piece → ℕ → ℕ → Bool → Type 0
 Passes declared ps from to true = AreKnown declared ps × (to ≡ from + length (encode_utf8_all (joined ps)))
 Passes declared ps from to false = (at : ℕ) × IsUnknownPlace declared ps at × (to ≡ from + at)
+
+-- of going over pieces from one state to another, with the same words known in both
+abbrev pub Goes : (List ℕ → Bool) → List Piece → Passing → Passing → Bool → Type 0
+Goes declared ps old new r = Passes declared ps old.at new.at r × (new.set.keys ≡ old.set.keys)
 
 -- the second set has the words of the first and these
 abbrev pub Adds : {Y S : Type 0} → IndexSet (String Y) S → IndexSet (String Y) S → List (List ℕ) → Type 0

@@ -1,10 +1,10 @@
 ghost use Rattle.std.specs.Prelude.{◌≡◌, ◌++◌, ◌∷◌, ℕ, List, Bool, true, [], OnOk, IfOk, codes};
 ghost use Rattle.java_resolve.specs.Pieces.{cut, cast_pieces, shape_pieces, before_pieces, call_pieces, args_pieces, header_pieces, sign};
 ghost use Rattle.java_resolve.specs.View.{shape_view, before_view, args_view};
-ghost use Rattle.java_resolve.specs.Known.{Passes, Knows, Begins};
+ghost use Rattle.java_resolve.specs.Known.{Passes, Goes, Knows, Begins};
 
 use crate::declared::add_word;
-use crate::passing::{Passing, separator};
+use crate::passing::{Passing, pass_cast, pass_header, pass_name, pass_sign, separator};
 use crate::shape::{Argument, Before, Shape};
 use crate::word::Word;
 use std::alloc::{AllocError, Global};
@@ -24,8 +24,7 @@ fn bind(alloc: Global, passing: &mut Passing, binders: &[Word]) -> Result<(), Al
 /// Goes over an expression. Calls nest as deep as it does.
 #[cycle(passing)]
 pub fn pass_shape(alloc: Global, passing: &mut Passing, shape: &Shape) -> Result<bool, AllocError>
-    ensures passes { (d : List ℕ → Bool) (bound : List (List ℕ)) → Knows passing.old.set d bound → IfOk result (Passes d (shape_pieces bound (shape_view shape.now)) passing.old.at passing.new.at) }
-    ensures same { OnOk result (passing.new.set.keys ≡ passing.old.set.keys) }
+    ensures { (d : List ℕ → Bool) (bound : List (List ℕ)) → Knows passing.old.set d bound → IfOk result (Goes d (shape_pieces bound (shape_view shape.now)) passing.old passing.new) }
 {
     match shape {
         Shape::Named(before, name) => pass_named(alloc, passing, before, name),
@@ -53,14 +52,13 @@ fn pass_named(
     before: &Before,
     name: &Word,
 ) -> Result<bool, AllocError>
-    ensures passes { (d : List ℕ → Bool) (bound : List (List ℕ)) → Knows passing.old.set d bound → IfOk result (Passes d (before_pieces bound (before_view before.now) ++ cut bound [] name.now) passing.old.at passing.new.at) }
-    ensures same { OnOk result (passing.new.set.keys ≡ passing.old.set.keys) }
+    ensures { (d : List ℕ → Bool) (bound : List (List ℕ)) → Knows passing.old.set d bound → IfOk result (Goes d (before_pieces bound (before_view before.now) ++ cut bound [] name.now) passing.old passing.new) }
 {
     let is_known = pass_before(alloc, passing, before)?;
     if !is_known {
         return Ok(false);
     }
-    passing.pass_name(alloc, name)
+    pass_name(alloc, &passing.set, &mut passing.at, name)
 }
 
 /// Goes over a call.
@@ -72,8 +70,7 @@ fn pass_called(
     name: &Word,
     args: &[Argument],
 ) -> Result<bool, AllocError>
-    ensures passes { (d : List ℕ → Bool) (bound : List (List ℕ)) → Knows passing.old.set d bound → IfOk result (Passes d ((before_pieces bound (before_view before.now) ++ cut bound [] name.now) ++ call_pieces bound (args_view args.now)) passing.old.at passing.new.at) }
-    ensures same { OnOk result (passing.new.set.keys ≡ passing.old.set.keys) }
+    ensures { (d : List ℕ → Bool) (bound : List (List ℕ)) → Knows passing.old.set d bound → IfOk result (Goes d ((before_pieces bound (before_view before.now) ++ cut bound [] name.now) ++ call_pieces bound (args_view args.now)) passing.old passing.new) }
 {
     let is_known = pass_named(alloc, passing, before, name)?;
     if !is_known {
@@ -85,27 +82,25 @@ fn pass_called(
 /// Goes over the arguments of a call in their brackets.
 #[cycle(passing)]
 fn pass_call(alloc: Global, passing: &mut Passing, args: &[Argument]) -> Result<bool, AllocError>
-    ensures passes { (d : List ℕ → Bool) (bound : List (List ℕ)) → Knows passing.old.set d bound → IfOk result (Passes d (call_pieces bound (args_view args.now)) passing.old.at passing.new.at) }
-    ensures same { OnOk result (passing.new.set.keys ≡ passing.old.set.keys) }
+    ensures { (d : List ℕ → Bool) (bound : List (List ℕ)) → Knows passing.old.set d bound → IfOk result (Goes d (call_pieces bound (args_view args.now)) passing.old passing.new) }
 {
-    passing.pass_sign("(")?;
+    pass_sign(&mut passing.at, "(")?;
     let are_known = pass_args(alloc, passing, args)?;
     if !are_known {
         return Ok(false);
     }
-    passing.pass_sign(")")?;
+    pass_sign(&mut passing.at, ")")?;
     Ok(true)
 }
 
 /// Goes over what stands before a name.
 #[cycle(passing)]
 fn pass_before(alloc: Global, passing: &mut Passing, before: &Before) -> Result<bool, AllocError>
-    ensures passes { (d : List ℕ → Bool) (bound : List (List ℕ)) → Knows passing.old.set d bound → IfOk result (Passes d (before_pieces bound (before_view before.now)) passing.old.at passing.new.at) }
-    ensures same { OnOk result (passing.new.set.keys ≡ passing.old.set.keys) }
+    ensures { (d : List ℕ → Bool) (bound : List (List ℕ)) → Knows passing.old.set d bound → IfOk result (Goes d (before_pieces bound (before_view before.now)) passing.old passing.new) }
 {
     match before {
         Before::Nothing => Ok(true),
-        Before::Fresh => pass_fresh(passing),
+        Before::Fresh => pass_fresh(&mut passing.at),
         Before::Behind(before, name, args, _) => {
             pass_behind(alloc, passing, before.get(), name, args.as_slice())
         }
@@ -116,11 +111,10 @@ fn pass_before(alloc: Global, passing: &mut Passing, before: &Before) -> Result<
 }
 
 /// Goes over `new `.
-fn pass_fresh(passing: &mut Passing) -> Result<bool, AllocError>
-    ensures passes { (d : List ℕ → Bool) → IfOk result (Passes d (sign (codes "new ") ∷ []) passing.old.at passing.new.at) }
-    ensures same { passing.new.set ≡ passing.old.set }
+fn pass_fresh(at: &mut usize) -> Result<bool, AllocError>
+    ensures { (d : List ℕ → Bool) → IfOk result (Passes d (sign (codes "new ") ∷ []) at.old at.new) }
 {
-    passing.pass_sign("new ")?;
+    pass_sign(at, "new ")?;
     Ok(true)
 }
 
@@ -133,14 +127,13 @@ fn pass_behind(
     name: &Word,
     args: &[Argument],
 ) -> Result<bool, AllocError>
-    ensures passes { (d : List ℕ → Bool) (bound : List (List ℕ)) → Knows passing.old.set d bound → IfOk result (Passes d (((before_pieces bound (before_view before.now) ++ cut bound [] name.now) ++ call_pieces bound (args_view args.now)) ++ sign (codes ".") ∷ []) passing.old.at passing.new.at) }
-    ensures same { OnOk result (passing.new.set.keys ≡ passing.old.set.keys) }
+    ensures { (d : List ℕ → Bool) (bound : List (List ℕ)) → Knows passing.old.set d bound → IfOk result (Goes d (((before_pieces bound (before_view before.now) ++ cut bound [] name.now) ++ call_pieces bound (args_view args.now)) ++ sign (codes ".") ∷ []) passing.old passing.new) }
 {
     let is_known = pass_called(alloc, passing, before, name, args)?;
     if !is_known {
         return Ok(false);
     }
-    passing.pass_sign(".")?;
+    pass_sign(&mut passing.at, ".")?;
     Ok(true)
 }
 
@@ -152,15 +145,14 @@ fn pass_bracketed(
     cast: &Option<Word>,
     receiver: &Shape,
 ) -> Result<bool, AllocError>
-    ensures passes { (d : List ℕ → Bool) (bound : List (List ℕ)) → Knows passing.old.set d bound → IfOk result (Passes d (sign (codes "(") ∷ ((cast_pieces bound cast.now ++ shape_pieces bound (shape_view receiver.now)) ++ sign (codes ").") ∷ [])) passing.old.at passing.new.at) }
-    ensures same { OnOk result (passing.new.set.keys ≡ passing.old.set.keys) }
+    ensures { (d : List ℕ → Bool) (bound : List (List ℕ)) → Knows passing.old.set d bound → IfOk result (Goes d (sign (codes "(") ∷ ((cast_pieces bound cast.now ++ shape_pieces bound (shape_view receiver.now)) ++ sign (codes ").") ∷ [])) passing.old passing.new) }
 {
-    passing.pass_sign("(")?;
+    pass_sign(&mut passing.at, "(")?;
     let is_known = pass_with_cast(alloc, passing, cast, receiver)?;
     if !is_known {
         return Ok(false);
     }
-    passing.pass_sign(").")?;
+    pass_sign(&mut passing.at, ").")?;
     Ok(true)
 }
 
@@ -172,10 +164,9 @@ fn pass_with_cast(
     cast: &Option<Word>,
     shape: &Shape,
 ) -> Result<bool, AllocError>
-    ensures passes { (d : List ℕ → Bool) (bound : List (List ℕ)) → Knows passing.old.set d bound → IfOk result (Passes d (cast_pieces bound cast.now ++ shape_pieces bound (shape_view shape.now)) passing.old.at passing.new.at) }
-    ensures same { OnOk result (passing.new.set.keys ≡ passing.old.set.keys) }
+    ensures { (d : List ℕ → Bool) (bound : List (List ℕ)) → Knows passing.old.set d bound → IfOk result (Goes d (cast_pieces bound cast.now ++ shape_pieces bound (shape_view shape.now)) passing.old passing.new) }
 {
-    let is_known = passing.pass_cast(alloc, cast)?;
+    let is_known = pass_cast(alloc, &passing.set, &mut passing.at, cast)?;
     if !is_known {
         return Ok(false);
     }
@@ -185,8 +176,7 @@ fn pass_with_cast(
 /// Goes over the arguments of a call.
 #[cycle(passing)]
 fn pass_args(alloc: Global, passing: &mut Passing, args: &[Argument]) -> Result<bool, AllocError>
-    ensures passes { (d : List ℕ → Bool) (bound : List (List ℕ)) → Knows passing.old.set d bound → IfOk result (Passes d (args_pieces bound true (args_view args.now)) passing.old.at passing.new.at) }
-    ensures same { OnOk result (passing.new.set.keys ≡ passing.old.set.keys) }
+    ensures { (d : List ℕ → Bool) (bound : List (List ℕ)) → Knows passing.old.set d bound → IfOk result (Goes d (args_pieces bound true (args_view args.now)) passing.old passing.new) }
 {
     for i in 0..args.len() {
         let is_known = pass_arg(alloc, passing, i == 0, &args[i])?;
@@ -205,10 +195,9 @@ fn pass_arg(
     is_first: bool,
     arg: &Argument,
 ) -> Result<bool, AllocError>
-    ensures passes { (d : List ℕ → Bool) (bound : List (List ℕ)) → Knows passing.old.set d bound → IfOk result (Passes d (args_pieces bound is_first (args_view (arg.now ∷ []))) passing.old.at passing.new.at) }
-    ensures same { OnOk result (passing.new.set.keys ≡ passing.old.set.keys) }
+    ensures { (d : List ℕ → Bool) (bound : List (List ℕ)) → Knows passing.old.set d bound → IfOk result (Goes d (args_pieces bound is_first (args_view (arg.now ∷ []))) passing.old passing.new) }
 {
-    passing.pass_sign(separator(is_first))?;
+    pass_sign(&mut passing.at, separator(is_first))?;
     pass_with_cast(alloc, passing, &arg.cast, &arg.shape)
 }
 
@@ -222,8 +211,7 @@ fn pass_lambda(
     cast: &Option<Word>,
     body: &Shape,
 ) -> Result<bool, AllocError>
-    ensures passes { (d : List ℕ → Bool) (bound : List (List ℕ)) → Knows passing.old.set d bound → IfOk result (Passes d (header_pieces (bound ++ binders.now) interface.now binders.now ++ (cast_pieces (bound ++ binders.now) cast.now ++ shape_pieces (bound ++ binders.now) (shape_view body.now))) passing.old.at passing.new.at) }
-    ensures same { OnOk result (passing.new.set.keys ≡ passing.old.set.keys) }
+    ensures { (d : List ℕ → Bool) (bound : List (List ℕ)) → Knows passing.old.set d bound → IfOk result (Goes d (header_pieces (bound ++ binders.now) interface.now binders.now ++ (cast_pieces (bound ++ binders.now) cast.now ++ shape_pieces (bound ++ binders.now) (shape_view body.now))) passing.old passing.new) }
 {
     let outer = passing.set.len();
     bind(alloc, passing, binders)?;
@@ -242,10 +230,9 @@ fn pass_within(
     cast: &Option<Word>,
     body: &Shape,
 ) -> Result<bool, AllocError>
-    ensures passes { (d : List ℕ → Bool) (bound : List (List ℕ)) → Knows passing.old.set d bound → IfOk result (Passes d (header_pieces bound interface.now binders.now ++ (cast_pieces bound cast.now ++ shape_pieces bound (shape_view body.now))) passing.old.at passing.new.at) }
-    ensures same { OnOk result (passing.new.set.keys ≡ passing.old.set.keys) }
+    ensures { (d : List ℕ → Bool) (bound : List (List ℕ)) → Knows passing.old.set d bound → IfOk result (Goes d (header_pieces bound interface.now binders.now ++ (cast_pieces bound cast.now ++ shape_pieces bound (shape_view body.now))) passing.old passing.new) }
 {
-    let is_known = passing.pass_header(alloc, interface, binders)?;
+    let is_known = pass_header(alloc, &passing.set, &mut passing.at, interface, binders)?;
     if !is_known {
         return Ok(false);
     }

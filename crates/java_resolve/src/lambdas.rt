@@ -12,14 +12,14 @@ ghost use Rattle.java_resolve.specs.Trees.{tree_view, found_view, entry_view, ro
 
 use crate::found::{Entry, Found, Row, pick};
 use crate::heads::{Kind, deeper, one_head};
+use crate::setting::Setting;
 use crate::tree::{Tree, TreeArg};
-use crate::variables::variables;
 use crate::word::Word;
 use java_units::forms::same;
 use lists::Items;
 use std::alloc::{AllocError, Global};
 use std::rc::Rc;
-use terms::{Arg, Ctx, Decl, Env, Parts};
+use terms::{Arg, Decl, Env, Parts};
 
 /// A declaration of lambdas: the types of their parameters, and the one that their bodies are wanted at.
 #[derive(Clone, Copy)]
@@ -150,20 +150,19 @@ fn has_binders(
 /// The declaration with this number, where it is one of lambdas that have these binders.
 pub fn lambda_decl<'a>(
     alloc: Global,
-    env: &'a Env,
-    ctx: &Ctx<'_>,
+    setting: &Setting<'a>,
     number: u32,
     binders: &[Word],
 ) -> Result<Option<Wanted<'a>>, AllocError>
-    requires { ctx.now.used ≤ 3 }
-    ensures some { IfOk result (λ o. IfSome o (λ w. IsLambda env.now number (length (joined (rows ctx.now))) binders.now w.decl.now w.row.now w.result)) }
-    ensures none { IfOk result (λ o. IfNone o ((d : Decl) (ps : List ℕ) (r : ℕ) → IsLambda env.now number (length (joined (rows ctx.now))) binders.now d ps r → ⊥)) }
+    ensures some { IfOk result (λ o. IfSome o (λ w. IsLambda setting.now.env.now number (length (joined (rows setting.now.ctx))) binders.now w.decl.now w.row.now w.result)) }
+    ensures none { IfOk result (λ o. IfNone o ((d : Decl) (ps : List ℕ) (r : ℕ) → IsLambda setting.now.env.now number (length (joined (rows setting.now.ctx))) binders.now d ps r → ⊥)) }
 {
-    let from = variables(ctx);
-    match decl_wanted(env.parts(), number) {
+    let from = setting.ctx.variables();
+    let parts = setting.env.parts();
+    match decl_wanted(parts, number) {
         None => Ok(None),
         Some(wanted) => {
-            let has_binders = has_binders(alloc, env.parts(), from, wanted.row, binders)?;
+            let has_binders = has_binders(alloc, parts, from, wanted.row, binders)?;
             if !has_binders {
                 return Ok(None);
             }

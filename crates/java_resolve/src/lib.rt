@@ -30,6 +30,7 @@ mod readable;
 mod reader;
 mod readings;
 mod resolution;
+mod setting;
 mod shape;
 mod steps;
 mod texts;

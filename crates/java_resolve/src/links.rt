@@ -14,19 +14,11 @@ ghost use Rattle.java_resolve.specs.Trees.{row_view, place_view};
 use crate::chars::first;
 use crate::found::{Place, Row};
 use crate::heads::{Kind, headed};
-use crate::index::Index;
+use crate::setting::Setting;
 use crate::variables::variable_row;
 use crate::word::Word;
 use lists::Items;
 use std::alloc::{AllocError, Global};
-use terms::{Ctx, Env};
-
-/// An environment with its declarations by their words.
-#[derive(Drop)]
-pub struct Known<'a> {
-    pub env: &'a Env,
-    pub index: Index,
-}
 
 /// What stands before a word and its dot: what is found for it, and which fields and methods may follow.
 #[derive(Drop)]
@@ -45,17 +37,23 @@ pub struct Name {
 }
 
 /// What is found for `this`.
-fn this_row(alloc: Global, known: &Known<'_>) -> Result<Row, AllocError>
-    ensures right { (ctx : List (List ℕ)) → IsSet known.now.env.now known.now.index → IsContext ctx → IfOk result (λ row. IsRow known.now.env.now ctx this_shape (row_view row)) }
+fn this_row(alloc: Global, setting: &Setting<'_>) -> Result<Row, AllocError>
+    ensures right { (ctx : List (List ℕ)) → IsSet setting.now.env.now setting.now.index.now → IsContext ctx → IfOk result (λ row. IsRow setting.now.env.now ctx this_shape (row_view row)) }
 {
-    headed(alloc, known.env, Kind::Alone, known.index.find("this"), &[])
+    headed(
+        alloc,
+        setting.env,
+        Kind::Alone,
+        setting.index.find("this"),
+        &[],
+    )
 }
 
 /// Before a name behind nothing: a bare `this` that is left out.
-pub fn left_out(alloc: Global, known: &Known<'_>) -> Result<Link, AllocError>
-    ensures right { (ctx : List (List ℕ)) → IsSet known.now.env.now known.now.index → IsContext ctx → IfOk result (λ link. IsLink known.now.env.now ctx nothing [] [] link) }
+pub fn left_out(alloc: Global, setting: &Setting<'_>) -> Result<Link, AllocError>
+    ensures right { (ctx : List (List ℕ)) → IsSet setting.now.env.now setting.now.index.now → IsContext ctx → IfOk result (λ link. IsLink setting.now.env.now ctx nothing [] [] link) }
 {
-    let row = this_row(alloc, known)?;
+    let row = this_row(alloc, setting)?;
     Ok(Link {
         place: Place { cast: None, row },
         fields: Kind::ShownField,
@@ -77,21 +75,32 @@ pub fn receiver(place: Place) -> Link
 }
 
 /// What is found for the name behind nothing.
-fn alone(alloc: Global, known: &Known<'_>, ctx: &Ctx<'_>, text: &str) -> Result<Row, AllocError>
-    requires { ctx.now.used ≤ 3 }
-    ensures right { IsReadable known.now.env.now → IfOk result (λ row. IsAloneRow known.now.env.now known.now.index (rows ctx.now) text.now (row_view row)) }
+fn alone(alloc: Global, setting: &Setting<'_>, text: &str) -> Result<Row, AllocError>
+    ensures right { IsReadable setting.now.env.now → IfOk result (λ row. IsAloneRow setting.now.env.now setting.now.index.now (rows setting.now.ctx) text.now (row_view row)) }
 {
-    let row = headed(alloc, known.env, Kind::Alone, known.index.find(text), &[])?;
-    let variable = variable_row(alloc, known.env.parts(), ctx, text)?;
+    let row = headed(
+        alloc,
+        setting.env,
+        Kind::Alone,
+        setting.index.find(text),
+        &[],
+    )?;
+    let variable = variable_row(alloc, setting, text)?;
     row.with(variable)
 }
 
 /// What is found for fields with this word.
-fn fields(alloc: Global, known: &Known<'_>, link: &Link, word: &str) -> Result<Row, AllocError>
-    ensures value { IfOk result (λ row. row_view row ≡ headed_in known.now.env.now link.now.fields (bucket known.now.index word.now) (place_view link.now.place ∷ [])) }
+fn fields(alloc: Global, setting: &Setting<'_>, link: &Link, word: &str) -> Result<Row, AllocError>
+    ensures value { IfOk result (λ row. row_view row ≡ headed_in setting.now.env.now link.now.fields (bucket setting.now.index.now word.now) (place_view link.now.place ∷ [])) }
 {
     let place = std::slice::from_ref(&link.place);
-    headed(alloc, known.env, link.fields, known.index.find(word), place)
+    headed(
+        alloc,
+        setting.env,
+        link.fields,
+        setting.index.find(word),
+        place,
+    )
 }
 
 impl Name {
@@ -112,36 +121,27 @@ impl Name {
     pub fn row(
         &self,
         alloc: Global,
-        known: &Known<'_>,
-        ctx: &Ctx<'_>,
+        setting: &Setting<'_>,
         is_bare: bool,
     ) -> Result<Row, AllocError>
-        requires { ctx.now.used ≤ 3 }
-        ensures right { (b : Before) → IsSet known.now.env.now known.now.index → IsContext (rows ctx.now) → IsBare is_bare b → IsNamed known.now.env.now (rows ctx.now) b self.now → IfOk result (λ row. IsRow known.now.env.now (rows ctx.now) (named b self.now.text) (row_view row)) }
+        ensures right { (b : Before) → IsSet setting.now.env.now setting.now.index.now → IsContext (rows setting.now.ctx) → IsBare is_bare b → IsNamed setting.now.env.now (rows setting.now.ctx) b self.now → IfOk result (λ row. IsRow setting.now.env.now (rows setting.now.ctx) (named b self.now.text) (row_view row)) }
     {
         let word = self.word.as_str();
         let text = self.text.as_str();
-        let fields = fields(alloc, known, &self.link, word)?;
+        let fields = fields(alloc, setting, &self.link, word)?;
         if !is_bare {
             return Ok(fields);
         }
-        let row = alone(alloc, known, ctx, text)?;
+        let row = alone(alloc, setting, text)?;
         row.with(fields)
     }
 
     /// The name with a dot behind it.
-    fn dotted(
-        self,
-        alloc: Global,
-        known: &Known<'_>,
-        ctx: &Ctx<'_>,
-        is_bare: bool,
-    ) -> Result<Name, AllocError>
-        requires { ctx.now.used ≤ 3 }
-        ensures right { (b : Before) → IsSet known.now.env.now known.now.index → IsContext (rows ctx.now) → IsBare is_bare b → IsNamed known.now.env.now (rows ctx.now) b self → IfOk result (IsNamed known.now.env.now (rows ctx.now) b) }
+    fn dotted(self, alloc: Global, setting: &Setting<'_>, is_bare: bool) -> Result<Name, AllocError>
+        ensures right { (b : Before) → IsSet setting.now.env.now setting.now.index.now → IsContext (rows setting.now.ctx) → IsBare is_bare b → IsNamed setting.now.env.now (rows setting.now.ctx) b self → IfOk result (IsNamed setting.now.env.now (rows setting.now.ctx) b) }
         ensures text { IfOk result (λ name. name.text ≡ self.text ++ 46 ∷ []) }
     {
-        let row = self.row(alloc, known, ctx, is_bare)?;
+        let row = self.row(alloc, setting, is_bare)?;
         let Name {
             link: _,
             word: _,
@@ -160,17 +160,15 @@ impl Name {
     fn with(
         self,
         alloc: Global,
-        known: &Known<'_>,
-        ctx: &Ctx<'_>,
+        setting: &Setting<'_>,
         is_bare: bool,
         c: char,
     ) -> Result<Name, AllocError>
-        requires { ctx.now.used ≤ 3 }
-        ensures right { (b : Before) → IsSet known.now.env.now known.now.index → IsContext (rows ctx.now) → IsBare is_bare b → IsNamed known.now.env.now (rows ctx.now) b self → IfOk result (IsNamed known.now.env.now (rows ctx.now) b) }
+        ensures right { (b : Before) → IsSet setting.now.env.now setting.now.index.now → IsContext (rows setting.now.ctx) → IsBare is_bare b → IsNamed setting.now.env.now (rows setting.now.ctx) b self → IfOk result (IsNamed setting.now.env.now (rows setting.now.ctx) b) }
         ensures text { IfOk result (λ name. name.text ≡ self.text ++ c ∷ []) }
     {
         if c == '.' {
-            return self.dotted(alloc, known, ctx, is_bare);
+            return self.dotted(alloc, setting, is_bare);
         }
         let Name {
             link,
@@ -186,19 +184,17 @@ impl Name {
     pub fn read(
         self,
         alloc: Global,
-        known: &Known<'_>,
-        ctx: &Ctx<'_>,
+        setting: &Setting<'_>,
         is_bare: bool,
         more: &str,
     ) -> Result<Name, AllocError>
-        requires { ctx.now.used ≤ 3 }
-        ensures right { (b : Before) → IsSet known.now.env.now known.now.index → IsContext (rows ctx.now) → IsBare is_bare b → IsNamed known.now.env.now (rows ctx.now) b self → IfOk result (IsNamed known.now.env.now (rows ctx.now) b) }
+        ensures right { (b : Before) → IsSet setting.now.env.now setting.now.index.now → IsContext (rows setting.now.ctx) → IsBare is_bare b → IsNamed setting.now.env.now (rows setting.now.ctx) b self → IfOk result (IsNamed setting.now.env.now (rows setting.now.ctx) b) }
         ensures text { IfOk result (λ name. name.text ≡ self.text ++ chars more.now) }
     {
         let mut name = self;
         let mut rest = more;
         while let Some((c, after)) = first(rest) {
-            name = name.with(alloc, known, ctx, is_bare, c)?;
+            name = name.with(alloc, setting, is_bare, c)?;
             rest = after;
         }
         Ok(name)
@@ -233,12 +229,12 @@ fn behind_name(is_bare: bool, text: &Word, row: Row) -> Link
 /// What is found for methods with this word and these arguments behind their receiver.
 fn methods(
     alloc: Global,
-    known: &Known<'_>,
+    setting: &Setting<'_>,
     link: Link,
     word: &str,
     args: Items<Place>,
 ) -> Result<Row, AllocError>
-    ensures value { IfOk result (λ row. row_view row ≡ headed_in known.now.env.now link.methods (bucket known.now.index word.now) (place_view link.place ∷ map place_view args)) }
+    ensures value { IfOk result (λ row. row_view row ≡ headed_in setting.now.env.now link.methods (bucket setting.now.index.now word.now) (place_view link.place ∷ map place_view args)) }
 {
     let Link {
         place,
@@ -250,55 +246,66 @@ fn methods(
     places.append(args)?;
     headed(
         alloc,
-        known.env,
+        setting.env,
         methods,
-        known.index.find(word),
+        setting.index.find(word),
         places.as_slice(),
     )
 }
 
 /// What is found for calls with this name and these arguments.
-fn calls(alloc: Global, known: &Known<'_>, name: &str, args: &[Place]) -> Result<Row, AllocError>
-    ensures value { IfOk result (λ row. row_view row ≡ headed_in known.now.env.now kind.Call (bucket known.now.index name.now) (map place_view args.now)) }
+fn calls(
+    alloc: Global,
+    setting: &Setting<'_>,
+    name: &str,
+    args: &[Place],
+) -> Result<Row, AllocError>
+    ensures value { IfOk result (λ row. row_view row ≡ headed_in setting.now.env.now kind.Call (bucket setting.now.index.now name.now) (map place_view args.now)) }
 {
-    headed(alloc, known.env, Kind::Call, known.index.find(name), args)
+    headed(
+        alloc,
+        setting.env,
+        Kind::Call,
+        setting.index.find(name),
+        args,
+    )
 }
 
 /// What is found for a call with these arguments.
 pub fn call_row(
     alloc: Global,
-    known: &Known<'_>,
+    setting: &Setting<'_>,
     is_bare: bool,
     name: Name,
     args: Items<Place>,
 ) -> Result<Row, AllocError>
-    ensures right { (ctx : List (List ℕ)) (b : Before) (shapes : Shapes) → IsSet known.now.env.now known.now.index → IsContext ctx → IsBare is_bare b → IsNamed known.now.env.now ctx b name → AreSpots known.now.env.now ctx shapes (map place_view args) → IfOk result (λ row. IsRow known.now.env.now ctx (called b name.text shapes) (row_view row)) }
+    ensures right { (ctx : List (List ℕ)) (b : Before) (shapes : Shapes) → IsSet setting.now.env.now setting.now.index.now → IsContext ctx → IsBare is_bare b → IsNamed setting.now.env.now ctx b name → AreSpots setting.now.env.now ctx shapes (map place_view args) → IfOk result (λ row. IsRow setting.now.env.now ctx (called b name.text shapes) (row_view row)) }
 {
     let Name { link, word, text } = name;
     let all = text.as_str();
     let last = word.as_str();
     if !is_bare {
-        return methods(alloc, known, link, last, args);
+        return methods(alloc, setting, link, last, args);
     }
-    let calls = calls(alloc, known, all, args.as_slice())?;
-    let methods = methods(alloc, known, link, last, args)?;
+    let calls = calls(alloc, setting, all, args.as_slice())?;
+    let methods = methods(alloc, setting, link, last, args)?;
     calls.with(methods)
 }
 
 /// What is found for `new` with these arguments.
 pub fn new_row(
     alloc: Global,
-    known: &Known<'_>,
+    setting: &Setting<'_>,
     name: &Word,
     args: &Items<Place>,
 ) -> Result<Row, AllocError>
-    ensures right { (ctx : List (List ℕ)) (shapes : Shapes) → IsSet known.now.env.now known.now.index → IsContext ctx → AreSpots known.now.env.now ctx shapes (map place_view args.now) → IfOk result (λ row. IsRow known.now.env.now ctx (called fresh name.now shapes) (row_view row)) }
+    ensures right { (ctx : List (List ℕ)) (shapes : Shapes) → IsSet setting.now.env.now setting.now.index.now → IsContext ctx → AreSpots setting.now.env.now ctx shapes (map place_view args.now) → IfOk result (λ row. IsRow setting.now.env.now ctx (called fresh name.now shapes) (row_view row)) }
 {
     headed(
         alloc,
-        known.env,
+        setting.env,
         Kind::New,
-        known.index.find(name.as_str()),
+        setting.index.find(name.as_str()),
         args.as_slice(),
     )
 }

@@ -14,8 +14,8 @@ use crate::found::{Found, Row, pick};
 use crate::index::Index;
 use crate::known::read_known;
 use crate::lengths::short_rows;
-use crate::links::Known;
 use crate::readings::shape_row;
+use crate::setting::Setting;
 use crate::shape::Shape;
 use crate::tree::term_of;
 use std::alloc::{AllocError, Global};
@@ -30,9 +30,13 @@ fn row_of(alloc: Global, env: &Env, shape: &Shape) -> Result<Row, AllocError>
     let parts = env.parts();
     short_rows(parts);
     let index = Index::of(alloc, parts)?;
-    let known = Known { env, index };
     let ctx = Ctx::empty();
-    shape_row(alloc, &known, &ctx, shape)
+    let setting = Setting {
+        env,
+        index: &index,
+        ctx,
+    };
+    shape_row(alloc, &setting, shape)
 }
 
 /// What is found for an expression at the goal.

@@ -8,32 +8,14 @@ ghost use Rattle.java_resolve.specs.Trees.{tree_view, row_view};
 
 use crate::binder::after_prefix;
 use crate::found::{Entry, Found, Row};
+use crate::setting::Setting;
 use crate::tree::Tree;
 use lists::Items;
 use std::alloc::{AllocError, Global};
 use std::rc::Rc;
-use terms::{Ctx, Parts};
 
 /// How many variables there are at most where texts are read back: their numbers have 32 bits.
 const MOST_VARIABLES: usize = 4_294_967_295;
-
-/// How many variables there are.
-#[tactic(auto, unfolding(terms::specs::Typing::rows, terms::specs::Typing::joined))]
-pub fn variables(ctx: &Ctx<'_>) -> usize
-    requires { ctx.now.used ≤ 3 }
-    ensures { result ≡ length (joined (rows ctx.now)) }
-{
-    if ctx.used == 0 {
-        return 0;
-    }
-    if ctx.used == 1 {
-        return ctx.first.len();
-    }
-    if ctx.used == 2 {
-        return ctx.first.len() + ctx.second.len();
-    }
-    ctx.first.len() + ctx.second.len() + ctx.third.len()
-}
 
 /// Whether the digits are the number in decimal.
 fn spells(alloc: Global, digits: &str, number: u32) -> Result<bool, AllocError>
@@ -72,32 +54,25 @@ fn number_of(alloc: Global, binder: &str, word: &str) -> Result<Option<u32>, All
 }
 
 /// The variable that is written so.
-pub fn variable_row(
-    alloc: Global,
-    parts: &Parts,
-    ctx: &Ctx<'_>,
-    text: &str,
-) -> Result<Row, AllocError>
-    requires { ctx.now.used ≤ 3 }
-    ensures right { IsReadable parts.now → IfOk result (λ row. IsVariableRow parts.now (rows ctx.now) (chars text.now) (row_view row)) }
+pub fn variable_row(alloc: Global, setting: &Setting<'_>, text: &str) -> Result<Row, AllocError>
+    ensures right { IsReadable setting.now.env.now → IfOk result (λ row. IsVariableRow setting.now.env.now (rows setting.now.ctx) (chars text.now) (row_view row)) }
 {
-    let count = variables(ctx);
+    let count = setting.ctx.variables();
     if count > MOST_VARIABLES {
         return Err(AllocError);
     }
-    let found = number_of(alloc, parts.binder.as_str(), text)?;
+    let found = number_of(alloc, setting.env.parts().binder.as_str(), text)?;
     match found {
-        Some(number) => numbered(alloc, ctx, number),
+        Some(number) => numbered(alloc, setting, number),
         None => Ok(Row::none(alloc)),
     }
 }
 
 /// The variable with this number.
-fn numbered(alloc: Global, ctx: &Ctx<'_>, number: u32) -> Result<Row, AllocError>
-    requires { ctx.now.used ≤ 3 }
-    ensures value { IfOk result (λ row. row_view row ≡ variable_in number (slice_get (joined (rows ctx.now)) number)) }
+fn numbered(alloc: Global, setting: &Setting<'_>, number: u32) -> Result<Row, AllocError>
+    ensures value { IfOk result (λ row. row_view row ≡ variable_in number (slice_get (joined (rows setting.now.ctx)) number)) }
 {
-    match ctx.variable(number) {
+    match setting.ctx.variable(number) {
         Some(kind) => variable(alloc, number, kind),
         None => Ok(Row::none(alloc)),
     }

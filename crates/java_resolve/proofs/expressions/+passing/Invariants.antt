@@ -1,14 +1,15 @@
 use Rattle.std.proofs.Common.{◌≡◌, ℕ, ◌+◌, ◌*◌, ◌==◌, List, [], ◌∷◌, Bool, true, drop}
 use Rattle.java_resolve.specs.Pieces.{args_pieces}
 use Rattle.java_resolve.specs.View.{shape_view, before_view, args_view}
-use Rattle.java_resolve.specs.Known.{Passes, Knows}
+use Rattle.java_resolve.specs.declared.passing.Passing.{Passing}
+use Rattle.java_resolve.specs.Known.{Goes, Knows}
 use Rattle.java_resolve.proofs.Sizes.{size, size_before, sizes}
 use Rattle.java_resolve.proofs.expressions.+passing.Given as goal
 
 abbrev pub invariant-pass_args-loop-i : goal.invariant-pass_args-loop-i
 invariant-pass_args-loop-i l = record {
-  passes : (d : List ℕ → Bool) (bound : List (List ℕ)) → Knows l.fn.passing.set d bound → (to : ℕ) (r : Bool) → Passes d (args_pieces bound (l.i == 0) (args_view (drop l.i l.args))) l.passing.at to r → Passes d (args_pieces bound true (args_view l.args)) l.fn.passing.at to r;
-  same : l.passing.set.keys ≡ l.fn.passing.set.keys;
+  goes : (d : List ℕ → Bool) (bound : List (List ℕ)) → Knows l.fn.passing.set d bound → (end : Passing) (r : Bool) → Goes d (args_pieces bound (l.i == 0) (args_view (drop l.i l.args))) l.passing end r → Goes d (args_pieces bound true (args_view l.args)) l.fn.passing end r;
+  knows : (d : List ℕ → Bool) (bound : List (List ℕ)) → Knows l.fn.passing.set d bound → Knows l.passing.set d bound;
 }
 
 abbrev pub decreases-pass_shape : goal.decreases-pass_shape

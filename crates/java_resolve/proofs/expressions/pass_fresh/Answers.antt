@@ -1,4 +1,4 @@
 use Rattle.java_resolve.proofs.expressions.pass_fresh.Goals as goal
 
-pub returns-clause-passes : goal.returns-clause-passes
-returns-clause-passes c = λ d. c.in_ok-pass_sign.ensures.passes d
+pub returns : goal.returns
+returns c = λ d. c.in_ok-pass_sign.ensures d

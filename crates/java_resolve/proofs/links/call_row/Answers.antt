@@ -13,8 +13,8 @@ use Rattle.java_resolve.proofs.links.call_row.Goals as goal
 pub returns-then-not-is_bare : goal.returns-then-not-is_bare
 returns-then-not-is_bare c = record {
   right = λ ctx b shapes set ok bare named spots.
-      let g = c.args.known.now.env.now in
-      let x = c.args.known.now.index in
+      let g = c.args.setting.now.env.now in
+      let x = c.args.setting.now.index.now in
       let n = c.args.name in
       if_map (λ row. row_view row ≡ headed_in g n.link.methods (bucket x c.as_str-last.result.now) (place_view n.link.place ∷ map place_view c.args.args)) (λ row. IsRow g ctx (called b n.text shapes) (row_view row)) c.methods.result
       (λ row e. called_behind g x set ctx ok b n.text n.word shapes (place_view n.link.place) n.link.fields n.link.methods named (subst (λ z. IsBare z b) c.if-not-is_bare.true bare) c.as_str-all.result.now c.as_str-last.result.now c.as_str-all.utf8 c.as_str-last.utf8 c.as_str-all.ensures c.as_str-last.ensures (map place_view c.args.args) spots (row_view row) e)
@@ -24,8 +24,8 @@ returns-then-not-is_bare c = record {
 pub returns : goal.returns
 returns c = record {
   right = λ ctx b shapes set ok bare named spots.
-      let g = c.args.known.now.env.now in
-      let x = c.args.known.now.index in
+      let g = c.args.setting.now.env.now in
+      let x = c.args.setting.now.index.now in
       let n = c.args.name in
       if_map (λ row. row_view row ≡ row_view c.in_ok-calls.calls ++ row_view c.in_ok-methods.methods) (λ row. IsRow g ctx (called b n.text shapes) (row_view row)) c.with.result
       (λ row e. called_bare g x set ctx ok b n.text n.word shapes (place_view n.link.place) n.link.fields n.link.methods named (subst (λ z. IsBare z b) c.if-not-is_bare.false bare) c.as_str-all.result.now c.as_str-last.result.now c.as_str-all.utf8 c.as_str-last.utf8 c.as_str-all.ensures c.as_str-last.ensures (map place_view c.args.args) spots (row_view row) (row_view c.in_ok-calls.calls) (row_view c.in_ok-methods.methods) e

@@ -9,8 +9,8 @@ use Rattle.java_resolve.proofs.links.calls.Goals as goal
 pub returns : goal.returns
 returns c = record {
   value =
-      let g = c.args.known.now.env.now in
-      if_map (λ row. row_view row ≡ headed_in g kind.Call c.find.result.now (map place_view c.args.args.now)) (λ row. row_view row ≡ headed_in g kind.Call (bucket c.args.known.now.index c.args.name.now) (map place_view c.args.args.now)) c.headed.result
+      let g = c.args.setting.now.env.now in
+      if_map (λ row. row_view row ≡ headed_in g kind.Call c.find.result.now (map place_view c.args.args.now)) (λ row. row_view row ≡ headed_in g kind.Call (bucket c.args.setting.now.index.now c.args.name.now) (map place_view c.args.args.now)) c.headed.result
       (λ row e. e ∙ ap (λ ns. headed_in g kind.Call ns (map place_view c.args.args.now)) c.find.ensures.value)
       c.headed.ensures.value;
 }

@@ -11,8 +11,8 @@ use Rattle.java_resolve.proofs.links.new_row.Goals as goal
 pub returns : goal.returns
 returns c = record {
   right = λ ctx shapes set ok spots.
-      let g = c.args.known.now.env.now in
-      let x = c.args.known.now.index in
+      let g = c.args.setting.now.env.now in
+      let x = c.args.setting.now.index.now in
       if_map (λ row. row_view row ≡ headed_in g kind.New c.find.result.now (map place_view c.as_slice.result.now)) (λ row. IsRow g ctx (called fresh c.args.name.now shapes) (row_view row)) c.headed.result
       (λ row e. created g x set ctx ok c.args.name.now shapes c.as_str.result.now c.as_str.utf8 c.as_str.ensures (map place_view c.args.args.now) spots (row_view row)
       (e ∙ ap₂ (λ ns ps. headed_in g kind.New ns (map place_view ps)) c.find.ensures.value c.as_slice.ensures))

@@ -13,13 +13,13 @@ use Rattle.java_resolve.proofs.readings.+reading.Given as goal
 
 abbrev pub invariant-places_of-loop-i : goal.invariant-places_of-loop-i
 invariant-places_of-loop-i l =
-    IsSet l.known.env.now l.known.index → IsContext (rows l.ctx) → AreShapes (chars l.known.env.now.binder) (args_view l.args)
-    → (ps : List Spot) → AreSpots l.known.env.now (rows l.ctx) (args_view (drop l.i l.args)) ps → AreSpots l.known.env.now (rows l.ctx) (args_view l.args) (map place_view l.places ++ ps)
+    IsSet l.setting.env.now l.setting.index.now → IsContext (rows l.setting.ctx) → AreShapes (chars l.setting.env.now.binder) (args_view l.args)
+    → (ps : List Spot) → AreSpots l.setting.env.now (rows l.setting.ctx) (args_view (drop l.i l.args)) ps → AreSpots l.setting.env.now (rows l.setting.ctx) (args_view l.args) (map place_view l.places ++ ps)
 
 abbrev pub invariant-lambda_rows-loop-i : goal.invariant-lambda_rows-loop-i
 invariant-lambda_rows-loop-i l =
-    (name : List ℕ) → IsSet l.known.env.now l.known.index → IsContext (rows l.ctx) → IsShape (chars l.known.env.now.binder) (shape_view l.body) → IsUtf8 name → l.numbers ≡ bucket l.known.index name
-    → (r : Row) → AreLambdas l.known.env.now (rows l.ctx) (drop l.i l.numbers) l.binders l.cast (shape_view l.body) r → AreLambdas l.known.env.now (rows l.ctx) l.numbers l.binders l.cast (shape_view l.body) (row_view l.row ++ r)
+    (name : List ℕ) → IsSet l.setting.env.now l.setting.index.now → IsContext (rows l.setting.ctx) → IsShape (chars l.setting.env.now.binder) (shape_view l.body) → IsUtf8 name → l.numbers ≡ bucket l.setting.index.now name
+    → (r : Row) → AreLambdas l.setting.env.now (rows l.setting.ctx) (drop l.i l.numbers) l.binders l.cast (shape_view l.body) r → AreLambdas l.setting.env.now (rows l.setting.ctx) l.numbers l.binders l.cast (shape_view l.body) (row_view l.row ++ r)
 
 abbrev pub decreases-shape_row : goal.decreases-shape_row
 decreases-shape_row l = 8 * size (shape_view l.shape.now)

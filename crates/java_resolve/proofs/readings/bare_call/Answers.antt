@@ -10,8 +10,8 @@ use Rattle.java_resolve.proofs.readings.bare_call.Goals as goal
 pub returns : goal.returns
 returns c = record {
   right = λ shapes set ok linked spots.
-      let g = c.args.known.now.env.now in
-      let ctx = rows c.args.ctx.now in
+      let g = c.args.setting.now.env.now in
+      let ctx = rows c.args.setting.now.ctx in
       let start = named_as g ctx nothing c.new-first.result c.args.link [] [] c.new-first.ensures.link c.new-first.ensures.text c.new-first.ensures.word linked in
       let is : c.in_ok-all.all.text ≡ c.args.name.now = c.in_ok-all.ensures.text ∙ ap (λ z. z ++ chars c.as_str.result.now) c.new-first.ensures.text ∙ c.as_str.ensures in
       subst (λ z. IfOk c.call_row.result (λ row. IsRow g ctx (called nothing z shapes) (row_view row))) is

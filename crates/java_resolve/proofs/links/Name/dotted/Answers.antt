@@ -5,6 +5,6 @@ use Rattle.java_resolve.proofs.links.Name.dotted.Goals as goal
 
 pub returns-clause-right : goal.returns-clause-right
 returns-clause-right c = λ b set ok bare named.
-    let g = c.args.known.now.env.now in
-    linked_as g (rows c.args.ctx.now) b c.behind_name-link.result (c.args.self.text ++ 46 ∷ []) c.push.new.self [] c.new.result c.in_ok-push.ensures.added c.new.ensures
-    (c.behind_name-link.ensures.right g (rows c.args.ctx.now) b bare (c.in_ok-row.ensures.right b set ok bare named))
+    let g = c.args.setting.now.env.now in
+    linked_as g (rows c.args.setting.now.ctx) b c.behind_name-link.result (c.args.self.text ++ 46 ∷ []) c.push.new.self [] c.new.result c.in_ok-push.ensures.added c.new.ensures
+    (c.behind_name-link.ensures.right g (rows c.args.setting.now.ctx) b bare (c.in_ok-row.ensures.right b set ok bare named))

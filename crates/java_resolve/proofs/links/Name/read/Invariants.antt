@@ -10,7 +10,7 @@ use Rattle.java_resolve.proofs.links.Name.read.Given as goal
 
 abbrev pub invariant-loop-c : goal.invariant-loop-c
 invariant-loop-c l = record {
-  right : (b : Before) → IsSet l.known.env.now l.known.index → IsContext (rows l.ctx) → IsBare l.is_bare b → IsNamed l.known.env.now (rows l.ctx) b l.fn.self → IsNamed l.known.env.now (rows l.ctx) b l.name;
+  right : (b : Before) → IsSet l.setting.env.now l.setting.index.now → IsContext (rows l.setting.ctx) → IsBare l.is_bare b → IsNamed l.setting.env.now (rows l.setting.ctx) b l.fn.self → IsNamed l.setting.env.now (rows l.setting.ctx) b l.name;
   all : l.name.text ++ chars l.rest ≡ l.fn.self.text ++ chars l.more;
   text : shadow (Utf8 l.rest);
 }

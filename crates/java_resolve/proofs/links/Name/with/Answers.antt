@@ -9,4 +9,4 @@ returns-then-c-eq46-clause-text c = if_map (λ n. n.text ≡ c.args.self.text ++
 
 pub returns-clause-right : goal.returns-clause-right
 returns-clause-right c = λ b set ok bare named.
-    link_char c.args.known.now.env.now (rows c.args.ctx.now) b c.args.self.link c.args.self.text c.push-2.new.self c.args.self.word c.push.new.self c.args.c c.in_ok-push-2.ensures.added c.in_ok-push.ensures.added c.if-c-eq46.false named
+    link_char c.args.setting.now.env.now (rows c.args.setting.now.ctx) b c.args.self.link c.args.self.text c.push-2.new.self c.args.self.word c.push.new.self c.args.c c.in_ok-push-2.ensures.added c.in_ok-push.ensures.added c.if-c-eq46.false named

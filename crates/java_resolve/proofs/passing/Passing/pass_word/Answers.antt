@@ -1,9 +1,0 @@
-use Rattle.std.proofs.Common.{refl}
-use Rattle.java_resolve.proofs.Pieces.{over_known, over_unknown}
-use Rattle.java_resolve.proofs.passing.Passing.pass_word.Goals as goal
-
-pub returns-then-not-knows-clause-passes : goal.returns-then-not-knows-clause-passes
-returns-then-not-knows-clause-passes c = λ d bound k. over_unknown d bound c.args.name.now c.args.self.now.at c.args.self.now.at c.knows.result (c.knows.ensures d bound k) c.if-not-knows.true refl
-
-pub returns-clause-passes : goal.returns-clause-passes
-returns-clause-passes c = λ d bound k. over_known d bound c.args.name.now c.as_str.result.now c.args.self.now.at c.advance.new.self.at c.knows.result (c.knows.ensures d bound k) c.if-not-knows.false c.as_str.utf8 c.as_str.ensures c.in_ok-advance.ensures.bytes
