@@ -1,6 +1,7 @@
 pub mod Units
 pub mod Backwards
 pub mod Gathered
+pub mod Threaded
 pub mod OutlineSteps
 pub mod Publishing
 pub mod Alike
@@ -9,3 +10,6 @@ pub mod SameSummaries
 pub mod Same
 pub mod OrderOfTexts
 pub mod Whole
+pub mod LastParts
+pub mod NamedOnes
+pub mod PutsLeft

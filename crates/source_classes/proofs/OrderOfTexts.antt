@@ -105,7 +105,7 @@ units-law us vs known n s o k =
     ∙ sym (published-named all n)
 
 pub order_plays_no_part : OrderPlaysNoPart
-order_plays_no_part texts others known classes again p own k a b n =
+order_plays_no_part texts known classes own k a others again p b n =
     let o : HasEachOnce (flat_map outlines_of a.units) = subst (λ (us : List unit.Unit). HasEachOnce (flat_map outlines_of us)) (same_units texts own.units a.units own.read a.read) own.once in
     ap (λ (r : List ClassSummary). class_named r n) b.are
     ∙ units-law a.units b.units known n (units-same texts others a.units b.units p a.read b.read) o k

@@ -3,8 +3,10 @@
 #![tactic(auto)]
 
 #[cfg(test)]
+mod known_tests;
+#[cfg(test)]
 mod name_tests;
 #[cfg(test)]
 mod several_tests;
 #[cfg(test)]
-mod told;
+mod told_tests;

@@ -1,11 +1,11 @@
-use crate::told::first_kind;
+use crate::told_tests::first_kind;
 use std::test::Fail;
 
 /// Two texts, the names of known classes, and the type of the first field of the first class.
 type Row<'a> = (&'a [&'a str], &'a [&'a str], &'a str);
 
 /// What names mean over the classes of another text, by the rules of the Java language (JLS 6.4.1, 6.5.5).
-const NAMES: [Row<'static>; 30] = [
+const NAMES: [Row<'static>; 32] = [
     (&["import q.*; class X { N n; }", ""], &["q/N"], "Lq/N;"),
     (&["import q.*; class X { N n; }", ""], &[], "LN;"),
     (
@@ -165,12 +165,26 @@ const NAMES: [Row<'static>; 30] = [
         &["java/util/List"],
         "Ljava/util/List;",
     ),
+    // A package is its words, however they are set apart.
+    (
+        &[
+            "package p . q; class X { N n; }",
+            "package p./* */q\n; class N {}",
+        ],
+        &[],
+        "Lp/q/N;",
+    ),
+    (
+        &["package p; import q . r . N; class X { N n; }", ""],
+        &["q/r/N"],
+        "Lq/r/N;",
+    ),
 ];
 
 #[test]
 fn names_mean_the_classes_of_all_texts(rt: HostRuntime) -> Result<(), Fail> {
     for (texts, known, want) in NAMES {
-        let kind = first_kind(rt.alloc(), texts, known)?;
+        let kind = first_kind(&rt, rt.alloc(), texts, known)?;
         assert_eq!(rt; kind.as_str(), want);
     }
     Ok(())
@@ -181,11 +195,11 @@ fn names_mean_the_same_in_a_text_that_comes_later(rt: HostRuntime) -> Result<(),
     let text = "package p; class X { N n; }";
     let other = "package p; class N { X x; }";
     assert_eq!(rt;
-        first_kind(rt.alloc(), &[text, other], &[])?.as_str(),
+        first_kind(&rt, rt.alloc(), &[text, other], &[])?.as_str(),
         "Lp/N;"
     );
     assert_eq!(rt;
-        first_kind(rt.alloc(), &[other, text], &[])?.as_str(),
+        first_kind(&rt, rt.alloc(), &[other, text], &[])?.as_str(),
         "Lp/X;"
     );
     Ok(())

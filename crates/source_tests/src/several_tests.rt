@@ -1,4 +1,4 @@
-use crate::told::told;
+use crate::told_tests::told;
 use std::test::Fail;
 
 /// Texts, the names of known classes, and the lines of the classes: flags and name, nesting, supers, fields, methods.
@@ -141,12 +141,47 @@ const LINES: [Row<'static>; 18] = [
 #[test]
 fn texts_have_classes(rt: HostRuntime) -> Result<(), Fail> {
     for (texts, known, want) in LINES {
-        let lines = told(rt.alloc(), texts, known)?;
+        let lines = told(&rt, rt.alloc(), texts, known)?;
         assert_eq!(rt; lines.len(), want.len());
         for i in 0..want.len() {
             let line = lines.get(i).ok_or("a line")?;
             assert_eq!(rt; line.as_str(), want[i]);
         }
+    }
+    Ok(())
+}
+
+/// So many texts are read by several threads, and stand in their order.
+#[test]
+fn many_texts_keep_their_order(rt: HostRuntime) -> Result<(), Fail> {
+    let texts = [
+        "class A { H h; }",
+        "class B { G g; }",
+        "class C {}",
+        "class D {} class E {}",
+        "",
+        "class F { A a; }",
+        "class G {}",
+        "class H { B b; }",
+        "class C { D d; }",
+        "class I {}",
+    ];
+    let lines = told(&rt, rt.alloc(), &texts, &[])?;
+    let want = [
+        "0 A: java/lang/Object; 0 h:LH;; 0 <init>()V",
+        "0 B: java/lang/Object; 0 g:LG;; 0 <init>()V",
+        "0 D: java/lang/Object;; 0 <init>()V",
+        "0 E: java/lang/Object;; 0 <init>()V",
+        "0 F: java/lang/Object; 0 a:LA;; 0 <init>()V",
+        "0 G: java/lang/Object;; 0 <init>()V",
+        "0 H: java/lang/Object; 0 b:LB;; 0 <init>()V",
+        "0 C: java/lang/Object; 0 d:LD;; 0 <init>()V",
+        "0 I: java/lang/Object;; 0 <init>()V",
+    ];
+    assert_eq!(rt; lines.len(), want.len());
+    for i in 0..want.len() {
+        let line = lines.get(i).ok_or("a line")?;
+        assert_eq!(rt; line.as_str(), want[i]);
     }
     Ok(())
 }

@@ -1,46 +1,12 @@
 // Source texts, and their classes as lines of text.
 ghost use Rattle.std.specs.Prelude.{◌≤◌, All, length, IfOk};
 
-use class_summary::{ClassSummary, FieldSummary, Merged, MethodSummary, Nesting};
-use decl_index::Index;
+use class_summary::{ClassSummary, FieldSummary, MethodSummary};
 use lists::{Items, Text};
-use source_classes::source_classes;
+use source_classes::with_source_classes;
 use std::alloc::{AllocError, Global};
+use std::thread::Threads;
 use type_names::descriptor;
-
-/// A public class that is known by its name alone. Where the part before the last `$` of its name is this outer
-/// class, it is nested there.
-fn known_class(alloc: Global, name: &str, outer: &str) -> Result<ClassSummary, AllocError> {
-    let mut nesting = None;
-    if let Some((before, simple)) = name.rsplit_once('$') {
-        if before == outer {
-            nesting = Some(Nesting {
-                outer: Some(Text::from_str(alloc, before)?),
-                simple: Some(Text::from_str(alloc, simple)?),
-                flags: 9,
-            });
-        }
-    }
-    Ok(ClassSummary {
-        name: Text::from_str(alloc, name)?,
-        flags: 1,
-        nesting,
-        supers: Items::new(alloc),
-        fields: Items::new(alloc),
-        methods: Items::new(alloc),
-    })
-}
-
-/// Classes that are known by their names alone, each nested in the one before where its name says so.
-fn known_classes(alloc: Global, names: &[&str]) -> Result<Items<ClassSummary>, AllocError> {
-    let mut all = Items::new(alloc);
-    let mut outer = "";
-    for name in names {
-        all.push(known_class(alloc, name, outer)?)?;
-        outer = *name;
-    }
-    Ok(all)
-}
 
 /// These texts, each of at most 16 MiB.
 fn texts_of(alloc: Global, words: &[&str]) -> Result<Items<Text>, AllocError>
@@ -57,16 +23,36 @@ fn texts_of(alloc: Global, words: &[&str]) -> Result<Items<Text>, AllocError>
     Ok(texts)
 }
 
+/// Names, as a list.
+fn names_of(alloc: Global, words: &[&str]) -> Result<Items<Text>, AllocError> {
+    let mut names = Items::new(alloc);
+    for word in words {
+        names.push(Text::from_str(alloc, *word)?)?;
+    }
+    Ok(names)
+}
+
+/// The classes of these texts, behind those that are put, where classes of these names are known.
+pub fn classes_behind<R: Threads + Sync>(
+    rt: &R,
+    alloc: Global,
+    puts: Items<ClassSummary>,
+    texts: &[&str],
+    known: &[&str],
+) -> Result<Items<ClassSummary>, AllocError> {
+    let names = names_of(alloc, known)?;
+    let all = texts_of(alloc, texts)?;
+    with_source_classes(rt, alloc, puts, names.as_slice(), all.as_slice())
+}
+
 /// The classes of these texts, where classes of these names are known.
-pub fn classes_of(
+pub fn classes_of<R: Threads + Sync>(
+    rt: &R,
     alloc: Global,
     texts: &[&str],
     known: &[&str],
 ) -> Result<Items<ClassSummary>, AllocError> {
-    let none = Index::empty(alloc)?;
-    let known = Merged::new(alloc, &none, known_classes(alloc, known)?)?;
-    let all = texts_of(alloc, texts)?;
-    source_classes(alloc, all.as_slice(), &known)
+    classes_behind(rt, alloc, Items::new(alloc), texts, known)
 }
 
 fn add_field(alloc: Global, line: &mut Text, field: &FieldSummary) -> Result<(), AllocError> {
@@ -126,24 +112,44 @@ fn line_of(alloc: Global, class: &ClassSummary) -> Result<Text, AllocError> {
     Ok(line)
 }
 
-/// The lines of the classes of these texts, where classes of these names are known.
-pub fn told(alloc: Global, texts: &[&str], known: &[&str]) -> Result<Items<Text>, AllocError> {
-    let classes = classes_of(alloc, texts, known)?;
+/// A line for each of these classes.
+pub fn lines_of(alloc: Global, classes: &[ClassSummary]) -> Result<Items<Text>, AllocError> {
     let mut lines = Items::new(alloc);
-    for class in classes.as_slice() {
+    for class in classes {
         lines.push(line_of(alloc, class)?)?;
     }
     Ok(lines)
 }
 
-/// The type of the first field of the first class of these texts; empty where there is none.
-pub fn first_kind(alloc: Global, texts: &[&str], known: &[&str]) -> Result<Text, AllocError> {
-    let classes = classes_of(alloc, texts, known)?;
-    let Some(class) = classes.get(0) else {
+/// The lines of the classes of these texts, where classes of these names are known.
+pub fn told<R: Threads + Sync>(
+    rt: &R,
+    alloc: Global,
+    texts: &[&str],
+    known: &[&str],
+) -> Result<Items<Text>, AllocError> {
+    let classes = classes_of(rt, alloc, texts, known)?;
+    lines_of(alloc, classes.as_slice())
+}
+
+/// The type of the first field of a class; empty where there is none.
+pub fn kind_in(alloc: Global, class: Option<&ClassSummary>) -> Result<Text, AllocError> {
+    let Some(class) = class else {
         return Ok(Text::new(alloc));
     };
     match class.fields.get(0) {
         Some(field) => descriptor(alloc, &field.kind),
         None => Ok(Text::new(alloc)),
     }
+}
+
+/// The type of the first field of the first class of these texts; empty where there is none.
+pub fn first_kind<R: Threads + Sync>(
+    rt: &R,
+    alloc: Global,
+    texts: &[&str],
+    known: &[&str],
+) -> Result<Text, AllocError> {
+    let classes = classes_of(rt, alloc, texts, known)?;
+    kind_in(alloc, classes.get(0))
 }
