@@ -33,6 +33,8 @@ pub(crate) fn parse_each(
 {
     files
         .par_iter()
+        // By itself the kit parts no slice below 1,024 items.
+        .with_min_len(1)
         .map(
             |file: &LoadedFile| -> Result<ClassSummary, BatchFault>
                 ensures { Parses file.now result }

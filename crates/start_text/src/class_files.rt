@@ -5,14 +5,14 @@ ghost use Rattle.class_shape.specs.Shapes.{IsClassFile};
 ghost use Rattle.known_classes.specs.declared.summary.ClassSummary.{ClassSummary};
 ghost use Rattle.start_text.specs.Lines.{paths_among, paths_in};
 ghost use Rattle.start_text.specs.Faults.{IsOutside, Meets, LeavesShelf, of_class};
-ghost use Rattle.start_text.specs.Starts.{file_fault, first_file_fault, IsClassOf, AreClassesOf};
+ghost use Rattle.start_text.specs.Starts.{file_fault, first_file_fault, AreClassesOf};
 ghost use Rattle.start_text.specs.Taken.{held_for, AreTaken, Takes};
 
 use crate::batches::Batches;
 use crate::fault::StartFault;
 use class_pool::{ClassCause, ClassFault};
 use class_shape::{ClassShape, read_class};
-use class_summary::{ClassSummary, from_shape};
+use class_summary::ClassSummary;
 use lists::Items;
 use outside::{Loaded, Shelf};
 use std::alloc::Global;
@@ -38,19 +38,6 @@ pub fn shape_of(alloc: Global, bytes: &[u8], line: u32) -> Result<ClassShape, St
     match read_class(alloc, bytes) {
         Ok(shape) => Ok(shape),
         Err(fault) => Err(no_class(line, fault)),
-    }
-}
-
-/// The class of the bytes of the file of this line. `Failed` never comes.
-pub fn class_of(alloc: Global, bytes: &[u8], line: u32) -> Result<ClassSummary, StartFault>
-    requires { length bytes.now ≤ longest_load }
-    ensures fault { Meets (file_fault line (Some bytes.now)) result }
-    ensures class { IfOk result (λ class. IsClassOf (Some bytes.now) class) }
-    ensures inside { IsErrOf result StartFault.Failed → ⊥ }
-{
-    match shape_of(alloc, bytes, line) {
-        Ok(shape) => Ok(from_shape(alloc, &shape)?),
-        Err(fault) => Err(fault),
     }
 }
 

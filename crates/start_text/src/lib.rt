@@ -10,7 +10,7 @@ mod start;
 mod text;
 
 pub use batches::Batches;
-pub use class_files::{class_of, load_file, shape_of};
+pub use class_files::{load_file, shape_of};
 pub use fault::StartFault;
 pub use start::read_start;
 pub use text::read_text;

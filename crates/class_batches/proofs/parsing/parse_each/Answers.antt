@@ -6,7 +6,7 @@ use Rattle.class_batches.proofs.parsing.parse_each.Goals as goal
 
 pub returns : goal.returns
 returns g c =
-    let slice = ap (λ it. it.slice.now) c.map.ensures.base ∙ c.par_iter.ensures in
+    let slice = ap (λ it. it.base.slice.now) c.map.ensures.base ∙ ap (λ it. it.slice.now) c.with_min_len.ensures.base ∙ c.par_iter.ensures in
     record {
       each = IfOk-then c.collect.result _ _ c.collect.ensures (λ v h.
           let chain = h.1 in
