@@ -1,5 +1,5 @@
 -- Which words after `count` can begin those that name a start text.
-use Rattle.std.proofs.Common.{◌≡◌, ◌≢◌, ◌⊎◌, inl, inr, ⊎_elim, ℕ, ◌+◌, ◌≤◌, ◌<◌, List, [], ◌∷◌, ◌++◌, length, take, refl, subst, ap, arith, add-one}
+use Rattle.std.proofs.Common.{◌≡◌, ◌≢◌, inl, inr, ⊎_elim, ℕ, ◌+◌, ◌≤◌, ◌<◌, List, [], ◌∷◌, ◌++◌, length, take, refl, subst, ap, arith, add-one}
 use Rattle.std.specs.Prelude.{codes}
 use Rattle.command_line.proofs.Commands.{letter}
 use Rattle.command_line.specs.Words.{Asked, list, upgrade, serve, count, sample, IsFileName, NameStart, AskFor, CanBegin, IsFirstWrong}
@@ -8,7 +8,7 @@ use Rattle.command_line.specs.Words.{Asked, list, upgrade, serve, count, sample,
 counted_by : (ws : List (List ℕ)) (asked : Asked) → AskFor asked (codes "count" ∷ ws) → (name : List ℕ) × NameStart name ws
 counted_by ws list e = absurd cc
 counted_by ws upgrade e = absurd cc
-counted_by ws (serve told pairs) a = let other : 111 ≡ 101 = ap letter a.2 in absurd (omega (arith, other))
+counted_by ws (serve told pairs workers) a = let other : 111 ≡ 101 = ap letter a.2 in absurd (omega (arith, other))
 counted_by ws (sample n) a = let other : 111 ≡ 97 = ap letter a.2 in absurd (omega (arith, other))
 counted_by ws (count name) a =
     let e = a.2 in

@@ -2,7 +2,7 @@
 use Rattle.std.proofs.Common.{◌≡◌, ℕ, ◌+◌, ◌≤◌, ◌<◌, List, [], ◌∷◌, ◌++◌, length, take, refl, subst, ap, arith, add-one}
 use Rattle.std.specs.Prelude.{codes}
 use Rattle.command_line.proofs.Commands.{letter}
-use Rattle.command_line.specs.Words.{Asked, list, upgrade, serve, count, sample, IsShortNumeral, IsSampleNumber, AskFor, CanBegin, IsFirstWrong}
+use Rattle.command_line.specs.Words.{Asked, list, upgrade, serve, count, sample, IsSampleNumber, AskFor, CanBegin, IsFirstWrong}
 
 -- the words after `sample` are its number
 pub record IsNumbered (ws : List (List ℕ)) : Type 0 where
@@ -14,7 +14,7 @@ pub record IsNumbered (ws : List (List ℕ)) : Type 0 where
 numbered_by : (ws : List (List ℕ)) (asked : Asked) → AskFor asked (codes "sample" ∷ ws) → IsNumbered ws
 numbered_by ws list e = absurd cc
 numbered_by ws upgrade e = absurd cc
-numbered_by ws (serve told pairs) a = let other : 97 ≡ 101 = ap letter a.2 in absurd (omega (arith, other))
+numbered_by ws (serve told pairs workers) a = let other : 97 ≡ 101 = ap letter a.2 in absurd (omega (arith, other))
 numbered_by ws (count name) a = let other : 97 ≡ 111 = ap letter a.2 in absurd (omega (arith, other))
 numbered_by ws (sample n) a =
     let e = a.2 in

@@ -10,13 +10,21 @@ pub enum Command<'a> {
     List,
     /// Write a sheet anew.
     Upgrade,
-    /// Serve editors: from the class files that a start text names, where one is given, and over so many pairs of files
-    /// beside standard input and output.
-    Serve { start: Option<&'a str>, pairs: u32 },
+    /// Serve editors: from the class files that a start text names, where one is given, over so many pairs of files
+    /// beside standard input and output, and with so many workers that lengthen lists ahead, where some are asked for.
+    Serve {
+        start: Option<&'a str>,
+        pairs: u32,
+        ahead: Option<u32>,
+    },
     /// Count the uses in the class files that a start text names.
-    Count { start: &'a str },
+    Count {
+        start: &'a str,
+    },
     /// Tell the sample of a number.
-    Sample { number: u32 },
+    Sample {
+        number: u32,
+    },
 }
 
 impl Command<'_> {
@@ -27,7 +35,11 @@ impl Command<'_> {
         match self {
             Command::List => 1,
             Command::Upgrade => 1,
-            Command::Serve { start: _, pairs } => *pairs as usize + 1,
+            Command::Serve {
+                start: _,
+                pairs,
+                ahead: _,
+            } => *pairs as usize + 1,
             Command::Count { start: _ } => 1,
             Command::Sample { number: _ } => 1,
         }

@@ -1,7 +1,7 @@
-ghost use Rattle.std.specs.Prelude.{◌≡◌, ◌↔◌, ℕ, Some, IsTrue, MatchOption};
+ghost use Rattle.std.specs.Prelude.{◌≡◌, ◌≢◌, ◌↔◌, ℕ, Some, IsTrue, MatchOption};
 ghost use Rattle.std.specs.Str.{all_ascii_digits};
 ghost use Rattle.std.specs.Str.Parse.{digits_value};
-ghost use Rattle.command_line.specs.Words.{IsShortNumeral, IsSampleNumber};
+ghost use Rattle.command_line.specs.Words.{IsShortNumeral, IsSampleNumber, IsWorkerCount, digit_word};
 
 /// The most digits of a sample's number.
 const MOST_DIGITS: usize = 7;
@@ -54,4 +54,17 @@ pub(crate) fn sample_number(word: &str) -> Option<u32>
         return None;
     }
     Some(number)
+}
+
+/// The number of workers that a word writes: one digit from 1 to 8.
+pub(crate) fn worker_count(word: &str) -> Option<u32>
+    ensures { MatchOption result ((n : ℕ) → IsWorkerCount n → word.now ≢ digit_word n) (λ n. IsWorkerCount n × (word.now ≡ digit_word n)) }
+{
+    let [digit] = word.as_bytes() else {
+        return None;
+    };
+    if !(b'1'..=b'8').contains(digit) {
+        return None;
+    }
+    Some((digit - b'0') as u32)
 }

@@ -1,20 +1,34 @@
-ghost use Rattle.std.specs.Prelude.{◌≡◌, ◌≢◌, ◌∷◌, ◌++◌, ◌+◌, ◌<◌, ◌^◌, ◌↔◌, List, [], ℕ, false, true, codes, MatchOption, IsTrue};
+ghost use Rattle.std.specs.Prelude.{◌≡◌, ◌≢◌, ◌∷◌, ◌++◌, ◌+◌, ◌<◌, ◌^◌, ◌↔◌, List, [], ℕ, codes, MatchOption, IsTrue};
 ghost use Rattle.command_line.specs.Words.{IsFileName, IsPair, Pair};
 ghost use Rattle.command_line.specs.Scanned.{Scanned, Takes, Reads};
+ghost use Rattle.command_line.specs.declared.scan.Next.TheVariants as next;
 
 use crate::command::UsageFault;
+use crate::number::worker_count;
 
 /// The most pairs of files that a server has.
 const MOST_PAIRS: u32 = 63;
 
-/// What was read of the words after `serve`: the start text, the number of pairs and that of words, and whether the
-/// name of the start text comes next.
+/// What comes next among the words after `serve`.
+#[derive(Clone, Copy, Debug, PartialEq, Eq)]
+pub enum Next {
+    /// A pair of files or an option.
+    Part,
+    /// The name of the start text, after `--start`.
+    Name,
+    /// The number of workers, after `--ahead`.
+    Number,
+}
+
+/// What was read of the words after `serve`: the start text, the number of workers, that of pairs and that of words, and
+/// what comes next.
 #[derive(Clone, Copy, Debug)]
 pub struct Scan<'a> {
     pub start: Option<&'a str>,
+    pub ahead: Option<u32>,
     pub pairs: u32,
     pub words: u32,
-    pub is_naming: bool,
+    pub next: Next,
 }
 
 /// A word that was read: what was read by then, and the names of the pair where it is one.
@@ -54,9 +68,10 @@ impl<'a> Scan<'a> {
     {
         Scan {
             start: None,
+            ahead: None,
             pairs: 0,
             words: 0,
-            is_naming: false,
+            next: Next::Part,
         }
     }
 
@@ -65,11 +80,24 @@ impl<'a> Scan<'a> {
         requires room { self.now.words < 2 ^ 31 }
         ensures { Takes self.now word.now result }
     {
-        if self.is_naming {
-            return self.take_name(word);
+        match self.next {
+            Next::Part => self.take_part(word),
+            Next::Name => self.take_name(word),
+            Next::Number => self.take_number(word),
         }
+    }
+
+    /// Reads an option or a pair of files.
+    fn take_part(&self, word: &'a str) -> Option<Taken<'a>>
+        requires room { self.now.words < 2 ^ 31 }
+        requires plain { self.now.next ≡ next.Part }
+        ensures { Takes self.now word.now result }
+    {
         if word == "--start" {
             return self.take_start();
+        }
+        if word == "--ahead" {
+            return self.take_ahead();
         }
         match word.strip_prefix("--start=") {
             Some(file) => self.take_joined(file),
@@ -80,7 +108,7 @@ impl<'a> Scan<'a> {
     /// Reads the name of the start text.
     fn take_name(&self, file: &'a str) -> Option<Taken<'a>>
         requires room { self.now.words < 2 ^ 31 }
-        requires naming { self.now.is_naming ≡ true }
+        requires naming { self.now.next ≡ next.Name }
         ensures { Takes self.now file.now result }
     {
         if !is_file_name(file) {
@@ -89,9 +117,29 @@ impl<'a> Scan<'a> {
         Some(Taken {
             scan: Scan {
                 start: Some(file),
-                pairs: self.pairs,
                 words: self.words + 1,
-                is_naming: false,
+                next: Next::Part,
+                ..*self
+            },
+            pair: None,
+        })
+    }
+
+    /// Reads the number of workers.
+    fn take_number(&self, word: &'a str) -> Option<Taken<'a>>
+        requires room { self.now.words < 2 ^ 31 }
+        requires counting { self.now.next ≡ next.Number }
+        ensures { Takes self.now word.now result }
+    {
+        let Some(count) = worker_count(word) else {
+            return None;
+        };
+        Some(Taken {
+            scan: Scan {
+                ahead: Some(count),
+                words: self.words + 1,
+                next: Next::Part,
+                ..*self
             },
             pair: None,
         })
@@ -100,7 +148,7 @@ impl<'a> Scan<'a> {
     /// Reads `--start`.
     fn take_start(&self) -> Option<Taken<'a>>
         requires room { self.now.words < 2 ^ 31 }
-        requires plain { self.now.is_naming ≡ false }
+        requires plain { self.now.next ≡ next.Part }
         ensures { Takes self.now (codes "--start") result }
     {
         if self.start.is_some() {
@@ -108,10 +156,28 @@ impl<'a> Scan<'a> {
         }
         Some(Taken {
             scan: Scan {
-                start: None,
-                pairs: self.pairs,
                 words: self.words + 1,
-                is_naming: true,
+                next: Next::Name,
+                ..*self
+            },
+            pair: None,
+        })
+    }
+
+    /// Reads `--ahead`.
+    fn take_ahead(&self) -> Option<Taken<'a>>
+        requires room { self.now.words < 2 ^ 31 }
+        requires plain { self.now.next ≡ next.Part }
+        ensures { Takes self.now (codes "--ahead") result }
+    {
+        if self.ahead.is_some() {
+            return None;
+        }
+        Some(Taken {
+            scan: Scan {
+                words: self.words + 1,
+                next: Next::Number,
+                ..*self
             },
             pair: None,
         })
@@ -120,7 +186,7 @@ impl<'a> Scan<'a> {
     /// Reads `--start=` with the name of the start text.
     fn take_joined(&self, file: &'a str) -> Option<Taken<'a>>
         requires room { self.now.words < 2 ^ 31 }
-        requires plain { self.now.is_naming ≡ false }
+        requires plain { self.now.next ≡ next.Part }
         ensures { Takes self.now (codes "--start=" ++ file.now) result }
     {
         if self.start.is_some() {
@@ -132,9 +198,8 @@ impl<'a> Scan<'a> {
         Some(Taken {
             scan: Scan {
                 start: Some(file),
-                pairs: self.pairs,
                 words: self.words + 1,
-                is_naming: false,
+                ..*self
             },
             pair: None,
         })
@@ -143,8 +208,8 @@ impl<'a> Scan<'a> {
     /// Reads a pair of files.
     fn take_pair(&self, word: &'a str) -> Option<Taken<'a>>
         requires room { self.now.words < 2 ^ 31 }
-        requires plain { self.now.is_naming ≡ false }
-        requires other { (word.now ≢ codes "--start") × ((file : List ℕ) → word.now ≢ codes "--start=" ++ file) }
+        requires plain { self.now.next ≡ next.Part }
+        requires other { (word.now ≢ codes "--start") × (word.now ≢ codes "--ahead") × ((file : List ℕ) → word.now ≢ codes "--start=" ++ file) }
         ensures { Takes self.now word.now result }
     {
         if self.pairs >= MOST_PAIRS {
@@ -155,10 +220,9 @@ impl<'a> Scan<'a> {
         };
         Some(Taken {
             scan: Scan {
-                start: self.start,
                 pairs: self.pairs + 1,
                 words: self.words + 1,
-                is_naming: false,
+                ..*self
             },
             pair: Some((input, output)),
         })
@@ -174,15 +238,15 @@ impl<'a> Scan<'a> {
         }
     }
 
-    /// Ends the words, where no name is missing.
+    /// Ends the words, where no name and no number is missing.
     pub(crate) fn end(&self) -> Result<(), UsageFault>
         requires room { self.now.words < 2 ^ 31 }
         ensures { Reads self.now result }
     {
-        if self.is_naming {
-            Err(self.fault())
-        } else {
-            Ok(())
+        match self.next {
+            Next::Part => Ok(()),
+            Next::Name => Err(self.fault()),
+            Next::Number => Err(self.fault()),
         }
     }
 }

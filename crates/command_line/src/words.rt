@@ -1,5 +1,5 @@
 ghost use Rattle.std.specs.Prelude.{◌≡◌, ◌≢◌, ◌∷◌, ◌++◌, [], map, string_bytes, codes, MatchResult, IfOk};
-ghost use Rattle.command_line.specs.Words.{Asked, AskFor, AskForPlain, Commands, IsFirstWrong, pairs_asked, plain_asked};
+ghost use Rattle.command_line.specs.Words.{Asked, AskFor, AskForPlain, Commands, HasFewWorkers, IsFirstWrong, pairs_asked, plain_asked};
 
 use crate::command::{Command, Plain, UsageFault};
 use crate::number::sample_number;
@@ -22,6 +22,7 @@ fn read_serve(rest: &[String]) -> Result<Command<'_>, UsageFault>
         Ok(()) => Ok(Command::Serve {
             start: scan.start,
             pairs: scan.pairs,
+            ahead: scan.ahead,
         }),
         Err(fault) => Err(fault),
     }
@@ -146,12 +147,14 @@ pub(crate) fn read_plain<'a>(first: &str, rest: &'a [String]) -> Result<Command<
 }
 
 /// What the words after the program's name ask for: `list`; `upgrade`; `serve` with `--start FILE` or `--start=FILE` at
-/// most once and at most 63 pairs `IN=OUT`, in any order; `count` with `--start FILE` or `--start=FILE`; or `sample` with a
-/// number of one to seven digits, at most 1,000,000. The name of the start text is borrowed from its word.
+/// most once, `--ahead N` with one digit from 1 to 8 at most once and at most 63 pairs `IN=OUT`, in any order; `count` with
+/// `--start FILE` or `--start=FILE`; or `sample` with a number of one to seven digits, at most 1,000,000. The name of the
+/// start text is borrowed from its word.
 pub fn read_command(words: &[String]) -> Result<Command<'_>, UsageFault>
     ensures command { MatchResult result
         (λ command. Commands command (map string_bytes words.now))
         (λ fault. IsFirstWrong (map string_bytes words.now) fault.word) }
+    ensures workers { IfOk result HasFewWorkers }
 {
     let Some((first, rest)) = words.split_first() else {
         return Err(UsageFault { word: 0 });
@@ -172,7 +175,13 @@ pub fn plain_command(words: &[String]) -> Plain<'_>
         Ok(Command::Sample { number }) => Plain::Sample { number },
         Ok(Command::List) => Plain::List,
         Ok(Command::Upgrade) => Plain::Upgrade,
-        Ok(Command::Serve { start: _, pairs: _ }) => Plain::List,
+        Ok(
+            Command::Serve {
+                start: _,
+                pairs: _,
+                ahead: _,
+            },
+        ) => Plain::List,
         Err(_) => Plain::List,
     }
 }

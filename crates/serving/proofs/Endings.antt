@@ -51,9 +51,9 @@ sheet-asked ws (inr u) = (upgrade, u, refl)
 pub sheet-not-wrong : (ws : List (List ℕ)) (place : ℕ) → AskForSheet ws → IsFirstWrong ws place → ⊥
 sheet-not-wrong ws place words wrong = let asked = sheet-asked ws words in wrong.nothing asked.0 asked.1
 
-pub sheet-not-served : (ws : List (List ℕ)) (start : Option (List ℕ)) (pairs : List Pair) → AskForSheet ws → AskFor (serve start pairs) ws → ⊥
-sheet-not-served ws start pairs (inl l) h = not-served ws start pairs l h
-sheet-not-served ws start pairs (inr u) h = upgrade-not-served ws start pairs u h
+pub sheet-not-served : (ws : List (List ℕ)) (start : Option (List ℕ)) (pairs : List Pair) (workers : Option ℕ) → AskForSheet ws → AskFor (serve start pairs workers) ws → ⊥
+sheet-not-served ws start pairs workers (inl l) h = not-served ws start pairs workers l h
+sheet-not-served ws start pairs workers (inr u) h = upgrade-not-served ws start pairs workers u h
 
 pub sheet-not-counted : (ws : List (List ℕ)) (name : List ℕ) → AskForSheet ws → AskFor (count name) ws → ⊥
 sheet-not-counted ws name (inl l) h = not-counted ws name l h

@@ -107,8 +107,8 @@ pub fn run_plain<S: Source, K: Sink, H: Shelf>(
 /// same with the sheet itself, written anew. `count` needs one end, loads the class files that a start text names from its shelf, reads nothing, and writes a line for each key that
 /// they use to its sink. `sample` needs one end, reads and loads nothing, and writes six lines. `serve` needs one end
 /// more than it has pairs. It answers an editor at each end, each in a thread, all over one list of published changes,
-/// from the class files of a start text on, which it loads from the shelf of the first end before anything is read; it
-/// may wait. The ends stay as many, in their order. The code is 0 where all was read and written, and a session was shut
+/// from the class files of a start text on, which it loads from the shelf of the first end before anything is read; where
+/// workers are asked for, these lengthen the listings of its pages meanwhile, each in a thread as well; it may wait. The ends stay as many, in their order. The code is 0 where all was read and written, and a session was shut
 /// down before its exit; 1 where it wasn't; 2 where the words or the ends don't fit; 3 where the input is no sheet (its
 /// line and cause) or its frames are wrong (the place and the number of the fault); 4 or 5 where the source, or the
 /// shelf of `count` or of the first end before the sessions, or the sink failed; 6 where memory was wanting; 7 where a
@@ -132,7 +132,7 @@ pub fn run<
         → UpgradesBy ending (S.left e.source) (S.left f.source) (K.written e.sink) (K.written f.sink)
         (S.faults e.source) (S.faults f.source) (K.faults e.sink) (K.faults f.sink))) }
     ensures serving { let seen = view_of S.left K.written H.holds S.faults K.faults H.faults in
-        (start : Option (List ℕ)) (pairs : List Pair) → AskFor (served start pairs) (map string_bytes words.now) → length ends.old.items ≡ suc (length pairs)
+        (start : Option (List ℕ)) (pairs : List Pair) (workers : Option ℕ) → AskFor (served start pairs workers) (map string_bytes words.now) → length ends.old.items ≡ suc (length pairs)
         → ((way : Serving) × (result ≡ serving_status way) × ServesBy way start (map seen ends.old.items) (map seen ends.new.items)
         × (HasNotBegun way → AreUntouched ends.old.items ends.new.items)) }
     ensures counting { (start : List ℕ) → AskFor (counted start) (map string_bytes words.now) → length ends.old.items ≡ 1
@@ -176,7 +176,11 @@ pub fn run<
     match command {
         Command::List => run_plain(alloc, words, &mut ends[0]),
         Command::Upgrade => run_plain(alloc, words, &mut ends[0]),
-        Command::Serve { start, pairs: _ } => of_serving(serve(rt, alloc, start, ends)),
+        Command::Serve {
+            start,
+            pairs: _,
+            ahead,
+        } => of_serving(serve(rt, alloc, start, ahead, ends)),
         Command::Count { start: _ } => run_plain(alloc, words, &mut ends[0]),
         Command::Sample { number: _ } => run_plain(alloc, words, &mut ends[0]),
     }

@@ -1,7 +1,8 @@
-ghost use Rattle.std.specs.Thread.{IsSync};
-ghost use Rattle.serving.specs.Crossing.{slots_row};
+ghost use Rattle.std.specs.Thread.{IsSend, IsSync};
+ghost use Rattle.serving.specs.Crossing.{sender_row, slots_row, workers_row};
 
 use listing::Listing;
+use prefetch::{Sender, Worker};
 use reconstruction::Rebuild;
 use shared_shelf::Slots;
 use std::marker::PhantomData;
@@ -19,4 +20,22 @@ pub fn listings_are_shared()
 {
     let slots: PhantomData<Mutex<Slots<Listing<Rebuild>>>> = PhantomData;
     is_shared(slots);
+}
+
+/// Tells that values of a type may go to a thread, as above.
+pub fn is_sent<T: Send>(_of: PhantomData<T>)
+    ensures sent { IsSend T.row }
+{}
+
+/// Tells that who hands listings and those who take them may go to threads.
+pub fn hands_are_sent()
+    ensures senders { IsSend sender_row }
+    ensures workers { IsSend workers_row }
+{
+    let sender: PhantomData<Sender<Listing<Rebuild>>> = PhantomData;
+    is_sent(sender);
+    let worker: PhantomData<Worker<Listing<Rebuild>>> = PhantomData;
+    is_sent(worker);
+    let workers: PhantomData<Vec<Worker<Listing<Rebuild>>>> = PhantomData;
+    is_sent(workers);
 }

@@ -1,5 +1,5 @@
 -- Each way to answer a message.
-use Rattle.std.proofs.Common.{◌≡◌, ◌∙◌, arith, ℕ, sym, ap, subst, refl, List, [], false, Option, Some, None, Result, Ok, Err}
+use Rattle.std.proofs.Common.{◌≡◌, ◌∙◌, arith, ℕ, sym, ap, subst, refl, inr, List, [], false, Option, Some, None, Result, Ok, Err}
 use Rattle.std.specs.Prelude.{IfOk, OnErr}
 use Rattle.std.specs.declared.alloc.AllocError.{AllocError}
 use Rattle.std.specs.declared.alloc.Global.{Global}
@@ -14,38 +14,45 @@ use Rattle.answers.specs.Cursors.{Lists}
 use Rattle.answers.specs.Asks.{Ask, Enough, Lacking, Ending, Short, Met, classes, list_answer_to}
 use Rattle.answers.specs.Sessions.{Seen}
 use Rattle.answers.specs.Replies.{Reply, result, reply_text, reply_of}
-use Rattle.answers.specs.Messages.{Meaning, asks, says, lacks, starts, stops, drops, Outcome, replied, no_memory, silent, lost, by_memory, meaning_in, meaning_of, files_in}
+use Rattle.answers.specs.Messages.{Meaning, asks, says, lacks, starts, stops, drops, Outcome, replied, no_memory, silent, lost, by_memory, meaning_in, meaning_of, files_in, no_files}
 use Rattle.outside.specs.declared.shelf.HeldFile.{HeldFile}
 use Rattle.sessions.specs.Worlds.{WorldState}
-use Rattle.sessions.specs.Loads.{Give, IsLoaded}
+use Rattle.source_classes.proofs.PutsLeft.{puts_alone}
+use Rattle.answers.specs.declared.types.NamedFiles.{NamedFiles}
+use Rattle.sessions.specs.Loads.{GiveAll, IsLoaded}
 use Rattle.sessions.specs.Questions.{Answers, MayLeave, Touches}
 use Rattle.sessions.specs.Outcomes.{replied_or}
 use Rattle.sessions.specs.Meets.{Meets, Answered}
+use Rattle.sessions.proofs.Sourcing.{sources_added}
 use Rattle.terms.specs.Weights.{usual_steps}
 
 abbrev pub met_with : Short → Met
 met_with short = record { at = []; loads = classes []; site = None; env = record { types = []; pairs = []; decls = []; goal = 0; limit = 0; depth = 0; binder = []; steps = usual_steps }; page = record { items = []; last = false; grown = 0 }; term = None; floors = []; fault = None; short = short }
 
 -- No file is named.
-give_none : (holds : Option (List HeldFile)) → Give holds [] (classes [])
-give_none holds = record { contents = []; held = tt; gives = (refl, tt) }
+give_none : (holds : Option (List HeldFile)) → GiveAll holds no_files (classes [])
+give_none holds = inr (record {
+  puts = [];
+  first = record { contents = []; held = tt; gives = (refl, tt) };
+  behind = sources_added holds 0 [] [] [] [] [] (record { held = tt; sound = refl }) (puts_alone [] []);
+})
 
-pub none_loaded : (holds : Option (List HeldFile)) (n : ℕ) → IsLoaded Enough holds [] (classes []) n n
-none_loaded holds n = record { gives = give_none holds; later = omega arith; cause = λ i e. absurd cc; none = λ e. refl }
+pub none_loaded : (holds : Option (List HeldFile)) (n : ℕ) → IsLoaded Enough holds no_files (classes []) n n
+none_loaded holds n = record { gives = give_none holds; later = omega arith; cause = λ i e. absurd cc; none = λ e f. refl }
 
 -- Memory was wanting, whatever was named.
-pub lacking_loaded : (holds : Option (List HeldFile)) (names : List (List ℕ)) (n : ℕ) → IsLoaded Lacking holds names (classes []) n n
-lacking_loaded holds names n = record { gives = tt; later = omega arith; cause = λ i e. absurd cc; none = λ e. refl }
+pub lacking_loaded : (holds : Option (List HeldFile)) (files : NamedFiles) (n : ℕ) → IsLoaded Lacking holds files (classes []) n n
+lacking_loaded holds files n = record { gives = tt; later = omega arith; cause = λ i e. absurd cc; none = λ e f. refl }
 
-pub ending_loaded : (holds : Option (List HeldFile)) (names : List (List ℕ)) (n : ℕ) → IsLoaded Ending holds names (classes []) n n
-ending_loaded holds names n = record { gives = tt; later = omega arith; cause = λ i e. absurd cc; none = λ e. refl }
+pub ending_loaded : (holds : Option (List HeldFile)) (files : NamedFiles) (n : ℕ) → IsLoaded Ending holds files (classes []) n n
+ending_loaded holds files n = record { gives = tt; later = omega arith; cause = λ i e. absurd cc; none = λ e f. refl }
 
 -- A question about lists that is answered.
 pub asked : (s t : Seen) (id : Id) (ask : Ask) (next : Lists) (reply : List ℕ) (old new : WorldState) → Answers s.lists ask id next reply old new → t ≡ record s { lists = next } → Answered s (asks id ask) t (replied reply) old new
 asked s t id ask next reply old new a to = record {
   met = a.met;
   faults = old.faults;
-  loads = subst (λ h. IsLoaded h old.holds [] a.met.loads old.faults old.faults) (sym a.enough) (subst (λ x. IsLoaded Enough old.holds [] x old.faults old.faults) (sym a.no_file) (none_loaded old.holds old.faults));
+  loads = subst (λ h. IsLoaded h old.holds no_files a.met.loads old.faults old.faults) (sym a.enough) (subst (λ x. IsLoaded Enough old.holds no_files x old.faults old.faults) (sym a.no_file) (none_loaded old.holds old.faults));
   lawful = a.lawful;
   answer = ap (λ h. by_memory h s (asks id ask) a.met) a.enough
       ∙ ap (λ l. (record s { lists = l }, replied (reply_text (Some id) (reply_of s.lists a.met ask (list_answer_to s.lists ask a.met).1)))) a.lists
@@ -56,7 +63,7 @@ asked s t id ask next reply old new a to = record {
 
 -- One for which memory was wanting.
 pub asked_in_vain : (s t : Seen) (id : Id) (ask : Ask) (old new : WorldState) → MayLeave ask old new → t ≡ s → Answered s (asks id ask) t (no_memory id) old new
-asked_in_vain s t id ask old new may to = record { met = met_with Lacking; faults = old.faults; loads = lacking_loaded old.holds [] old.faults; lawful = tt; answer = ap (λ x. (x, no_memory id)) (sym to); world = may }
+asked_in_vain s t id ask old new may to = record { met = met_with Lacking; faults = old.faults; loads = lacking_loaded old.holds no_files old.faults; lawful = tt; answer = ap (λ x. (x, no_memory id)) (sym to); world = may }
 
 -- The same by what the question's call gives.
 pub asked_by : (s t : Seen) (id : Id) (ask : Ask) (next : Lists) (r : Result (Vec ℕ Global) AllocError) (old new : WorldState)
@@ -76,7 +83,7 @@ said s t id reply bytes old new told to same = record {
 }
 
 pub said_in_vain : (s t : Seen) (id : Id) (reply : Reply) (old new : WorldState) → t ≡ s → new ≡ old → Answered s (says (Some id) reply) t (no_memory id) old new
-said_in_vain s t id reply old new to same = record { met = met_with Lacking; faults = old.faults; loads = lacking_loaded old.holds [] old.faults; lawful = tt; answer = ap (λ x. (x, no_memory id)) (sym to); world = same }
+said_in_vain s t id reply old new to same = record { met = met_with Lacking; faults = old.faults; loads = lacking_loaded old.holds no_files old.faults; lawful = tt; answer = ap (λ x. (x, no_memory id)) (sym to); world = same }
 
 pub said_by : (s t : Seen) (id : Id) (reply : Reply) (r : Result (Vec ℕ Global) AllocError) (old new : WorldState) → IfOk r (λ b. b.items ≡ reply_text (Some id) reply) → t ≡ s → new ≡ old → Answered s (says (Some id) reply) t (replied_or id r) old new
 said_by s t id reply (Ok b) old new told to same = said s t (Some id) reply b.items old new told to same
@@ -96,7 +103,7 @@ started s t id options bytes old new told to same = record {
 }
 
 pub started_in_vain : (s t : Seen) (id : Id) (options : Initialize) (old new : WorldState) → t ≡ s → new ≡ old → Answered s (starts id options) t (no_memory id) old new
-started_in_vain s t id options old new to same = record { met = met_with Lacking; faults = old.faults; loads = lacking_loaded old.holds [] old.faults; lawful = tt; answer = ap (λ x. (x, no_memory id)) (sym to); world = same }
+started_in_vain s t id options old new to same = record { met = met_with Lacking; faults = old.faults; loads = lacking_loaded old.holds no_files old.faults; lawful = tt; answer = ap (λ x. (x, no_memory id)) (sym to); world = same }
 
 pub stopped : (s t : Seen) (id : Id) (bytes : List ℕ) (old new : WorldState) → bytes ≡ reply_text (Some id) (result null) → t ≡ record s { phase = Stopped } → new ≡ old → Answered s (stops id) t (replied bytes) old new
 stopped s t id bytes old new told to same = record {
@@ -109,7 +116,7 @@ stopped s t id bytes old new told to same = record {
 }
 
 pub stopped_in_vain : (s t : Seen) (id : Id) (old new : WorldState) → t ≡ s → new ≡ old → Answered s (stops id) t (no_memory id) old new
-stopped_in_vain s t id old new to same = record { met = met_with Lacking; faults = old.faults; loads = lacking_loaded old.holds [] old.faults; lawful = tt; answer = ap (λ x. (x, no_memory id)) (sym to); world = same }
+stopped_in_vain s t id old new to same = record { met = met_with Lacking; faults = old.faults; loads = lacking_loaded old.holds no_files old.faults; lawful = tt; answer = ap (λ x. (x, no_memory id)) (sym to); world = same }
 
 pub dropped : (s t : Seen) (old new : WorldState) → t ≡ s → new ≡ old → Answered s drops t silent old new
 dropped s t old new to same = record { met = met_with Enough; faults = old.faults; loads = none_loaded old.holds old.faults; lawful = tt; answer = ap (λ x. (x, silent)) (sym to); world = same }

@@ -8,15 +8,16 @@ use Rattle.decl_index.specs.declared.change.ChangeFault.{ChangeFault}
 use Rattle.decl_index.specs.declared.change.ChangeFault.TheVariants.{OutOfMemory}
 use Rattle.known_classes.specs.declared.summary.ClassSummary.{ClassSummary}
 use Rattle.json_rpc.specs.declared.message.Id.{Id}
-use Rattle.answers.specs.Asks.{change, other, Enough, Lacking, Met, Loaded, classes, missing, too_long, no_class_file, unreadable}
+use Rattle.answers.specs.Asks.{change, other, Enough, Lacking, Met, Loaded, classes, missing, too_long, no_class_file, no_text, unreadable}
 use Rattle.answers.specs.Failures.{Failure, invalid_params, no_class, read_fault, change_refused}
 use Rattle.answers.specs.Sessions.{Seen}
 use Rattle.answers.specs.Replies.{failure, reply_text}
+use Rattle.answers.specs.declared.types.NamedFiles.{NamedFiles}
 use Rattle.answers.specs.Messages.{asks, publishes, asked, said, published, ask_by, replied, no_memory}
 use Rattle.answers.proofs.Chains.{prefix_is}
 use Rattle.sessions.specs.Worlds.{WorldState}
 use Rattle.sessions.specs.Publications.{Adds, Learns, Accepts, Declines, LeavesFiles}
-use Rattle.sessions.specs.Loads.{Give, IsLoaded, loads_of}
+use Rattle.sessions.specs.Loads.{GiveAll, IsLoaded, loads_of}
 use Rattle.sessions.specs.Loading.{IsUnreadable}
 use Rattle.sessions.specs.declared.loading.Files as code
 use Rattle.sessions.specs.declared.loading.Files.TheVariants as variant
@@ -78,116 +79,127 @@ pub changed_by : (s t : Seen) (id : Id) (c : Change) (r : Result (Vec ℕ Global
 changed_by s t id c (Ok b) old new h l to = changed s t id c b.items old new h to
 changed_by s t id c (Err e) old new h l to = asked_in_vain s t id (change c) old new l to
 
--- The files of a publication gave their classes.
-loaded : (names : List (List ℕ)) (puts : List ClassSummary) (old mid : WorldState) {P : Type 0} → Give old.holds names (classes puts) → LeavesFiles P old mid → (names ≡ [] → mid ≡ old)
-    → IsLoaded Enough old.holds names (classes puts) old.faults mid.faults
-loaded names puts old mid gives files none = record { gives = gives; later = files.later; cause = λ i e. absurd cc; none = λ e. ap (λ (x : WorldState). x.faults) (none e) }
+-- What loading files left of the world, where none was named.
+abbrev pub NoneMoves : NamedFiles → WorldState → WorldState → Type 0
+NoneMoves files old new = files.puts ≡ [] → files.sources ≡ [] → new ≡ old
 
-lacking : (names : List (List ℕ)) (old mid : WorldState) {P : Type 0} → LeavesFiles P old mid → (names ≡ [] → mid ≡ old) → IsLoaded Lacking old.holds names (classes []) old.faults mid.faults
-lacking names old mid files none = record { gives = tt; later = files.later; cause = λ i e. absurd cc; none = λ e. ap (λ (x : WorldState). x.faults) (none e) }
+no_fault : (files : NamedFiles) (old new : WorldState) → NoneMoves files old new → files.puts ≡ [] → files.sources ≡ [] → new.faults ≡ old.faults
+no_fault files old new none e f = ap (λ (x : WorldState). x.faults) (none e f)
+
+-- The files of a publication gave their classes.
+loaded : (files : NamedFiles) (puts : List ClassSummary) (old mid : WorldState) {P : Type 0} → GiveAll old.holds files (classes puts) → LeavesFiles P old mid → NoneMoves files old mid
+    → IsLoaded Enough old.holds files (classes puts) old.faults mid.faults
+loaded files puts old mid gives leaves none = record { gives = gives; later = leaves.later; cause = λ i e. absurd cc; none = no_fault files old mid none }
+
+lacking : (files : NamedFiles) (old mid : WorldState) {P : Type 0} → LeavesFiles P old mid → NoneMoves files old mid → IsLoaded Lacking old.holds files (classes []) old.faults mid.faults
+lacking files old mid leaves none = record { gives = tt; later = leaves.later; cause = λ i e. absurd cc; none = no_fault files old mid none }
 
 -- The change of a publication was answered.
-published_so : (s : Seen) (id : Id) (names removes : List (List ℕ)) (counts : List (List ℕ × ℕ)) (puts : List ClassSummary) (reply : List ℕ) (old mid new : WorldState) {P : Type 0}
-    → Give old.holds names (classes puts) → LeavesFiles P old mid → (names ≡ [] → mid ≡ old) → IsChanged (Publish puts removes counts) id reply mid new
-    → Answered s (publishes id names removes counts) s (replied reply) old new
-published_so s id names removes counts puts reply old mid new gives files none (inl m) = record {
+published_so : (s : Seen) (id : Id) (files : NamedFiles) (removes : List (List ℕ)) (counts : List (List ℕ × ℕ)) (puts : List ClassSummary) (reply : List ℕ) (old mid new : WorldState) {P : Type 0}
+    → GiveAll old.holds files (classes puts) → LeavesFiles P old mid → NoneMoves files old mid → IsChanged (Publish puts removes counts) id reply mid new
+    → Answered s (publishes id files removes counts) s (replied reply) old new
+published_so s id files removes counts puts reply old mid new gives leaves none (inl m) = record {
   met = made_at (classes puts) m.accepts.at;
   faults = mid.faults;
-  loads = loaded names puts old mid gives files none;
+  loads = loaded files puts old mid gives leaves none;
   lawful = m.accepts.lawful;
   answer = made_answer s s id (Publish puts removes counts) (classes puts) reply mid new m refl;
-  world = subst (λ w. Adds m.accepts.at (Publish puts removes counts ∷ []) w new) files.same m.accepts.adds;
+  world = subst (λ w. Adds m.accepts.at (Publish puts removes counts ∷ []) w new) leaves.same m.accepts.adds;
 }
-published_so s id names removes counts puts reply old mid new gives files none (inr r) = record {
+published_so s id files removes counts puts reply old mid new gives leaves none (inr r) = record {
   met = refused_at (classes puts) new.known r.fault;
   faults = mid.faults;
-  loads = loaded names puts old mid gives files none;
+  loads = loaded files puts old mid gives leaves none;
   lawful = r.refuses;
   answer = refused_answer s s id (Publish puts removes counts) (classes puts) reply mid new r refl;
-  world = (refl, r.newest, subst (λ w. Learns w new) files.same r.learns);
+  world = (refl, r.newest, subst (λ w. Learns w new) leaves.same r.learns);
 }
 
 -- There was no memory for it.
-unpublished : (s : Seen) (id : Id) (names removes : List (List ℕ)) (counts : List (List ℕ × ℕ)) (old mid new : WorldState) {P : Type 0}
-    → LeavesFiles P old mid → (names ≡ [] → mid ≡ old) → Learns mid new → Answered s (publishes id names removes counts) s (no_memory id) old new
-unpublished s id names removes counts old mid new files none learns = record {
+unpublished : (s : Seen) (id : Id) (files : NamedFiles) (removes : List (List ℕ)) (counts : List (List ℕ × ℕ)) (old mid new : WorldState) {P : Type 0}
+    → LeavesFiles P old mid → NoneMoves files old mid → Learns mid new → Answered s (publishes id files removes counts) s (no_memory id) old new
+unpublished s id files removes counts old mid new leaves none learns = record {
   met = met_with Lacking;
   faults = mid.faults;
-  loads = lacking names old mid files none;
+  loads = lacking files old mid leaves none;
   lawful = tt;
   answer = refl;
-  world = subst (λ w. Learns w new) files.same learns;
+  world = subst (λ w. Learns w new) leaves.same learns;
 }
 
-published_by : (s : Seen) (id : Id) (names removes : List (List ℕ)) (counts : List (List ℕ × ℕ)) (puts : List ClassSummary) (r : Result (Vec ℕ Global) AllocError) (old mid new : WorldState) {P : Type 0}
-    → Give old.holds names (classes puts) → LeavesFiles P old mid → (names ≡ [] → mid ≡ old) → IfOk r (λ reply. IsChanged (Publish puts removes counts) id reply.items mid new) → OnErr r (Learns mid new)
-    → Answered s (publishes id names removes counts) s (replied_or id r) old new
-published_by s id names removes counts puts (Ok b) old mid new gives files none h l = published_so s id names removes counts puts b.items old mid new gives files none h
-published_by s id names removes counts puts (Err e) old mid new gives files none h l = unpublished s id names removes counts old mid new files none l
+published_by : (s : Seen) (id : Id) (files : NamedFiles) (removes : List (List ℕ)) (counts : List (List ℕ × ℕ)) (puts : List ClassSummary) (r : Result (Vec ℕ Global) AllocError) (old mid new : WorldState) {P : Type 0}
+    → GiveAll old.holds files (classes puts) → LeavesFiles P old mid → NoneMoves files old mid → IfOk r (λ reply. IsChanged (Publish puts removes counts) id reply.items mid new) → OnErr r (Learns mid new)
+    → Answered s (publishes id files removes counts) s (replied_or id r) old new
+published_by s id files removes counts puts (Ok b) old mid new gives leaves none h l = published_so s id files removes counts puts b.items old mid new gives leaves none h
+published_by s id files removes counts puts (Err e) old mid new gives leaves none h l = unpublished s id files removes counts old mid new leaves none l
 
 -- There was no memory for its files.
-pub unloaded : (s : Seen) (id : Id) (names listed removes : List (List ℕ)) (counts : List (List ℕ × ℕ)) (old new : WorldState) {P : Type 0}
-    → listed ≡ names → LeavesFiles P old new → (listed ≡ [] → new ≡ old) → Answered s (publishes id names removes counts) s (no_memory id) old new
-unloaded s id names listed removes counts old new is files none = unpublished s id names removes counts old new new files (λ e. none (is ∙ e)) (nothing_learnt new new refl)
+pub unloaded : (s : Seen) (id : Id) (files : NamedFiles) (removes : List (List ℕ)) (counts : List (List ℕ × ℕ)) (old new : WorldState) {P : Type 0}
+    → LeavesFiles P old new → NoneMoves files old new → Answered s (publishes id files removes counts) s (no_memory id) old new
+unloaded s id files removes counts old new leaves none = unpublished s id files removes counts old new new leaves none (nothing_learnt new new refl)
 
--- What loading the files of these names left, by what it answered.
-pub record HasLoaded (names : List (List ℕ)) (files : code.Files) (old new : WorldState) : Type 0 where
-  pub gives : Give old.holds names (loads_of files)
-  pub leaves : LeavesFiles (IsUnreadable (Ok files)) old new
-  pub none : names ≡ [] → new ≡ old
+-- What loading the files of a publication left, by what it answered.
+pub record HasLoaded (files : NamedFiles) (given : code.Files) (old new : WorldState) : Type 0 where
+  pub gives : GiveAll old.holds files (loads_of given)
+  pub leaves : LeavesFiles (IsUnreadable (Ok given)) old new
+  pub none : NoneMoves files old new
 
-pub has_loaded : (names listed : List (List ℕ)) (files : code.Files) (old new : WorldState) → listed ≡ names → Give old.holds listed (loads_of files) → LeavesFiles (IsUnreadable (Ok files)) old new → (listed ≡ [] → new ≡ old)
-    → HasLoaded names files old new
-has_loaded names listed files old new is gives leaves none = record { gives = subst (λ ns. Give old.holds ns (loads_of files)) is gives; leaves = leaves; none = λ e. none (is ∙ e) }
+pub has_loaded : (files : NamedFiles) (given : code.Files) (old new : WorldState) → GiveAll old.holds files (loads_of given) → LeavesFiles (IsUnreadable (Ok given)) old new → NoneMoves files old new → HasLoaded files given old new
+has_loaded files given old new gives leaves none = record { gives = gives; leaves = leaves; none = none }
 
-told_here : (names : List (List ℕ)) (files other_files : code.Files) (old new : WorldState) → HasLoaded names files old new → files ≡ other_files → Give old.holds names (loads_of other_files)
-told_here names files other_files old new h is = subst (λ f. Give old.holds names (loads_of f)) is h.gives
+told_here : (files : NamedFiles) (given other_files : code.Files) (old new : WorldState) → HasLoaded files given old new → given ≡ other_files → GiveAll old.holds files (loads_of other_files)
+told_here files given other_files old new h is = subst (λ f. GiveAll old.holds files (loads_of f)) is h.gives
 
-pub classes_told : (s : Seen) (id : Id) (names removes : List (List ℕ)) (counts : List (List ℕ × ℕ)) (files : code.Files) (puts : List ClassSummary) (r : Result (Vec ℕ Global) AllocError) (old mid new : WorldState)
-    → HasLoaded names files old mid → files ≡ variant.Classes puts → IfOk r (λ reply. IsChanged (Publish puts removes counts) id reply.items mid new) → OnErr r (Learns mid new)
-    → Answered s (publishes id names removes counts) s (replied_or id r) old new
-classes_told s id names removes counts files puts r old mid new h is changed learns =
-    published_by s id names removes counts puts r old mid new (told_here names files (variant.Classes puts) old mid h is) h.leaves h.none changed learns
+pub classes_told : (s : Seen) (id : Id) (files : NamedFiles) (removes : List (List ℕ)) (counts : List (List ℕ × ℕ)) (given : code.Files) (puts : List ClassSummary) (r : Result (Vec ℕ Global) AllocError) (old mid new : WorldState)
+    → HasLoaded files given old mid → given ≡ variant.Classes puts → IfOk r (λ reply. IsChanged (Publish puts removes counts) id reply.items mid new) → OnErr r (Learns mid new)
+    → Answered s (publishes id files removes counts) s (replied_or id r) old new
+classes_told s id files removes counts given puts r old mid new h is changed learns =
+    published_by s id files removes counts puts r old mid new (told_here files given (variant.Classes puts) old mid h is) h.leaves h.none changed learns
 
 abbrev met_files : Loaded → Met
 met_files loads = record { at = []; loads = loads; site = None; env = record { types = []; pairs = []; decls = []; goal = 0; limit = 0; depth = 0; binder = []; steps = usual_steps }; page = record { items = []; last = false; grown = 0 }; term = None; floors = []; fault = None; short = Enough }
 
--- One of its files gave no class.
-file_told : (s : Seen) (id : Id) (names removes : List (List ℕ)) (counts : List (List ℕ × ℕ)) (o : Loaded) (f : Failure) (r : Result (Vec ℕ Global) AllocError) (old new : WorldState) {P : Type 0}
+-- One of its files gave nothing.
+file_told : (s : Seen) (id : Id) (files : NamedFiles) (removes : List (List ℕ)) (counts : List (List ℕ × ℕ)) (o : Loaded) (f : Failure) (r : Result (Vec ℕ Global) AllocError) (old new : WorldState) {P : Type 0}
     → ((m : Met) → published s id removes counts m o ≡ said s (Some id) (failure f)) → ask_by removes counts o ≡ other → ((i : ℕ) → o ≡ unreadable i → P)
-    → Give old.holds names o → LeavesFiles P old new → (names ≡ [] → new ≡ old) → Learns new new → IfOk r (λ b. b.items ≡ reply_text (Some id) (failure f))
-    → Answered s (publishes id names removes counts) s (replied_or id r) old new
-file_told s id names removes counts o f (Ok b) old new is quiet fails gives files none learns told = record {
+    → GiveAll old.holds files o → LeavesFiles P old new → NoneMoves files old new → Learns new new → IfOk r (λ b. b.items ≡ reply_text (Some id) (failure f))
+    → Answered s (publishes id files removes counts) s (replied_or id r) old new
+file_told s id files removes counts o f (Ok b) old new is quiet fails gives leaves none learns told = record {
   met = met_files o;
   faults = new.faults;
-  loads = record { gives = gives; later = files.later; cause = λ i e. files.cause (fails i e); none = λ e. ap (λ (x : WorldState). x.faults) (none e) };
+  loads = record { gives = gives; later = leaves.later; cause = λ i e. leaves.cause (fails i e); none = no_fault files old new none };
   lawful = rw quiet tt;
   answer = is (met_files o) ∙ ap (λ x. (s, replied x)) (sym told);
-  world = rw quiet files.same;
+  world = rw quiet leaves.same;
 }
-file_told s id names removes counts o f (Err e) old new is quiet fails gives files none learns told = unpublished s id names removes counts old new new files none learns
+file_told s id files removes counts o f (Err e) old new is quiet fails gives leaves none learns told = unpublished s id files removes counts old new new leaves none learns
 
--- The first file that gave none, by its kind.
-pub missing_told : (s : Seen) (id : Id) (names removes : List (List ℕ)) (counts : List (List ℕ × ℕ)) (files : code.Files) (index : ℕ) (r : Result (Vec ℕ Global) AllocError) (old new : WorldState)
-    → HasLoaded names files old new → files ≡ variant.Missing index → IfOk r (λ b. b.items ≡ reply_text (Some id) (failure (invalid_params 9 index))) → Answered s (publishes id names removes counts) s (replied_or id r) old new
-missing_told s id names removes counts files index r old new h is told =
-    file_told s id names removes counts (missing index) (invalid_params 9 index) r old new (λ m. refl) refl (λ i e. absurd cc) (told_here names files (variant.Missing index) old new h is) h.leaves h.none (nothing_learnt new new refl) told
+-- The first file that gave nothing, by its kind.
+pub missing_told : (s : Seen) (id : Id) (files : NamedFiles) (removes : List (List ℕ)) (counts : List (List ℕ × ℕ)) (given : code.Files) (index : ℕ) (r : Result (Vec ℕ Global) AllocError) (old new : WorldState)
+    → HasLoaded files given old new → given ≡ variant.Missing index → IfOk r (λ b. b.items ≡ reply_text (Some id) (failure (invalid_params 9 index))) → Answered s (publishes id files removes counts) s (replied_or id r) old new
+missing_told s id files removes counts given index r old new h is told =
+    file_told s id files removes counts (missing index) (invalid_params 9 index) r old new (λ m. refl) refl (λ i e. absurd cc) (told_here files given (variant.Missing index) old new h is) h.leaves h.none (nothing_learnt new new refl) told
 
-pub too_long_told : (s : Seen) (id : Id) (names removes : List (List ℕ)) (counts : List (List ℕ × ℕ)) (files : code.Files) (index : ℕ) (r : Result (Vec ℕ Global) AllocError) (old new : WorldState)
-    → HasLoaded names files old new → files ≡ variant.TooLong index → IfOk r (λ b. b.items ≡ reply_text (Some id) (failure (invalid_params 10 index))) → Answered s (publishes id names removes counts) s (replied_or id r) old new
-too_long_told s id names removes counts files index r old new h is told =
-    file_told s id names removes counts (too_long index) (invalid_params 10 index) r old new (λ m. refl) refl (λ i e. absurd cc) (told_here names files (variant.TooLong index) old new h is) h.leaves h.none (nothing_learnt new new refl) told
+pub too_long_told : (s : Seen) (id : Id) (files : NamedFiles) (removes : List (List ℕ)) (counts : List (List ℕ × ℕ)) (given : code.Files) (index : ℕ) (r : Result (Vec ℕ Global) AllocError) (old new : WorldState)
+    → HasLoaded files given old new → given ≡ variant.TooLong index → IfOk r (λ b. b.items ≡ reply_text (Some id) (failure (invalid_params 10 index))) → Answered s (publishes id files removes counts) s (replied_or id r) old new
+too_long_told s id files removes counts given index r old new h is told =
+    file_told s id files removes counts (too_long index) (invalid_params 10 index) r old new (λ m. refl) refl (λ i e. absurd cc) (told_here files given (variant.TooLong index) old new h is) h.leaves h.none (nothing_learnt new new refl) told
 
-pub no_class_told : (s : Seen) (id : Id) (names removes : List (List ℕ)) (counts : List (List ℕ × ℕ)) (files : code.Files) (index class_fault place : ℕ) (r : Result (Vec ℕ Global) AllocError) (old new : WorldState)
-    → HasLoaded names files old new → files ≡ variant.NoClass index class_fault place → IfOk r (λ b. b.items ≡ reply_text (Some id) (failure (no_class index class_fault place))) → Answered s (publishes id names removes counts) s (replied_or id r) old new
-no_class_told s id names removes counts files index class_fault place r old new h is told =
-    file_told s id names removes counts (no_class_file index class_fault place) (no_class index class_fault place) r old new (λ m. refl) refl (λ i e. absurd cc) (told_here names files (variant.NoClass index class_fault place) old new h is) h.leaves h.none (nothing_learnt new new refl) told
+pub no_class_told : (s : Seen) (id : Id) (files : NamedFiles) (removes : List (List ℕ)) (counts : List (List ℕ × ℕ)) (given : code.Files) (index class_fault place : ℕ) (r : Result (Vec ℕ Global) AllocError) (old new : WorldState)
+    → HasLoaded files given old new → given ≡ variant.NoClass index class_fault place → IfOk r (λ b. b.items ≡ reply_text (Some id) (failure (no_class index class_fault place))) → Answered s (publishes id files removes counts) s (replied_or id r) old new
+no_class_told s id files removes counts given index class_fault place r old new h is told =
+    file_told s id files removes counts (no_class_file index class_fault place) (no_class index class_fault place) r old new (λ m. refl) refl (λ i e. absurd cc) (told_here files given (variant.NoClass index class_fault place) old new h is) h.leaves h.none (nothing_learnt new new refl) told
 
-pub unreadable_told : (s : Seen) (id : Id) (names removes : List (List ℕ)) (counts : List (List ℕ × ℕ)) (files : code.Files) (index : ℕ) (r : Result (Vec ℕ Global) AllocError) (old new : WorldState)
-    → HasLoaded names files old new → files ≡ variant.Unreadable index → IfOk r (λ b. b.items ≡ reply_text (Some id) (failure (read_fault index))) → Answered s (publishes id names removes counts) s (replied_or id r) old new
-unreadable_told s id names removes counts files index r old new h is told =
-    file_told s id names removes counts (unreadable index) (read_fault index) r old new (λ m. refl) refl (λ i e. subst (λ f. IsUnreadable (Ok f)) (sym is) tt)
-    (told_here names files (variant.Unreadable index) old new h is) h.leaves h.none (nothing_learnt new new refl) told
+pub no_text_told : (s : Seen) (id : Id) (files : NamedFiles) (removes : List (List ℕ)) (counts : List (List ℕ × ℕ)) (given : code.Files) (index : ℕ) (r : Result (Vec ℕ Global) AllocError) (old new : WorldState)
+    → HasLoaded files given old new → given ≡ variant.NoText index → IfOk r (λ b. b.items ≡ reply_text (Some id) (failure (invalid_params 21 index))) → Answered s (publishes id files removes counts) s (replied_or id r) old new
+no_text_told s id files removes counts given index r old new h is told =
+    file_told s id files removes counts (no_text index) (invalid_params 21 index) r old new (λ m. refl) refl (λ i e. absurd cc) (told_here files given (variant.NoText index) old new h is) h.leaves h.none (nothing_learnt new new refl) told
+
+pub unreadable_told : (s : Seen) (id : Id) (files : NamedFiles) (removes : List (List ℕ)) (counts : List (List ℕ × ℕ)) (given : code.Files) (index : ℕ) (r : Result (Vec ℕ Global) AllocError) (old new : WorldState)
+    → HasLoaded files given old new → given ≡ variant.Unreadable index → IfOk r (λ b. b.items ≡ reply_text (Some id) (failure (read_fault index))) → Answered s (publishes id files removes counts) s (replied_or id r) old new
+unreadable_told s id files removes counts given index r old new h is told =
+    file_told s id files removes counts (unreadable index) (read_fault index) r old new (λ m. refl) refl (λ i e. subst (λ f. IsUnreadable (Ok f)) (sym is) tt)
+    (told_here files given (variant.Unreadable index) old new h is) h.leaves h.none (nothing_learnt new new refl) told
 
 -- The change was made, and the reply is its opening with its version.
 pub made_by : (id : Id) (c : Change) (opening reply : List ℕ) (number : ℕ) (old new : WorldState) → OpensVersion id opening → Accepts c number old new → reply ≡ opening ++ (decimal number ++ codes "}}") → IsChanged c id reply old new

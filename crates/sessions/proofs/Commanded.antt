@@ -78,11 +78,11 @@ explains s t id d k item lists r old new is from answers same to =
     formed s t id d (command.Explain k item) (replied_or id r) old new is (asked_by s t id (explain k item) s.lists r old new here (stays_put r s.lists) (untouched_by r old new same) to)
 
 -- A publication.
-pub publishes_so : (s t : Seen) (id : Id) (d : Data) (names removes : List (List ℕ)) (counts : List (List ℕ × ℕ)) (r : Result (Vec ℕ Global) AllocError) (old new : WorldState)
-    → command_of d ≡ Ok (command.Publish names removes counts) → ((s : Seen) → Answered s (publishes id names removes counts) s (replied_or id r) old new) → t ≡ s
+pub publishes_so : (s t : Seen) (id : Id) (d : Data) (puts removes : List (List ℕ)) (counts : List (List ℕ × ℕ)) (sources known : List (List ℕ)) (r : Result (Vec ℕ Global) AllocError) (old new : WorldState)
+    → command_of d ≡ Ok (command.Publish puts removes counts sources known) → ((s : Seen) → Answered s (publishes id (record { puts = puts; sources = sources; known = known }) removes counts) s (replied_or id r) old new) → t ≡ s
     → Answered s (command_by id (command_of d)) t (replied_or id r) old new
-publishes_so s t id d names removes counts r old new is a to =
-    formed s t id d (command.Publish names removes counts) (replied_or id r) old new is (subst (λ x. Answered s (publishes id names removes counts) x (replied_or id r) old new) (sym to) (a s))
+publishes_so s t id d puts removes counts sources known r old new is a to =
+    formed s t id d (command.Publish puts removes counts sources known) (replied_or id r) old new is (subst (λ x. Answered s (publishes id (record { puts = puts; sources = sources; known = known }) removes counts) x (replied_or id r) old new) (sym to) (a s))
 
 -- A withdrawal.
 pub withdraws_so : (s t : Seen) (id : Id) (d : Data) (through : ℕ) (r : Result (Vec ℕ Global) AllocError) (old new : WorldState)

@@ -25,4 +25,6 @@ pub mod Changing
 pub mod Commanded
 pub mod Versions
 pub mod Filing
+pub mod Sourcing
+pub mod Giving
 pub mod RunningWorlds

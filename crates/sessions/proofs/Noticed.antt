@@ -17,7 +17,7 @@ use Rattle.answers.specs.declared.types.DocumentState.TheVariants.{NoMemory}
 use Rattle.answers.specs.declared.types.OpenDocument.{OpenDocument}
 use Rattle.answers.specs.Asks.{Short, Enough, Lacking, Ending, Met, classes}
 use Rattle.answers.specs.Sessions.{Seen, document_of, with_document, without_document, state_of, state_by}
-use Rattle.answers.specs.Messages.{Meaning, files_in, leaves, drops, edits, DocumentEdit, opening, changing, closing, Outcome, silent, exited, lost, is_stopped, documents_after, open_by, change_by, close_by, edit_if_open, running_notice, notice_by, notice_in}
+use Rattle.answers.specs.Messages.{Meaning, files_in, no_files, leaves, drops, edits, DocumentEdit, opening, changing, closing, Outcome, silent, exited, lost, is_stopped, documents_after, open_by, change_by, close_by, edit_if_open, running_notice, notice_by, notice_in}
 use Rattle.sessions.specs.Edited.{IsSetTo, IsSetBy}
 use Rattle.sessions.specs.Worlds.{WorldState}
 use Rattle.sessions.specs.Outcomes.{silent_or}
@@ -38,7 +38,7 @@ taken : (s t : Seen) (uri : List ℕ) (edit : DocumentEdit) (ds : List OpenDocum
     → (ds ≡ documents_after uri edit s.documents (document_of uri s.documents)) ⊎ (ds ≡ with_document uri NoMemory s.documents) → t ≡ record s { documents = ds }
     → Answered s (edits uri edit) t silent w w
 taken s t uri edit ds w (inl e) to = record { met = met_by Enough; faults = w.faults; loads = none_loaded w.holds w.faults; lawful = tt; answer = ap (λ x. (x, silent)) (ap (λ d. record s { documents = d }) (sym e) ∙ sym to); world = refl }
-taken s t uri edit ds w (inr e) to = record { met = met_by Lacking; faults = w.faults; loads = lacking_loaded w.holds [] w.faults; lawful = tt; answer = ap (λ x. (x, silent)) (ap (λ d. record s { documents = d }) (sym e) ∙ sym to); world = refl }
+taken s t uri edit ds w (inr e) to = record { met = met_by Lacking; faults = w.faults; loads = lacking_loaded w.holds no_files w.faults; lawful = tt; answer = ap (λ x. (x, silent)) (ap (λ d. record s { documents = d }) (sym e) ∙ sym to); world = refl }
 
 passed : (s t : Seen) (w : WorldState) → t ≡ s → Answered s drops t silent w w
 passed s t w to = record { met = met_by Enough; faults = w.faults; loads = none_loaded w.holds w.faults; lawful = tt; answer = ap (λ x. (x, silent)) (sym to); world = refl }

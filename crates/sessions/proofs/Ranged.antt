@@ -12,7 +12,7 @@ use Rattle.lsp_forms.specs.declared.forms.Command.{Command}
 use Rattle.lsp_forms.specs.declared.forms.Command.TheVariants.{Page, Close, Explain, Publish, Withdraw, SetWeights}
 use Rattle.lsp_forms.specs.Params.{whole, every, fault, numbered, number_of, member_of, text_of}
 use Rattle.lsp_forms.specs.Forms.{whole_or, options_in, options_from, initialize_from, initialize_of, optional}
-use Rattle.lsp_forms.specs.Commands.{word, page_at, page_from, page_of, one_at, one_from, close_of, word_if, explain_at, explain_from, explain_of, withdraw_of, published, publish_at, publish_from, publish_of, list_of, named_command, command_from, command_of, only_object, is_text, is_pair, counts, pair_of, path_from_text, name_from_text, use_from_pair}
+use Rattle.lsp_forms.specs.Commands.{word, page_at, page_from, page_of, one_at, one_from, close_of, word_if, explain_at, explain_from, explain_of, withdraw_of, published, publish_at, publish_from, publish_of, list_of, named_command, command_from, command_of, only_object, is_text, is_pair, counts, pair_of, size, paths_at, names_at, uses_at}
 use Rattle.decl_index.specs.declared.weights.Weights.{Weights}
 use Rattle.decl_index.specs.Weighing.{AreWeights}
 use Rattle.lsp_forms.specs.Weighing.{weight_names, is_number, is_word, weights_in, may_weigh, weights_of}
@@ -87,7 +87,7 @@ IsFair (Err f) = Unit {0}
 IsFair (Ok (Page k n)) = (1 ≤ n) × (n ≤ 1000)
 IsFair (Ok (Close k)) = Unit {0}
 IsFair (Ok (Explain k i)) = Unit {0}
-IsFair (Ok (Publish a b c)) = Unit {0}
+IsFair (Ok (Publish a b c d e)) = Unit {0}
 IsFair (Ok (Withdraw k)) = Unit {0}
 IsFair (Ok (SetWeights w)) = AreWeights w
 
@@ -125,39 +125,45 @@ fair_explain_from None i = tt
 fair_explain_from (Some k) None = tt
 fair_explain_from (Some k) (Some i) = fair_explain (word k) (word_if i)
 
-fair_published : (a : Result (List (List ℕ)) ParamFault) (b : Result (List (List ℕ)) ParamFault) (c : Result (List (List ℕ × ℕ)) ParamFault) → IsFair (published a b c)
+fair_published : (a b c : Result (List (List ℕ)) ParamFault) (d : Result (List (List ℕ × ℕ)) ParamFault) (e : Result (List (List ℕ)) ParamFault) → IsFair (published a b c d e)
 unfolding published
-fair_published (Err e) b c = tt
-fair_published (Ok x) (Err e) c = tt
-fair_published (Ok x) (Ok y) (Err e) = tt
-fair_published (Ok x) (Ok y) (Ok z) = tt
+fair_published (Err f) b c d e = tt
+fair_published (Ok x) (Err f) c d e = tt
+fair_published (Ok x) (Ok y) (Err f) d e = tt
+fair_published (Ok x) (Ok y) (Ok z) (Err f) e = tt
+fair_published (Ok x) (Ok y) (Ok z) (Ok w) (Err f) = tt
+fair_published (Ok x) (Ok y) (Ok z) (Ok w) (Ok v) = tt
 
 fair_if : (b : Bool) (x y : Result Command ParamFault) → IsFair x → IsFair y → IsFair (if b then x else y)
 fair_if true x y p q = p
 fair_if false x y p q = q
 
-fair_counted : (a b c : Items) → IsFair (if every (λ d. counts (pair_of d)) c then published (numbered 8 (λ d. path_from_text (as_str d)) 0 a) (numbered 12 (λ d. name_from_text (as_str d)) 0 b) (numbered 13 (λ d. use_from_pair (pair_of d)) 0 c) else Err (fault 2))
-fair_counted a b c =
-    fair_if (every (λ d. counts (pair_of d)) c) (published (numbered 8 (λ d. path_from_text (as_str d)) 0 a) (numbered 12 (λ d. name_from_text (as_str d)) 0 b) (numbered 13 (λ d. use_from_pair (pair_of d)) 0 c)) (Err (fault 2))
-    (fair_published (numbered 8 (λ d. path_from_text (as_str d)) 0 a) (numbered 12 (λ d. name_from_text (as_str d)) 0 b) (numbered 13 (λ d. use_from_pair (pair_of d)) 0 c)) tt
+-- The lists of a publication, whose items are of the right kinds.
+abbrev listed : Items → Items → Items → Items → Items → Result Command ParamFault
+listed a b c d e = published (paths_at 0 a) (paths_at (size a) d) (names_at 12 b) (uses_at c) (names_at 22 e)
 
-fair_publish_at : (a b c : Items) → IsFair (publish_at a b c)
+fair_counted : (a b c d e : Items) → IsFair (if every (λ d. counts (pair_of d)) c then listed a b c d e else Err (fault 2))
+fair_counted a b c d e =
+    fair_if (every (λ d. counts (pair_of d)) c) (listed a b c d e) (Err (fault 2)) (fair_published (paths_at 0 a) (paths_at (size a) d) (names_at 12 b) (uses_at c) (names_at 22 e)) tt
+
+fair_publish_at : (a b c d e : Items) → IsFair (publish_at a b c d e)
 unfolding publish_at
-fair_publish_at a b c =
-    fair_if (every is_text a && (every is_text b && every is_pair c)) (if every (λ d. counts (pair_of d)) c then published (numbered 8 (λ d. path_from_text (as_str d)) 0 a) (numbered 12 (λ d. name_from_text (as_str d)) 0 b) (numbered 13 (λ d. use_from_pair (pair_of d)) 0 c) else Err (fault 2)) (Err (fault 1))
-    (fair_counted a b c) tt
+fair_publish_at a b c d e =
+    fair_if (every is_text a && (every is_text b && (every is_pair c && (every is_text d && every is_text e)))) (if every (λ d. counts (pair_of d)) c then listed a b c d e else Err (fault 2)) (Err (fault 1)) (fair_counted a b c d e) tt
 
-fair_publish_from : (a b c : Option Items) → IsFair (publish_from a b c)
+fair_publish_from : (a b c d e : Option Items) → IsFair (publish_from a b c d e)
 unfolding publish_from
-fair_publish_from None b c = tt
-fair_publish_from (Some x) None c = tt
-fair_publish_from (Some x) (Some y) None = tt
-fair_publish_from (Some x) (Some y) (Some z) = fair_publish_at x y z
+fair_publish_from None b c d e = tt
+fair_publish_from (Some x) None c d e = tt
+fair_publish_from (Some x) (Some y) None d e = tt
+fair_publish_from (Some x) (Some y) (Some z) None e = tt
+fair_publish_from (Some x) (Some y) (Some z) (Some w) None = tt
+fair_publish_from (Some x) (Some y) (Some z) (Some w) (Some v) = fair_publish_at x y z w v
 
 fair_publish : (o : Option Data) → IsFair (publish_of o)
 unfolding publish_of
 fair_publish None = tt
-fair_publish (Some d) = fair_publish_from (list_of (get (codes "put") d)) (list_of (get (codes "remove") d)) (list_of (get (codes "counts") d))
+fair_publish (Some d) = fair_publish_from (list_of (get (codes "put") d)) (list_of (get (codes "remove") d)) (list_of (get (codes "counts") d)) (list_of (get (codes "sources") d)) (list_of (get (codes "known") d))
 
 abbrev or_withdraw : List ℕ → Option Data → Result Command ParamFault
 or_withdraw name o = if bytes_eq name (codes "insynth.withdraw") then withdraw_of o else Err (fault 7)

@@ -78,7 +78,7 @@ lacks_command s id (Err f) = refl
 lacks_command s id (Ok (command.Page k n)) = refl
 lacks_command s id (Ok (command.Close k)) = refl
 lacks_command s id (Ok (command.Explain k i)) = refl
-lacks_command s id (Ok (command.Publish a b c)) = refl
+lacks_command s id (Ok (command.Publish a b c d e)) = refl
 lacks_command s id (Ok (command.Withdraw k)) = refl
 lacks_command s id (Ok (command.SetWeights w)) = refl
 

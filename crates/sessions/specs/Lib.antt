@@ -8,6 +8,7 @@ pub mod Worlds
 pub mod Publications
 pub mod Loads
 pub mod Loading
+pub mod Sources
 pub mod Changed
 pub mod Spots
 pub mod Opened

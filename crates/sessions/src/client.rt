@@ -9,31 +9,39 @@ use crate::running_world::RunningWorld;
 use crate::serving::serve;
 use crate::session::Session;
 use json_rpc::Frames;
+use listing::Listing;
 use outside::{End, Shelf, Sink, Source};
+use prefetch::Sender;
+use reconstruction::Rebuild;
 use std::alloc::Global;
 use std::sync::Wait;
+use std::thread::Threads;
 use version_board::{Naming, Pass};
 
-/// One client: its end of the program, its session, what was read of its frames, and its pass of the board.
+/// One client: its end of the program, its session, what was read of its frames, its pass of the board, and where workers
+/// lengthen listings ahead of it, who hands them to these.
 #[derive(Drop)]
 pub struct Client<J: Naming, S: Drop, K: Drop, H: Drop> {
     pub end: End<S, K, H>,
     pub session: Session,
     pub frames: Frames,
     pub pass: Pass<J>,
+    pub ahead: Option<Sender<Listing<Rebuild>>>,
 }
 
 /// Serves a client of a hub until an exit, the end of its input or a fault, and gives it back with the status of its
 /// session. The bodies of its messages are the frames of its source, and each reply is one frame to its sink, written
-/// before the next message is read. It may wait for another client's publication, or for a listing that another one
-/// searches. Of the source more bytes may have been taken than the messages have.
+/// before the next message is read. Where it has a sender, the listing of each page that is answered is handed to be
+/// lengthened ahead. It may wait for another client's publication, for a listing that another one or a worker searches, or
+/// for another call on the queue of the workers. Of the source more bytes may have been taken than the messages have.
 #[tactic(auto, using(crate::proofs::Statuses::statuses))]
-pub fn serve_client<J: Naming, S: Source + Drop, K: Sink + Drop, H: Shelf + Drop, R: Wait + Drop>(
-    rt: &R,
-    alloc: Global,
-    hub: &Hub<J, R>,
-    client: Client<J, S, K, H>,
-) -> (Client<J, S, K, H>, Ended)
+pub fn serve_client<
+    J: Naming,
+    S: Source + Drop,
+    K: Sink + Drop,
+    H: Shelf + Drop,
+    R: Threads + Wait + Drop + Sync,
+>(rt: &R, alloc: Global, hub: &Hub<J, R>, client: Client<J, S, K, H>) -> (Client<J, S, K, H>, Ended)
     requires new { client.frames ≡ record { place = 0; held = []; fault = None } }
     ensures serves { ServesWith client.session result.0.session (S.left client.end.source) (K.written client.end.sink) (K.written result.0.end.sink)
         (running_state client.pass (H.holds client.end.shelf) (H.faults client.end.shelf))
@@ -50,6 +58,7 @@ pub fn serve_client<J: Naming, S: Source + Drop, K: Sink + Drop, H: Shelf + Drop
         mut session,
         mut frames,
         pass,
+        ahead,
     } = client;
     let End {
         mut source,
@@ -61,8 +70,10 @@ pub fn serve_client<J: Naming, S: Source + Drop, K: Sink + Drop, H: Shelf + Drop
         hub,
         pass,
         shelf,
+        ahead,
     };
     let ending = serve(
+        rt,
         alloc,
         &mut session,
         &mut frames,
@@ -70,21 +81,16 @@ pub fn serve_client<J: Naming, S: Source + Drop, K: Sink + Drop, H: Shelf + Drop
         &mut source,
         &mut sink,
     );
-    let RunningWorld {
-        rt: _,
-        hub: _,
-        pass,
-        shelf,
-    } = world;
     let client = Client {
         end: End {
             source,
             sink,
-            shelf,
+            shelf: world.shelf,
         },
         session,
         frames,
-        pass,
+        pass: world.pass,
+        ahead: world.ahead,
     };
     (client, ending.status())
 }

@@ -8,7 +8,7 @@ use lists::Text;
 use serde_json::{Value, json};
 use std::alloc::{AllocError, Global};
 
-/// What a request is refused for. The causes of `InvalidParams` are 1 to 10, 12, 13 and 20; its index is the number in
+/// What a request is refused for. The causes of `InvalidParams` are 1 to 10, 12, 13 and 20 to 22; its index is the number in
 /// the list that it speaks of, 0 where none is meant. `NoClass` is of a file that is no class file: its number, and the
 /// number and the place of the fault of its bytes. `VersionWithdrawn` has the number of the change that withdrew the
 /// version, and the version. `ReadFault` is of a file that couldn't be read.

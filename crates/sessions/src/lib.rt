@@ -4,6 +4,7 @@
 // from listings that clients share. It stands on `answers`, which says what an answer is.
 #![tactic(auto)]
 
+mod ahead;
 mod client;
 mod cursors;
 mod edits;
@@ -25,8 +26,10 @@ mod running_world;
 mod serving;
 mod session;
 mod shared_pages;
+mod sources;
 mod world;
 
+pub use ahead::Slot;
 pub use client::{Client, serve_client};
 pub use cursors::Cursors;
 pub use ending::{Ended, Ending};

@@ -1,77 +1,87 @@
-ghost use Rattle.std.specs.Prelude.{◌≡◌, ◌≤◌, ◌⊎◌, ℕ, [], List, length, Option, Some, IfOk, IfErr, OnOk, IsErrOf, MatchResult};
+ghost use Rattle.std.specs.Prelude.{◌≡◌, ◌≤◌, ◌⊎◌, ◌++◌, ◌∷◌, ℕ, [], List, length, Option, Some, None, IfOk, IsErrOf, MatchResult};
 ghost use Rattle.outside.specs.Held.{longest_load};
-ghost use Rattle.start_text.specs.Faults.{IsOutside, Meets};
-ghost use Rattle.start_text.specs.Starts.{file_fault, IsClassOf};
+ghost use Rattle.start_text.specs.Faults.{IsOutside};
+ghost use Rattle.start_text.specs.Starts.{file_fault};
+ghost use Rattle.start_text.specs.Taken.{wrong_among, AreTaken, Takes};
 ghost use Rattle.start_text.specs.declared.fault.StartFault.TheVariants as fault;
-ghost use Rattle.sessions.specs.Loads.{MayHold, Give, loads_of};
+ghost use Rattle.sessions.specs.Loads.{MayHold, Give, GiveAll, loads_of};
 ghost use Rattle.sessions.specs.Loading.{IsOfFile, Tells, IsUnreadable};
 ghost use Rattle.sessions.specs.Publications.{LeavesFiles};
 
+use crate::sources::add_sources;
 use crate::world::World;
+use answers::NamedFiles;
 use class_summary::ClassSummary;
 use lists::{Items, Text};
 use outside::Loaded;
-use start_text::{StartFault, class_of};
+use start_text::{Batches, StartFault};
 use std::alloc::{AllocError, Global};
+use std::thread::Threads;
 
-/// What the files of a publication gave: their classes in order, or the number of the first that gave none and why.
-/// Files are numbered from 0; `class` and `place` are the number and the place of the fault of a file's bytes.
+/// What the files of a publication gave: the classes that it puts in order, or the number of the first file that gave
+/// nothing and why. Files are numbered from 0, the source files behind the class files; `class` and `place` are the
+/// number and the place of the fault of a class file's bytes, and `NoText` is a source file that isn't UTF-8.
 #[derive(Debug, Drop)]
 pub enum Files {
     Classes(Items<ClassSummary>),
     Missing(u32),
     TooLong(u32),
     NoClass { index: u32, class: u32, place: u32 },
+    NoText(u32),
     Unreadable(u32),
 }
 
-/// Loads the file of this number into the buffer.
+/// The bytes of the file of this number.
 fn load_file<W: World>(
+    alloc: Global,
     world: &mut W,
     name: &str,
     index: u32,
-    buffer: &mut Vec<u8>,
-) -> Result<(), StartFault>
+) -> Result<Vec<u8>, StartFault>
     ensures found { (content : Option (List ℕ)) × MayHold (W.state world.old).holds name.now content × MatchResult result
-        (λ _. content ≡ Some buffer.new.items)
+        (λ bytes. content ≡ Some bytes.items)
         (λ wrong. IsOutside wrong ⊎ (file_fault index content ≡ Some wrong)) }
-    ensures short { OnOk result (length buffer.new.items ≤ longest_load) }
-    ensures kind { IfErr result (IsOfFile index) }
+    ensures short { IfOk result (λ bytes. length bytes.items ≤ longest_load) }
     ensures files { LeavesFiles (IsErrOf result fault.Failed) (W.state world.old) (W.state world.new) }
 {
-    match world.load(name, buffer)? {
-        Loaded::Bytes => Ok(()),
+    let mut bytes = Vec::new(alloc);
+    match world.load(name, &mut bytes)? {
+        Loaded::Bytes => Ok(bytes),
         Loaded::Missing => Err(StartFault::NoFile(index)),
         Loaded::TooLong(_) => Err(StartFault::LongFile(index)),
     }
 }
 
-/// The class of the file of this number. The bytes stand in the buffer, in place of what stood there.
-fn load_class<W: World>(
+/// Loads the file of this number, and takes its bytes. Where they can't be had, the files that were taken are parsed,
+/// since what is wrong with one of them comes first.
+fn read_file<W: World>(
+    rt: &(impl Threads + Sync),
     alloc: Global,
     world: &mut W,
     name: &str,
     index: u32,
-    buffer: &mut Vec<u8>,
-) -> Result<ClassSummary, StartFault>
-    ensures found { (content : Option (List ℕ)) × MayHold (W.state world.old).holds name.now content
-        × Meets (file_fault index content) result × IfOk result (λ class. IsClassOf content class) }
-    ensures kind { IfErr result (IsOfFile index) }
+    reading: &mut Batches,
+) -> Result<(), StartFault>
+    ensures taken { (content : Option (List ℕ)) × MayHold (W.state world.old).holds name.now content
+        × ((before : List (ℕ × Option (List ℕ))) → AreTaken before reading.old → Takes (before ++ (index, content) ∷ []) reading.new result) }
+    ensures sound { (before : List (ℕ × Option (List ℕ))) → AreTaken before reading.old → IsErrOf result fault.Failed → wrong_among before ≡ None }
     ensures files { LeavesFiles (IsErrOf result fault.Failed) (W.state world.old) (W.state world.new) }
 {
-    load_file(world, name, index, buffer)?;
-    class_of(alloc, buffer.as_slice(), index)
+    match load_file(alloc, world, name, index) {
+        Ok(bytes) => reading.take(rt, alloc, index, bytes),
+        Err(wrong) => Err(reading.stop(rt, alloc, wrong)),
+    }
 }
 
-/// What is told of the first file that gave no class, which has this number. An Err is want of memory.
+/// What is told of the first file that gave no class; one whose load failed has this number. An Err is want of memory.
 fn told(wrong: StartFault, index: u32) -> Result<Files, AllocError>
-    requires kind { IsOfFile index wrong }
+    requires kind { IsOfFile wrong }
     ensures told { IfOk result (λ files. Tells index wrong (loads_of files)) }
 {
     match wrong {
-        StartFault::NoFile(_) => Ok(Files::Missing(index)),
-        StartFault::LongFile(_) => Ok(Files::TooLong(index)),
-        StartFault::NotClass(_, fault) => match fault.cause.number() {
+        StartFault::NoFile(index) => Ok(Files::Missing(index)),
+        StartFault::LongFile(index) => Ok(Files::TooLong(index)),
+        StartFault::NotClass(index, fault) => match fault.cause.number() {
             Some(class) => Ok(Files::NoClass {
                 index,
                 class,
@@ -86,9 +96,12 @@ fn told(wrong: StartFault, index: u32) -> Result<Files, AllocError>
     }
 }
 
-/// What the files of these names give. They are loaded one by one in their order, up to the first that gives no class,
-/// and of each only the summary of its class is kept. An Err is want of memory, also for more than 4,294,967,295 files.
-pub fn load_classes<W: World>(
+/// What the class files of these names give. They are loaded one by one in their order and parsed in batches, as the files of
+/// a start text are: the bytes of a batch are let go before the next one is loaded, no batch follows one with a
+/// fault, and of each file only the summary of its class is kept. An Err is want of memory, also for more than
+/// 4,294,967,295 files.
+fn load_classes<W: World>(
+    rt: &(impl Threads + Sync),
     alloc: Global,
     world: &mut W,
     names: &[Text],
@@ -97,20 +110,41 @@ pub fn load_classes<W: World>(
     ensures files { LeavesFiles (IsUnreadable result) (W.state world.old) (W.state world.new) }
     ensures none { names.now ≡ [] → W.state world.new ≡ W.state world.old }
 {
-    let mut classes = Items::new(alloc);
-    let mut buffer = Vec::new(alloc);
+    let mut reading = Batches::new(alloc);
     let mut index: u32 = 0;
     let mut rest = names;
     while let Some((name, more)) = rest.split_first() {
         if index == u32::MAX {
             return Err(AllocError);
         }
-        match load_class(alloc, world, name.as_str(), index, &mut buffer) {
-            Ok(class) => classes.push(class)?,
+        match read_file(rt, alloc, world, name.as_str(), index, &mut reading) {
+            Ok(()) => {}
             Err(wrong) => return told(wrong, index),
         }
         index += 1;
         rest = more;
     }
-    Ok(Files::Classes(classes))
+    match reading.finish(rt, alloc) {
+        Ok(classes) => Ok(Files::Classes(classes)),
+        Err(wrong) => told(wrong, index),
+    }
+}
+
+/// What the files of a publication give: the class files come first, and the source files where these give classes. A
+/// source file is a text once it is loaded, and no text is read as Java before all files are loaded. No source file is
+/// loaded after the first file that gives nothing.
+pub fn load_files<W: World>(
+    rt: &(impl Threads + Sync),
+    alloc: Global,
+    world: &mut W,
+    files: &NamedFiles,
+) -> Result<Files, AllocError>
+    ensures gives { IfOk result (λ given. GiveAll (W.state world.old).holds files.now (loads_of given)) }
+    ensures files { LeavesFiles (IsUnreadable result) (W.state world.old) (W.state world.new) }
+    ensures none { files.now.puts ≡ [] → files.now.sources ≡ [] → W.state world.new ≡ W.state world.old }
+{
+    match load_classes(rt, alloc, world, files.puts.as_slice())? {
+        Files::Classes(puts) => add_sources(rt, alloc, world, files, puts),
+        wrong => Ok(wrong),
+    }
 }

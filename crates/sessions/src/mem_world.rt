@@ -124,7 +124,7 @@ impl<R: Wait> World for MemWorld<'_, R> {
         from: u64,
         count: u64,
     ) -> Result<Page, AllocError> {
-        shared_page(
+        let (page, _) = shared_page(
             self.rt,
             alloc,
             &self.listings,
@@ -132,6 +132,7 @@ impl<R: Wait> World for MemWorld<'_, R> {
             env.env(),
             from,
             count,
-        )
+        )?;
+        Ok(page)
     }
 }

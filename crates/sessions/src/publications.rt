@@ -9,15 +9,17 @@ ghost use Rattle.sessions.specs.Outcomes.{replied_or};
 ghost use Rattle.sessions.specs.Publications.{Learns};
 
 use crate::failure::Failure;
-use crate::loading::{Files, load_classes};
+use crate::loading::{Files, load_files};
 use crate::replies::{failure_reply, result_reply};
 use crate::world::World;
+use answers::NamedFiles;
 use decl_index::{Change, ChangeFault};
 use itoa::Buffer;
 use json_rpc::Id;
 use lists::{Items, Text};
 use lsp_forms::make_version;
 use std::alloc::{AllocError, Global};
+use std::thread::Threads;
 
 /// How many bytes a version and the end of its reply take at most.
 const ROOM: usize = 12;
@@ -79,19 +81,20 @@ pub fn make_change<W: World>(
     }
 }
 
-/// Publishes the classes of the files of these names, removes the classes of those, and sets the counts of uses: the
-/// files are loaded first, and the first that gives no class is answered.
+/// Publishes the classes of these files, removes the classes of these names, and sets the counts of uses: the files are
+/// loaded first, and the first that gives nothing is answered.
 pub fn publish<W: World>(
+    rt: &(impl Threads + Sync),
     alloc: Global,
     id: &Id,
-    names: Items<Text>,
+    files: &NamedFiles,
     removes: Items<Text>,
     counts: Items<(Text, u32)>,
     world: &mut W,
 ) -> Result<Vec<u8>, AllocError>
-    ensures answered { (s : Seen) → Answered s (publishes id.now names removes counts) s (replied_or id.now result) (W.state world.old) (W.state world.new) }
+    ensures answered { (s : Seen) → Answered s (publishes id.now files.now removes counts) s (replied_or id.now result) (W.state world.old) (W.state world.new) }
 {
-    match load_classes(alloc, world, names.as_slice())? {
+    match load_files(rt, alloc, world, files)? {
         Files::Classes(puts) => {
             let change = Change::Publish {
                 puts,
@@ -119,6 +122,9 @@ pub fn publish<W: World>(
                 place,
             },
         ),
+        Files::NoText(index) => {
+            failure_reply(alloc, Some(id), Failure::InvalidParams { cause: 21, index })
+        }
         Files::Unreadable(index) => { failure_reply(alloc, Some(id), Failure::ReadFault { index }) }
     }
 }

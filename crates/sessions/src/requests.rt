@@ -20,7 +20,7 @@ use crate::publications::{make_change, publish};
 use crate::replies::{failure_reply, null_reply, result_reply};
 use crate::session::Session;
 use crate::world::World;
-use answers::{DocumentState, Phase};
+use answers::{DocumentState, NamedFiles, Phase};
 use decl_index::Change;
 use json_rpc::{Id, Refused};
 use lsp_forms::{
@@ -29,6 +29,7 @@ use lsp_forms::{
 };
 use serde_json::Value;
 use std::alloc::{AllocError, Global};
+use std::thread::Threads;
 
 /// The reply -32602 with a cause.
 fn fault_reply(alloc: Global, id: &Id, cause: u32, index: u32) -> Result<Vec<u8>, AllocError>
@@ -56,6 +57,7 @@ impl Session {
     #[tactic(auto, using(crate::proofs::Replied::outcomes))]
     pub fn request<W: World>(
         &mut self,
+        rt: &(impl Threads + Sync),
         alloc: Global,
         id: Id,
         method: &str,
@@ -64,7 +66,7 @@ impl Session {
     ) -> Outcome
         ensures answered { Answered self.old (request_by self.old.phase self.old id method.now (view params.now)) self.new (said_of (Ok result)) (W.state world.old) (W.state world.new) }
     {
-        match self.reply(alloc, &id, method, params, world) {
+        match self.reply(rt, alloc, &id, method, params, world) {
             Ok(reply) => Outcome::Reply(reply),
             Err(_) => Outcome::NoMemory(id),
         }
@@ -74,6 +76,7 @@ impl Session {
     #[tactic(auto, using(crate::proofs::Replied::phases))]
     fn reply<W: World>(
         &mut self,
+        rt: &(impl Threads + Sync),
         alloc: Global,
         id: &Id,
         method: &str,
@@ -84,7 +87,7 @@ impl Session {
     {
         match self.phase {
             Phase::Fresh => self.reply_fresh(alloc, id, method, params),
-            Phase::Running => self.reply_running(alloc, id, method, params, world),
+            Phase::Running => self.reply_running(rt, alloc, id, method, params, world),
             Phase::Stopped => failure_reply(alloc, Some(id), Failure::InvalidRequest),
         }
     }
@@ -125,6 +128,7 @@ impl Session {
     /// The reply between `initialize` and `shutdown`.
     fn reply_running<W: World>(
         &mut self,
+        rt: &(impl Threads + Sync),
         alloc: Global,
         id: &Id,
         method: &str,
@@ -137,7 +141,7 @@ impl Session {
             return self.complete(alloc, id, params, world);
         }
         if method == "workspace/executeCommand" {
-            return self.command(alloc, id, params, world);
+            return self.command(rt, alloc, id, params, world);
         }
         if method == "shutdown" {
             return self.stop(alloc, id);
@@ -203,6 +207,7 @@ impl Session {
     /// Answers a command.
     fn command<W: World>(
         &mut self,
+        rt: &(impl Threads + Sync),
         alloc: Global,
         id: &Id,
         params: &Value,
@@ -223,8 +228,17 @@ impl Session {
                     puts,
                     removes,
                     counts,
+                    sources,
+                    known,
                 },
-            ) => publish(alloc, id, puts, removes, counts, world),
+            ) => {
+                let files = NamedFiles {
+                    puts,
+                    sources,
+                    known,
+                };
+                publish(rt, alloc, id, &files, removes, counts, world)
+            }
             Ok(Command::Withdraw { through }) => {
                 make_change(alloc, id, Change::Withdraw(through), world)
             }

@@ -11,6 +11,7 @@ use crate::world::World;
 use json_rpc::{FrameFault, Frames, write_frame, write_no_memory};
 use outside::{Sink, Source};
 use std::alloc::{AllocError, Global};
+use std::thread::Threads;
 
 /// Writes what tells an outcome, and answers how it ended the session, where it did. It takes no memory.
 fn write_outcome<K: Sink>(sink: &mut K, outcome: &Result<Outcome, AllocError>) -> Option<Ending>
@@ -35,6 +36,7 @@ fn write_outcome<K: Sink>(sink: &mut K, outcome: &Result<Outcome, AllocError>) -
 
 /// Answers one message: the reply is written before anything else is read.
 fn answer<W: World, K: Sink>(
+    rt: &(impl Threads + Sync),
     alloc: Global,
     session: &mut Session,
     body: &[u8],
@@ -45,7 +47,7 @@ fn answer<W: World, K: Sink>(
     ensures later { K.faults sink.old ≤ K.faults sink.new }
     ensures cause { result ≡ Some Ending.Sink → Rose (K.faults sink.old) (K.faults sink.new) }
 {
-    let outcome = session.step(alloc, body, world);
+    let outcome = session.step(rt, alloc, body, world);
     write_outcome(sink, &outcome)
 }
 
@@ -53,6 +55,7 @@ fn answer<W: World, K: Sink>(
 /// is read.
 #[tactic(auto, using(crate::proofs::Furthers::serving))]
 pub fn serve<W: World, S: Source, K: Sink>(
+    rt: &(impl Threads + Sync),
     alloc: Global,
     session: &mut Session,
     frames: &mut Frames,
@@ -73,7 +76,7 @@ pub fn serve<W: World, S: Source, K: Sink>(
             Ok(None) => return Ending::Input,
             Err(fault) => return Ending::Frames(fault),
         };
-        if let Some(ending) = answer(alloc, session, &body, world, sink) {
+        if let Some(ending) = answer(rt, alloc, session, &body, world, sink) {
             return ending;
         }
     }

@@ -18,6 +18,7 @@ use json_rpc::{Message, RpcFault, RpcRefusal, read_message};
 use lsp_forms::Initialize;
 use std::alloc::{AllocError, Global};
 use std::marker::Model;
+use std::thread::Threads;
 
 /// What is kept of one client between its messages.
 #[derive(Drop)]
@@ -88,6 +89,7 @@ impl Session {
     /// reply has the id null, or the name of a document that is opened found no room. The session then ends.
     pub fn step<W: World>(
         &mut self,
+        rt: &(impl Threads + Sync),
         alloc: Global,
         body: &[u8],
         world: &mut W,
@@ -96,7 +98,7 @@ impl Session {
     {
         match read_message(alloc, body) {
             Ok(Message::Request { id, method, params }) => {
-                Ok(self.request(alloc, id, method.as_str(), &params, world))
+                Ok(self.request(rt, alloc, id, method.as_str(), &params, world))
             }
             Ok(Message::Notice { method, params }) => {
                 self.notice(alloc, method.as_str(), &params)

@@ -104,9 +104,9 @@ fn kept_listing<E: Levels + Drop, R: Wait>(
 }
 
 /// The page of at most `count` items of the environment's list, from the item `from` on, counted from 0, by the listing
-/// that is kept under the fingerprint where that is of this environment, and else by one of its own. It may wait for
-/// another client's search on the same listing, and holds no other lock meanwhile. After want of memory the kept listing
-/// has what it had found, or more.
+/// that is kept under the fingerprint where that is of this environment, and else by one of its own. With it comes the
+/// slot of the kept listing, where that one was used. It may wait for another client's search on the same listing, or for
+/// a worker's, and holds no other lock meanwhile. After want of memory the kept listing has what it had found, or more.
 pub fn shared_page<E: Levels + Drop, R: Wait>(
     rt: &R,
     alloc: Global,
@@ -115,15 +115,15 @@ pub fn shared_page<E: Levels + Drop, R: Wait>(
     env: &Env,
     from: u64,
     count: u64,
-) -> Result<Page, AllocError>
+) -> Result<(Page, Option<Arc<Mutex<Listing<E>>, Global>>), AllocError>
     requires from { from < 2 ^ 62 }
     requires count { (1 ≤ count) × (count ≤ 1000) }
-    ensures page { IfOk result (λ page. IsPageOf env.now from count page) }
-    ensures small { IfOk result (λ page. from + length page.items < 2 ^ 62) }
+    ensures page { IfOk result (λ found. IsPageOf env.now from count found.0) }
+    ensures small { IfOk result (λ found. from + length found.0.items < 2 ^ 62) }
 {
     let slot = kept_listing(rt, alloc, shelf, print, env)?;
     match kept_page(rt, alloc, &slot, env, from, count)? {
-        Some(page) => Ok(page),
-        None => own_page::<E>(alloc, env, from, count),
+        Some(page) => Ok((page, Some(slot))),
+        None => Ok((own_page::<E>(alloc, env, from, count)?, None)),
     }
 }

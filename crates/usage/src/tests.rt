@@ -33,6 +33,7 @@ Arguments:
 
 Options:
       --start <FILE>  Start with the class files whose paths this file names, one a line
+      --ahead <N>     Let 1 to 8 workers find the next page of a list while a client reads one
 ";
 
 #[test]

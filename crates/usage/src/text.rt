@@ -35,18 +35,22 @@ fn sample_command<'a>(alloc: Global) -> Result<Command<'a>, AllocError> {
         .arg(number)
 }
 
-/// `serve [--start FILE] [IN=OUT ..]`.
+/// `serve [--start FILE] [--ahead N] [IN=OUT ..]`.
 fn serve_command<'a>(alloc: Global) -> Result<Command<'a>, AllocError> {
     let start = Arg::new(alloc, "start")
         .long("start")
         .value_name("FILE")
         .help("Start with the class files whose paths this file names, one a line");
+    let ahead = Arg::new(alloc, "ahead").long("ahead").value_name("N").help(
+        "Let 1 to 8 workers find the next page of a list while a client reads one",
+    );
     let pairs = Arg::new(alloc, "IN=OUT").action(ArgAction::Append).help(
         "Serve a further client, which writes IN and reads OUT; at most 63",
     );
     Command::new(alloc, "serve")
         .about("Serve a client on standard input and output")
         .arg(start)?
+        .arg(ahead)?
         .arg(pairs)
 }
 

@@ -1,7 +1,7 @@
-use Rattle.std.proofs.Common.{rules, ◌≡◌, ◌∷◌, ◌++◌, ◌<◌, ◌≤◌, ◌+◌, List, [], ℕ, None, length, map, take, refl, sym, ap, subst, ◌∙◌, arith}
+use Rattle.std.proofs.Common.{rules, ◌≡◌, ◌∷◌, ◌++◌, ◌<◌, ◌≤◌, ◌+◌, [], None, length, map, take, refl, sym, ap, subst, ◌∙◌, arith}
 use Rattle.std.specs.Prelude.{codes, string_bytes, option_map}
 use Rattle.std.proofs.lemmas.List.{take_all, length-map}
-use Rattle.command_line.specs.Words.{Commands, IsFirstWrong, serve}
+use Rattle.command_line.specs.Words.{IsFirstWrong, serve}
 use Rattle.command_line.specs.Scanned.{Scanned, IsStuck, names_in, named}
 use Rattle.command_line.proofs.Commands.{few-scanned, mapped-at, wrong-word, next-word, map-long}
 use Rattle.command_line.proofs.names.names_of.Goals as goal
@@ -47,7 +47,7 @@ returns-in-Ok-clause-names c =
     let end : length c.args.rest.now ≤ i = search rules in
     let whole : take i ws ≡ ws = take_all i ws (omega (arith, end, length-map c.args.rest.now string_bytes)) in
     let all : Scanned ws c.loop-word.scan (map named c.loop-word.names.items) = subst (λ x. Scanned x c.loop-word.scan (map named c.loop-word.names.items)) whole c.loop-word.invariant in
-    (serve (option_map (λ s. s.now) c.loop-word.scan.start) (map named c.loop-word.names.items), c.in-Ok.ensures ws (map named c.loop-word.names.items) all, refl)
+    (serve (option_map (λ s. s.now) c.loop-word.scan.start) (map named c.loop-word.names.items) c.loop-word.scan.ahead, c.in-Ok.ensures ws (map named c.loop-word.names.items) all, refl)
 
 pub returns-in-Err-clause-fault : goal.returns-in-Err-clause-fault
 returns-in-Err-clause-fault c =

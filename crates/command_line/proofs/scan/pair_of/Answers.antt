@@ -1,4 +1,4 @@
-use Rattle.std.proofs.Common.{rules, tests, ◌≡◌, ◌≢◌, ◌∷◌, ◌++◌, ◌<◌, ◌≤◌, ℕ, List, [], length, map, take, true, false, None, Some, sym, ap, subst, ◌∙◌, arith}
+use Rattle.std.proofs.Common.{rules, tests, ◌≡◌, ◌≢◌, [], length}
 use Rattle.command_line.specs.Words.{IsFileName}
 use Rattle.command_line.proofs.Commands.{nothing-in, pair-none, pair-split, pair-found}
 use Rattle.command_line.proofs.scan.pair_of.Goals as goal

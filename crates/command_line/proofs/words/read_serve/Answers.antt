@@ -1,8 +1,8 @@
-use Rattle.std.proofs.Common.{rules, ◌≡◌, ◌∷◌, ◌++◌, ◌<◌, ◌≤◌, ◌+◌, List, [], ℕ, None, length, map, take, refl, sym, ap, subst, ◌∙◌, arith}
-use Rattle.std.specs.Prelude.{codes, string_bytes, option_map}
+use Rattle.std.proofs.Common.{rules, ◌≡◌, ◌∷◌, ◌++◌, ◌<◌, ◌≤◌, [], None, length, map, take, sym, ap, subst, ◌∙◌, arith}
+use Rattle.std.specs.Prelude.{codes, string_bytes}
 use Rattle.std.proofs.lemmas.List.{take_all, length-map}
-use Rattle.command_line.specs.Words.{Commands, IsFirstWrong, serve}
-use Rattle.command_line.specs.Scanned.{Scanned, IsStuck, names_in, named}
+use Rattle.command_line.specs.Words.{IsFirstWrong}
+use Rattle.command_line.specs.Scanned.{Scanned, IsStuck, names_in}
 use Rattle.command_line.proofs.Commands.{few-scanned, mapped-at, wrong-word, next-word, map-long}
 use Rattle.command_line.proofs.words.read_serve.Goals as goal
 

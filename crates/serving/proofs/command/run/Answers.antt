@@ -4,8 +4,8 @@ use Rattle.outside.specs.Causes.{Rose}
 use Rattle.std.proofs.lemmas.Option.{slice_get-map}
 use Rattle.serving.specs.Services.{view_of}
 use Rattle.serving.specs.Usages.{IsUsage}
-use Rattle.command_line.specs.Words.{list, upgrade, serve, count, sample, AskFor, Commands, ends_of}
-use Rattle.command_line.proofs.Asked.{asked-of, ends-asked, serve-start, not-upgraded, upgrade-not-served, upgrade-not-counted, upgrade-not-sampled, not-counted, count-not-served, not-sampled, count-not-sampled, sample-not-served}
+use Rattle.command_line.specs.Words.{list, upgrade, serve, count, sample, AskFor, Commands, HasFewWorkers, ends_of}
+use Rattle.command_line.proofs.Asked.{asked-of, ends-asked, serve-told, not-upgraded, upgrade-not-served, upgrade-not-counted, upgrade-not-sampled, not-counted, count-not-served, not-sampled, count-not-sampled, sample-not-served}
 use Rattle.statuses.specs.declared.status.Status.{Status}
 use Rattle.command_line.specs.declared.command.Command.TheVariants as command
 use Rattle.serving.proofs.Endings.{sheet-asked, sheet-not-wrong, sheet-not-served, sheet-not-counted, sheet-not-sampled}
@@ -29,7 +29,7 @@ pub returns-in-Err-clause-shelf_stays : goal.returns-in-Err-clause-shelf_stays
 returns-in-Err-clause-shelf_stays g c = λ i e f words at_e at_f. absurd (sheet-not-wrong (map string_bytes c.args.words.now) _ words c.in-Err.ensures.command)
 
 pub returns-in-Err-clause-serving : goal.returns-in-Err-clause-serving
-returns-in-Err-clause-serving g c = λ start pairs words many. absurd (c.in-Err.ensures.command.nothing (serve start pairs) words)
+returns-in-Err-clause-serving g c = λ start pairs workers words many. absurd (c.in-Err.ensures.command.nothing (serve start pairs workers) words)
 
 pub returns-in-Err-clause-complete : goal.returns-in-Err-clause-complete
 returns-in-Err-clause-complete g c = λ e f bytes parts before after words left sheet source sink. absurd (sheet-not-wrong (map string_bytes c.args.words.now) _ words c.in-Err.ensures.command)
@@ -71,13 +71,13 @@ returns-then-len-ends-clause-usage_alone g c = λ two.
     subst (IsUsage ws n) (sym told) (is-wrong-ends ws n asked.0 asked.1 (λ e. other (e ∙ asked.2)))
 
 pub returns-then-len-ends-clause-serving : goal.returns-then-len-ends-clause-serving
-returns-then-len-ends-clause-serving g c = λ start pairs words many.
+returns-then-len-ends-clause-serving g c = λ start pairs workers words many.
     let ws = map string_bytes c.args.words.now in
     let n = length c.args.ends.now.items in
     let h : Commands c.in-Ok.command ws = search rules in
     let asked = asked-of c.in-Ok.command ws h in
     let other : n ≢ ends_of c.in-Ok.command = search (rules, tests) in
-    absurd (other (many ∙ sym (ends-asked c.in-Ok.command ws (serve start pairs) h words)))
+    absurd (other (many ∙ sym (ends-asked c.in-Ok.command ws (serve start pairs workers) h words)))
 
 pub returns-then-len-ends-clause-upgrading : goal.returns-then-len-ends-clause-upgrading
 returns-then-len-ends-clause-upgrading g c = λ words one.
@@ -218,9 +218,9 @@ returns-in-Upgrade-clause-upgrading g c = λ words one.
     )
 
 pub returns-in-Upgrade-clause-serving : goal.returns-in-Upgrade-clause-serving
-returns-in-Upgrade-clause-serving g c = λ start pairs words many.
+returns-in-Upgrade-clause-serving g c = λ start pairs workers words many.
     let h : AskFor upgrade (map string_bytes c.args.words.now) = search rules in
-    absurd (upgrade-not-served (map string_bytes c.args.words.now) start pairs h words)
+    absurd (upgrade-not-served (map string_bytes c.args.words.now) start pairs workers h words)
 
 pub returns-in-Upgrade-clause-complete : goal.returns-in-Upgrade-clause-complete
 returns-in-Upgrade-clause-complete g c = λ e f bytes parts before after words left sheet source sink.
@@ -276,42 +276,47 @@ pub returns-in-Serve-clause-usage_alone : goal.returns-in-Serve-clause-usage_alo
 returns-in-Serve-clause-usage_alone g c = λ two.
     absurd (no-usage-served c.serve.result _ _ _ c.serve.ensures.lasts.count c.serve.ensures.serves (sym (ap (λ (s : Status). s.code) c.of_serving.ensures) ∙ two))
 
+pub serve-requires-clause-ahead : goal.serve-requires-clause-ahead
+serve-requires-clause-ahead g c κs within =
+    let few : HasFewWorkers c.in-Ok.command = search rules in
+    subst HasFewWorkers c.in-Serve.is few
+
 pub returns-in-Serve-clause-serving : goal.returns-in-Serve-clause-serving
-returns-in-Serve-clause-serving g c = λ start pairs words many.
+returns-in-Serve-clause-serving g c = λ start pairs workers words many.
     let ws = map string_bytes c.args.words.now in
     let n = length c.args.ends.now.items in
     let h : Commands c.in-Ok.command ws = search rules in
     let asked = asked-of c.in-Ok.command ws h in
-    let same = serve-start c.in-Ok.command c.in-Serve.start _ ws start pairs c.in-Serve.is h words in
+    let same = (serve-told c.in-Ok.command c.in-Serve.start _ _ ws start pairs workers c.in-Serve.is h words).0 in
     (c.serve.result, c.of_serving.ensures, rw (← same) c.serve.ensures.serves, c.serve.ensures.untouched)
 
 pub returns-in-Serve-clause-refuses : goal.returns-in-Serve-clause-refuses
 returns-in-Serve-clause-refuses g c = λ e f bytes fault before after words left wrong source.
     let ws = map string_bytes c.args.words.now in
     let h : Commands c.in-Ok.command ws = search rules in
-    let told : Commands (command.Serve c.in-Serve.start _) ws = subst (λ x. Commands x ws) c.in-Serve.is h in
-    absurd (sheet-not-served ws _ _ words told.2)
+    let told : Commands (command.Serve c.in-Serve.start _ _) ws = subst (λ x. Commands x ws) c.in-Serve.is h in
+    absurd (sheet-not-served ws _ _ _ words told.2)
 
 pub returns-in-Serve-clause-complete : goal.returns-in-Serve-clause-complete
 returns-in-Serve-clause-complete g c = λ e f bytes parts before after words left sheet source sink.
     let ws = map string_bytes c.args.words.now in
     let h : Commands c.in-Ok.command ws = search rules in
-    let told : Commands (command.Serve c.in-Serve.start _) ws = subst (λ x. Commands x ws) c.in-Serve.is h in
-    absurd (sheet-not-served ws _ _ words told.2)
+    let told : Commands (command.Serve c.in-Serve.start _ _) ws = subst (λ x. Commands x ws) c.in-Serve.is h in
+    absurd (sheet-not-served ws _ _ _ words told.2)
 
 pub returns-in-Serve-clause-shelf_stays : goal.returns-in-Serve-clause-shelf_stays
 returns-in-Serve-clause-shelf_stays g c = λ i e f words at_e at_f.
     let ws = map string_bytes c.args.words.now in
     let h : Commands c.in-Ok.command ws = search rules in
-    let told : Commands (command.Serve c.in-Serve.start _) ws = subst (λ x. Commands x ws) c.in-Serve.is h in
-    absurd (sheet-not-served ws _ _ words told.2)
+    let told : Commands (command.Serve c.in-Serve.start _ _) ws = subst (λ x. Commands x ws) c.in-Serve.is h in
+    absurd (sheet-not-served ws _ _ _ words told.2)
 
 pub returns-in-Serve-clause-upgrading : goal.returns-in-Serve-clause-upgrading
 returns-in-Serve-clause-upgrading g c = λ words one.
     let ws = map string_bytes c.args.words.now in
     let h : Commands c.in-Ok.command ws = search rules in
-    let told : Commands (command.Serve c.in-Serve.start _) ws = subst (λ x. Commands x ws) c.in-Serve.is h in
-    absurd (upgrade-not-served ws _ _ words told.2)
+    let told : Commands (command.Serve c.in-Serve.start _ _) ws = subst (λ x. Commands x ws) c.in-Serve.is h in
+    absurd (upgrade-not-served ws _ _ _ words told.2)
 
 pub returns-in-Serve-clause-faults_rise : goal.returns-in-Serve-clause-faults_rise
 returns-in-Serve-clause-faults_rise g c = λ i e f at_e at_f.
@@ -329,29 +334,29 @@ pub returns-in-Serve-clause-counting : goal.returns-in-Serve-clause-counting
 returns-in-Serve-clause-counting g c = λ start words one.
     let ws = map string_bytes c.args.words.now in
     let h : Commands c.in-Ok.command ws = search rules in
-    let told : Commands (command.Serve c.in-Serve.start _) ws = subst (λ x. Commands x ws) c.in-Serve.is h in
-    absurd (count-not-served ws start _ _ words told.2)
+    let told : Commands (command.Serve c.in-Serve.start _ _) ws = subst (λ x. Commands x ws) c.in-Serve.is h in
+    absurd (count-not-served ws start _ _ _ words told.2)
 
 pub returns-in-Serve-clause-complete_count : goal.returns-in-Serve-clause-complete_count
 returns-in-Serve-clause-complete_count g c = λ e f files start before after words held sound shelf sink.
     let ws = map string_bytes c.args.words.now in
     let h : Commands c.in-Ok.command ws = search rules in
-    let told : Commands (command.Serve c.in-Serve.start _) ws = subst (λ x. Commands x ws) c.in-Serve.is h in
-    absurd (count-not-served ws start _ _ words told.2)
+    let told : Commands (command.Serve c.in-Serve.start _ _) ws = subst (λ x. Commands x ws) c.in-Serve.is h in
+    absurd (count-not-served ws start _ _ _ words told.2)
 
 pub returns-in-Serve-clause-sampling : goal.returns-in-Serve-clause-sampling
 returns-in-Serve-clause-sampling g c = λ n words one.
     let ws = map string_bytes c.args.words.now in
     let h : Commands c.in-Ok.command ws = search rules in
-    let told : Commands (command.Serve c.in-Serve.start _) ws = subst (λ x. Commands x ws) c.in-Serve.is h in
-    absurd (sample-not-served ws n _ _ words told.2)
+    let told : Commands (command.Serve c.in-Serve.start _ _) ws = subst (λ x. Commands x ws) c.in-Serve.is h in
+    absurd (sample-not-served ws n _ _ _ words told.2)
 
 pub returns-in-Serve-clause-complete_sample : goal.returns-in-Serve-clause-complete_sample
 returns-in-Serve-clause-complete_sample g c = λ e f n before after words sink.
     let ws = map string_bytes c.args.words.now in
     let h : Commands c.in-Ok.command ws = search rules in
-    let told : Commands (command.Serve c.in-Serve.start _) ws = subst (λ x. Commands x ws) c.in-Serve.is h in
-    absurd (sample-not-served ws n _ _ words told.2)
+    let told : Commands (command.Serve c.in-Serve.start _ _) ws = subst (λ x. Commands x ws) c.in-Serve.is h in
+    absurd (sample-not-served ws n _ _ _ words told.2)
 
 pub run_plain-requires-in-Count : goal.run_plain-requires-in-Count
 run_plain-requires-in-Count g c =
@@ -378,9 +383,9 @@ returns-in-Count-clause-upgrading g c = λ words one.
     absurd (upgrade-not-counted (map string_bytes c.args.words.now) _ words h)
 
 pub returns-in-Count-clause-serving : goal.returns-in-Count-clause-serving
-returns-in-Count-clause-serving g c = λ start pairs words many.
+returns-in-Count-clause-serving g c = λ start pairs workers words many.
     let h : AskFor (count c.in-Count.start.now) (map string_bytes c.args.words.now) = search rules in
-    absurd (count-not-served (map string_bytes c.args.words.now) _ start pairs h words)
+    absurd (count-not-served (map string_bytes c.args.words.now) _ start pairs workers h words)
 
 pub returns-in-Count-clause-counting : goal.returns-in-Count-clause-counting
 returns-in-Count-clause-counting g c = λ start words one.
@@ -456,9 +461,9 @@ returns-in-Sample-clause-upgrading g c = λ words one.
     absurd (upgrade-not-sampled (map string_bytes c.args.words.now) _ words h)
 
 pub returns-in-Sample-clause-serving : goal.returns-in-Sample-clause-serving
-returns-in-Sample-clause-serving g c = λ start pairs words many.
+returns-in-Sample-clause-serving g c = λ start pairs workers words many.
     let h : AskFor (sample c.in-Sample.number) (map string_bytes c.args.words.now) = search rules in
-    absurd (sample-not-served (map string_bytes c.args.words.now) _ start pairs h words)
+    absurd (sample-not-served (map string_bytes c.args.words.now) _ start pairs workers h words)
 
 pub returns-in-Sample-clause-counting : goal.returns-in-Sample-clause-counting
 returns-in-Sample-clause-counting g c = λ start words one.

@@ -8,7 +8,7 @@ invariant-loop-name g l =
     let state = g.W.World.state in
     record {
       files : LeavesFiles ⊥ (state l.fn.world) (state l.world);
-      read : IsUpTo (state l.fn.world).holds l.names l.rest l.index l.classes;
+      read : IsUpTo (state l.fn.world).holds l.names l.rest l.index l.reading;
       none : l.names ≡ [] → (l.rest ≡ []) × (state l.world ≡ state l.fn.world);
     }
 

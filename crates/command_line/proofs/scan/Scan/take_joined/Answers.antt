@@ -1,4 +1,4 @@
-use Rattle.std.proofs.Common.{rules, tests, ◌≡◌, ◌≢◌, ◌∷◌, ◌++◌, ◌<◌, ◌≤◌, ℕ, List, [], length, map, take, true, false, None, Some, sym, ap, subst, ◌∙◌, arith}
+use Rattle.std.proofs.Common.{rules, tests}
 use Rattle.command_line.specs.Words.{IsFileName}
 use Rattle.command_line.proofs.Commands.{stuck-again, stuck-joined, took-joined}
 use Rattle.command_line.proofs.scan.Scan.take_joined.Goals as goal

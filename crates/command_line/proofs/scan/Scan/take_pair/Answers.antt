@@ -1,4 +1,4 @@
-use Rattle.std.proofs.Common.{rules, tests, ◌≡◌, ◌≢◌, ◌∷◌, ◌++◌, ◌<◌, ◌≤◌, ℕ, List, [], length, map, take, true, false, None, Some, sym, ap, subst, ◌∙◌, arith}
+use Rattle.std.proofs.Common.{rules, tests, ◌≡◌, ◌∷◌, ◌++◌, ◌<◌, ◌≤◌}
 use Rattle.command_line.specs.Words.{IsPair, most_pairs}
 use Rattle.command_line.proofs.Commands.{stuck-full, stuck-pair, took-pair}
 use Rattle.command_line.proofs.scan.Scan.take_pair.Goals as goal
@@ -6,10 +6,10 @@ use Rattle.command_line.proofs.scan.Scan.take_pair.Goals as goal
 pub returns-then-self-ge-MOST_PAIRS : goal.returns-then-self-ge-MOST_PAIRS
 returns-then-self-ge-MOST_PAIRS c = λ words pairs s.
     let full : most_pairs ≤ c.args.self.now.pairs = search (rules, tests) in
-    stuck-full words c.args.self.now pairs c.args.word.now c.requires.plain c.requires.other.0 c.requires.other.1 full s
+    stuck-full words c.args.self.now pairs c.args.word.now c.requires.plain c.requires.other full s
 
 pub returns-in_default : goal.returns-in_default
-returns-in_default c = λ words pairs s. stuck-pair words c.args.self.now pairs c.args.word.now c.requires.plain c.requires.other.0 c.requires.other.1 (search rules) s
+returns-in_default c = λ words pairs s. stuck-pair words c.args.self.now pairs c.args.word.now c.requires.plain c.requires.other (search rules) s
 
 pub returns : goal.returns
 returns c = λ words pairs s.

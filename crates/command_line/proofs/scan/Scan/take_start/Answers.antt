@@ -1,4 +1,4 @@
-use Rattle.std.proofs.Common.{rules, tests, ◌≡◌, ◌≢◌, ◌∷◌, ◌++◌, ◌<◌, ◌≤◌, ℕ, List, [], length, map, take, true, false, None, Some, sym, ap, subst, ◌∙◌, arith}
+use Rattle.std.proofs.Common.{rules}
 use Rattle.command_line.proofs.Commands.{stuck-start, took-start}
 use Rattle.command_line.proofs.scan.Scan.take_start.Goals as goal
 

@@ -30,7 +30,7 @@ returns-in-Ok-Explain g c = record {
 
 pub returns-in-Ok-Publish : goal.returns-in-Ok-Publish
 returns-in-Ok-Publish g c = record {
-  answered = publishes_so c.args.self.now _ c.args.id.now (view c.args.params.now) c.in-Ok-Publish.puts c.in-Ok-Publish.removes c.in-Ok-Publish.counts c.publish.result
+  answered = publishes_so c.args.self.now _ c.args.id.now (view c.args.params.now) c.in-Ok-Publish.puts c.in-Ok-Publish.removes c.in-Ok-Publish.counts c.in-Ok-Publish.sources c.in-Ok-Publish.known c.publish.result
       (g.W.World.state c.args.world.now) (g.W.World.state c.publish.new.world) (search rules) c.publish.ensures.answered (search rules);
 }
 
