@@ -215,21 +215,89 @@ fn lambdas_in_lambdas_are_listed_alike(rt: HostRuntime) -> Result<(), EnvFault> 
     Ok(())
 }
 
-// An interface whose lambda takes itself and gives itself.
-#[test]
-fn lambdas_of_their_own_type_are_listed_alike(rt: HostRuntime) -> Result<(), EnvFault> {
+/// Whether both searches give this list for an interface whose lambda takes itself and gives itself, three deep at most.
+fn own_lists(alloc: Global, limit: u32, wanted: &[(u32, &str)]) -> Result<bool, EnvFault> {
     let shown = Shown {
         types: 1,
         pairs: &[],
         lines: &[lambda("J", 10, 0, &[0], &[0])],
         goal: 0,
-        limit: 33,
+        limit,
         depth: 3,
     };
+    have_one_list(alloc, &shown, wanted)
+}
+
+#[test]
+fn lambdas_of_their_own_type_are_listed_alike(rt: HostRuntime) -> Result<(), EnvFault> {
     let wanted = [
         (12, "(J) (p0) -> p0"),
         (23, "(J) (p0) -> (J) (p1) -> p0"),
         (23, "(J) (p0) -> (J) (p1) -> p1"),
+    ];
+    assert!(rt; own_lists(rt.alloc(), 33, &wanted)?);
+    Ok(())
+}
+
+// A fourth lambda would be within the limit.
+#[test]
+fn lambdas_of_their_own_type_end_at_the_depth(rt: HostRuntime) -> Result<(), EnvFault> {
+    let wanted = [
+        (12, "(J) (p0) -> p0"),
+        (23, "(J) (p0) -> (J) (p1) -> p0"),
+        (23, "(J) (p0) -> (J) (p1) -> p1"),
+        (34, "(J) (p0) -> (J) (p1) -> (J) (p2) -> p0"),
+        (34, "(J) (p0) -> (J) (p1) -> (J) (p2) -> p1"),
+        (34, "(J) (p0) -> (J) (p1) -> (J) (p2) -> p2"),
+    ];
+    assert!(rt; own_lists(rt.alloc(), 45, &wanted)?);
+    Ok(())
+}
+
+// In both arguments of `h` one lambda more may stand, and within the limit two would fit.
+#[test]
+fn depth_counts_along_each_branch_alike(rt: HostRuntime) -> Result<(), EnvFault> {
+    let shown = Shown {
+        types: 2,
+        pairs: &[],
+        lines: &[call("h", 5, 0, &[1, 1]), lambda("I", 10, 1, &[0], &[0])],
+        goal: 1,
+        limit: 68,
+        depth: 2,
+    };
+    let wanted = [
+        (12, "(I) (p0) -> p0"),
+        (40, "(I) (p0) -> h((I) (p1) -> p0, (I) (p1) -> p0)"),
+        (40, "(I) (p0) -> h((I) (p1) -> p0, (I) (p1) -> p1)"),
+        (40, "(I) (p0) -> h((I) (p1) -> p1, (I) (p1) -> p0)"),
+        (40, "(I) (p0) -> h((I) (p1) -> p1, (I) (p1) -> p1)"),
+    ];
+    assert!(rt; have_one_list(rt.alloc(), &shown, &wanted)?);
+    Ok(())
+}
+
+// The rows bind the two types in turned order, so that a variable of a wrong row has a wrong type.
+#[test]
+fn rows_of_two_types_are_listed_alike(rt: HostRuntime) -> Result<(), EnvFault> {
+    let shown = Shown {
+        types: 4,
+        pairs: &[],
+        lines: &[
+            call("g", 5, 0, &[0, 1]),
+            lambda("I", 10, 2, &[0], &[1, 0]),
+            lambda("J", 10, 3, &[2], &[0, 1]),
+        ],
+        goal: 3,
+        limit: 31,
+        depth: 2,
+    };
+    let wanted = [
+        (25, "(J) (p0, p1) -> (I) (p2, p3) -> p0"),
+        (25, "(J) (p0, p1) -> (I) (p2, p3) -> p3"),
+        (31, "(J) (p0, p1) -> (I) (p2, p3) -> g(p0, p1)"),
+        (31, "(J) (p0, p1) -> (I) (p2, p3) -> g(p0, p2)"),
+        (31, "(J) (p0, p1) -> (I) (p2, p3) -> g(p3, p1)"),
+        (31, "(J) (p0, p1) -> (I) (p2, p3) -> g(p3, p2)"),
     ];
     assert!(rt; have_one_list(rt.alloc(), &shown, &wanted)?);
     Ok(())

@@ -3,12 +3,13 @@ use crate::load_tests::{A, are_answered};
 use std::alloc::{AllocError, Global};
 use std::sync::Wait;
 use std::test::Fail;
+use std::thread::Threads;
 
 const PUBLISH: &str =
     r#"{"jsonrpc":"2.0","id":2,"method":"workspace/executeCommand","params":{"command":"insynth.publish","arguments":[{"put":["file:///A.class"]}]}}"#;
 
 /// Whether a publication of these bytes is refused, since this cause is violated at this place.
-fn is_refused<R: Wait>(
+fn is_refused<R: Threads + Wait + Sync>(
     rt: &R,
     alloc: Global,
     bytes: &[u8],

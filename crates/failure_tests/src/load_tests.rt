@@ -6,6 +6,7 @@ use sessions::{MemWorld, Outcome, Session, World};
 use std::alloc::{AllocError, Global};
 use std::sync::Wait;
 use std::test::Fail;
+use std::thread::Threads;
 
 const INITIALIZE: &str = r#"{"jsonrpc":"2.0","id":1,"method":"initialize","params":{}}"#;
 
@@ -61,13 +62,14 @@ fn shelf_with(alloc: Global, files: &[Named<'_>], failing: &[u64]) -> Result<Mem
 
 /// Whether a body is answered by this reply, or by none where that is empty.
 fn is_answered<W: World>(
+    rt: &(impl Threads + Sync),
     alloc: Global,
     session: &mut Session,
     world: &mut W,
     body: &str,
     reply: &str,
 ) -> Result<bool, AllocError> {
-    match session.step(alloc, body.as_bytes(), world)? {
+    match session.step(rt, alloc, body.as_bytes(), world)? {
         Outcome::Reply(told) => Ok(told.as_slice() == reply.as_bytes()),
         Outcome::Silent => Ok(reply.is_empty()),
         _ => Ok(false),
@@ -75,7 +77,7 @@ fn is_answered<W: World>(
 }
 
 /// Whether a session over the version 0 and these files answers each body so, one after the other, once it is initialized.
-pub(crate) fn are_answered<R: Wait>(
+pub(crate) fn are_answered<R: Threads + Wait + Sync>(
     rt: &R,
     alloc: Global,
     files: &[Named<'_>],
@@ -84,9 +86,9 @@ pub(crate) fn are_answered<R: Wait>(
 ) -> Result<bool, AllocError> {
     let mut world = MemWorld::new(rt, alloc, shelf_with(alloc, files, failing)?)?;
     let mut session = Session::new(alloc);
-    let _capabilities = session.step(alloc, INITIALIZE.as_bytes(), &mut world)?;
+    let _capabilities = session.step(rt, alloc, INITIALIZE.as_bytes(), &mut world)?;
     for (body, reply) in lines {
-        if !is_answered(alloc, &mut session, &mut world, body, reply)? {
+        if !is_answered(rt, alloc, &mut session, &mut world, body, reply)? {
             return Ok(false);
         }
     }

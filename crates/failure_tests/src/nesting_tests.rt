@@ -3,6 +3,7 @@ use crate::load_tests::are_answered;
 use std::alloc::{AllocError, Global};
 use std::sync::Wait;
 use std::test::Fail;
+use std::thread::Threads;
 
 /// Asks at the character 100,024 of the first line.
 const COMPLETION: &str =
@@ -15,7 +16,7 @@ const NULL: &str = r#"{"id":2,"jsonrpc":"2.0","result":null}"#;
 
 /// Whether a completion behind a hundred thousand of these brackets in a method, at the value of a new variable, is answered
 /// so.
-fn is_answered_behind<R: Wait>(
+fn is_answered_behind<R: Threads + Wait + Sync>(
     rt: &R,
     alloc: Global,
     bracket: &str,

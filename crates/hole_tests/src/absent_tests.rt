@@ -55,14 +55,14 @@ const INNER: Class<'static> = Class {
 
 /// What is offered in the class `Use` alone.
 const NOTHING_MORE: &str =
-    "int String Use boolean \n\n200 name 0 -> int \n200 name true -> boolean \n200 name false -> boolean \n200 name \"\" -> String \n20 new Use -> Use \nint p";
+    "int String Use void boolean \n\n200 name 0 -> int \n200 name true -> boolean \n200 name false -> boolean \n200 name \"\" -> String \n20 call Use.go -> void \n20 new Use -> Use \nint p";
 
 /// Classes in classes that aren't there. Such a class counts as one of its package without PUBLIC.
 const OUTER: [Row<'static>; 5] = [
     Row {
         classes: &[INNER],
         text: "package q; class Use { static void go() { int r = ",
-        shown: "int String q.Gone.In Use boolean \n\n200 name 0 -> int \n200 name true -> boolean \n200 name false -> boolean \n200 name \"\" -> String \n25 name q.Gone.In.s -> int \n25 field f q.Gone.In -> int \n25 new q.Gone.In -> q.Gone.In \n20 new Use -> Use \nint p",
+        shown: "int String q.Gone.In Use void boolean \n\n200 name 0 -> int \n200 name true -> boolean \n200 name false -> boolean \n200 name \"\" -> String \n25 name q.Gone.In.s -> int \n25 field f q.Gone.In -> int \n25 new q.Gone.In -> q.Gone.In \n20 call Use.go -> void \n20 new Use -> Use \nint p",
     },
     Row {
         classes: &[INNER],
@@ -100,7 +100,7 @@ const SUPERS: [Row<'static>; 4] = [
             ..PLAIN
         }],
         text: "package q; class Use { static void go() { Gone r = ",
-        shown: "int String A Gone Use r.Missing boolean \nA < Gone A < r.Missing \n200 name 0 -> int \n200 name true -> boolean \n200 name false -> boolean \n200 name \"\" -> String \n25 field g A -> Gone \n25 field m A -> r.Missing \n25 method n A -> int \n20 new Use -> Use \nGone p",
+        shown: "int String A Gone Use r.Missing void boolean \nA < Gone A < r.Missing \n200 name 0 -> int \n200 name true -> boolean \n200 name false -> boolean \n200 name \"\" -> String \n25 field g A -> Gone \n25 field m A -> r.Missing \n25 method n A -> int \n20 call Use.go -> void \n20 new Use -> Use \nGone p",
     },
     Row {
         classes: &[Class {
@@ -109,7 +109,7 @@ const SUPERS: [Row<'static>; 4] = [
             ..PLAIN
         }],
         text: "package q; class Use { static void go() { int r = ",
-        shown: "int String A Use boolean \n\n200 name 0 -> int \n200 name true -> boolean \n200 name false -> boolean \n200 name \"\" -> String \n25 method n A -> int \n20 new Use -> Use \n10 lambda A fun int -> A \nint p",
+        shown: "int String A Use void boolean \n\n200 name 0 -> int \n200 name true -> boolean \n200 name false -> boolean \n200 name \"\" -> String \n25 method n A -> int \n20 call Use.go -> void \n20 new Use -> Use \n10 lambda A fun int -> A \nint p",
     },
     Row {
         classes: &[Class {
@@ -119,12 +119,12 @@ const SUPERS: [Row<'static>; 4] = [
             ..PLAIN
         }],
         text: "package q; class Use { static void go() { int r = ",
-        shown: "int String A Use boolean \n\n200 name 0 -> int \n200 name true -> boolean \n200 name false -> boolean \n200 name \"\" -> String \n25 method n A -> int \n20 new Use -> Use \nint p",
+        shown: "int String A Use void boolean \n\n200 name 0 -> int \n200 name true -> boolean \n200 name false -> boolean \n200 name \"\" -> String \n25 method n A -> int \n20 call Use.go -> void \n20 new Use -> Use \nint p",
     },
     Row {
         classes: &[],
         text: "package q; class Use extends Gone { void go(Gone g) { Gone r = ",
-        shown: "int String Gone Use boolean \nUse < Gone \n5 this this -> Use \n5 name g -> Gone \n200 name 0 -> int \n200 name true -> boolean \n200 name false -> boolean \n200 name \"\" -> String \n20 new Use -> Use \nGone p",
+        shown: "int String Gone Use void boolean \nUse < Gone \n5 this this -> Use \n5 name g -> Gone \n200 name 0 -> int \n200 name true -> boolean \n200 name false -> boolean \n200 name \"\" -> String \n20 method go Use Gone -> void \n20 new Use -> Use \nGone p",
     },
 ];
 
@@ -151,7 +151,7 @@ const NAMES: [Row<'static>; 4] = [
             ..PLAIN
         }],
         text: "package q; class Use { static void go() { int r = ",
-        shown: "int String A Use boolean \n\n200 name 0 -> int \n200 name true -> boolean \n200 name false -> boolean \n200 name \"\" -> String \n25 field \u{E9} A -> int \n25 method access$0 A -> int \n20 new Use -> Use \nint p",
+        shown: "int String A Use void boolean \n\n200 name 0 -> int \n200 name true -> boolean \n200 name false -> boolean \n200 name \"\" -> String \n25 field \u{E9} A -> int \n25 method access$0 A -> int \n20 call Use.go -> void \n20 new Use -> Use \nint p",
     },
     Row {
         classes: &[Class {
@@ -161,7 +161,7 @@ const NAMES: [Row<'static>; 4] = [
             ..PLAIN
         }],
         text: "package q; class Use { static void go() { int r = ",
-        shown: "int String q.1A Use boolean \n\n200 name 0 -> int \n200 name true -> boolean \n200 name false -> boolean \n200 name \"\" -> String \n25 field f q.1A -> int \n20 new Use -> Use \nint p",
+        shown: "int String q.1A Use void boolean \n\n200 name 0 -> int \n200 name true -> boolean \n200 name false -> boolean \n200 name \"\" -> String \n25 field f q.1A -> int \n20 call Use.go -> void \n20 new Use -> Use \nint p",
     },
     Row {
         classes: &[Class {
@@ -172,7 +172,7 @@ const NAMES: [Row<'static>; 4] = [
             ..PLAIN
         }],
         text: "package q; class Use { static void go() { int r = ",
-        shown: "int String q.1A.B Use boolean \n\n200 name 0 -> int \n200 name true -> boolean \n200 name false -> boolean \n200 name \"\" -> String \n25 field f q.1A.B -> int \n20 new Use -> Use \nint p",
+        shown: "int String q.1A.B Use void boolean \n\n200 name 0 -> int \n200 name true -> boolean \n200 name false -> boolean \n200 name \"\" -> String \n25 field f q.1A.B -> int \n20 call Use.go -> void \n20 new Use -> Use \nint p",
     },
     Row {
         classes: &[Class {
@@ -182,7 +182,7 @@ const NAMES: [Row<'static>; 4] = [
             ..PLAIN
         }],
         text: "package q; class Use { static void go() { int r = ",
-        shown: "int String Use q.a-b boolean \n\n200 name 0 -> int \n200 name true -> boolean \n200 name false -> boolean \n200 name \"\" -> String \n20 new Use -> Use \n25 method n q.a-b -> int \nint p",
+        shown: "int String Use q.a-b void boolean \n\n200 name 0 -> int \n200 name true -> boolean \n200 name false -> boolean \n200 name \"\" -> String \n20 call Use.go -> void \n20 new Use -> Use \n25 method n q.a-b -> int \nint p",
     },
 ];
 

@@ -20,7 +20,7 @@ pub struct Row<'a> {
 }
 
 /// The end of a text of one line: a unit past a line's end means its end.
-const END: (u32, u32) = (0, 1000);
+pub const END: (u32, u32) = (0, 1000);
 
 /// A document with this text.
 fn document(alloc: Global, text: &str) -> Result<Document, Fail> {
@@ -64,7 +64,7 @@ fn lists(alloc: Global, env: Env, wanted: &[(u32, &str)]) -> Result<bool, AllocE
 }
 
 /// Whether the whole list at the hole of a row has its items.
-fn is_listed(alloc: Global, row: &Row<'_>) -> Result<bool, Fail> {
+pub fn is_listed(alloc: Global, row: &Row<'_>) -> Result<bool, Fail> {
     let index = published(alloc, row.library)?;
     let env = env_of(alloc, &index, row)?;
     Ok(lists(alloc, env, row.items)?)

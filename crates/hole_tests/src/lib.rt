@@ -17,3 +17,5 @@ mod offer_tests;
 mod read_back_tests;
 #[cfg(test)]
 mod scope_tests;
+#[cfg(test)]
+mod void_tests;

@@ -59,7 +59,7 @@ fn index_of(alloc: Global, class: ClassSummary) -> Result<Index, Fail> {
 const TEXT: &str = "package q; class Use { static void go() { int r = ";
 
 const SHOWN: &str =
-    "int String A Use boolean \n\n200 name 0 -> int \n200 name true -> boolean \n200 name false -> boolean \n200 name \"\" -> String \n25 field f A -> int \n25 method m A -> int \n20 new Use -> Use \nint p";
+    "int String A Use void boolean \n\n200 name 0 -> int \n200 name true -> boolean \n200 name false -> boolean \n200 name \"\" -> String \n25 field f A -> int \n25 method m A -> int \n20 call Use.go -> void \n20 new Use -> Use \nint p";
 
 /// The first of each kind counts.
 #[test]

@@ -168,11 +168,23 @@ fn a_field_hides_a_class_of_its_name(rt: HostRuntime) -> Result<(), Fail> {
     Ok(())
 }
 
-/// The body of an interface `p.I`, and the types that are mentioned with the functional interfaces.
-const INTERFACES: [(&str, &str); 7] = [
+/// The body of an interface `p.I`, and the types of values that are mentioned with the functional interfaces.
+const INTERFACES: [(&str, &str); 10] = [
     ("", "I Ljava/lang/String; Lp/Use; Z "),
     ("int m();", "I Ljava/lang/String; Lp/I; Lp/Use; Z p/I "),
-    ("void m();", "I Ljava/lang/String; Lp/Use; Z "),
+    ("void m();", "I Ljava/lang/String; Lp/I; Lp/Use; Z p/I "),
+    (
+        "void m(); int n();",
+        "I Ljava/lang/String; Lp/I; Lp/Use; Z ",
+    ),
+    (
+        "void m(); int m(long l);",
+        "I J Ljava/lang/String; Lp/I; Lp/Use; Z ",
+    ),
+    (
+        "void m(); default void n() {} void wait();",
+        "I Ljava/lang/String; Lp/I; Lp/Use; Z p/I ",
+    ),
     ("int m(); int n();", "I Ljava/lang/String; Lp/I; Lp/Use; Z "),
     (
         "int m(); default int n() {}",
@@ -205,6 +217,31 @@ fn an_interface_of_one_promise_is_functional(rt: HostRuntime) -> Result<(), Fail
         let types = types_of(rt.alloc(), &offer)?;
         assert_eq!(rt; types.as_str(), all);
     }
+    Ok(())
+}
+
+/// The interface that annotations are below, and an annotation.
+const ANNOTATION: [&str; 2] = [
+    "package java.lang.annotation; public interface Annotation { int annotationType(); int hashCode(); String toString(); }",
+    "package p; public @interface Mark {}",
+];
+
+#[test]
+fn an_annotation_is_functional_where_its_super_is_known(rt: HostRuntime) -> Result<(), Fail> {
+    let text = text_with(rt.alloc(), "", "f")?;
+    let offer = offer_in(rt.alloc(), &ANNOTATION, text.as_str())?;
+    let types = types_of(rt.alloc(), &offer)?;
+    assert_eq!(rt;
+        types.as_str(),
+        "I Ljava/lang/String; Lp/Mark; Lp/Use; Z p/Mark "
+    );
+    let alone = offer_in(
+        rt.alloc(),
+        &["package p; public @interface Mark {}"],
+        text.as_str(),
+    )?;
+    let types = types_of(rt.alloc(), &alone)?;
+    assert_eq!(rt; types.as_str(), "I Ljava/lang/String; Lp/Use; Z ");
     Ok(())
 }
 

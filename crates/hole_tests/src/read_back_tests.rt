@@ -89,7 +89,7 @@ fn count_of(alloc: Global, env: &Env, same: Env) -> Result<usize, AllocError> {
 }
 
 /// Whether all items of a row's list are read back.
-fn are_read_back(alloc: Global, row: &Row<'_>) -> Result<bool, Fail> {
+pub fn are_read_back(alloc: Global, row: &Row<'_>) -> Result<bool, Fail> {
     let index = published(alloc, row.library)?;
     let env = env_of(alloc, &index, row)?;
     let same = env_of(alloc, &index, row)?;

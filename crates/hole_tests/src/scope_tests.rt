@@ -100,7 +100,7 @@ const ROWS: [([&str; 3], &str, &str); 13] = [
             "",
         ],
         "package q; class Use { static void go(B b) { int r = ",
-        "int String A B Use boolean \nB < A \n5 name b -> B \n200 name 0 -> int \n200 name true -> boolean \n200 name false -> boolean \n200 name \"\" -> String \n25 method m A -> int \n25 crowded new A -> A \n25 crowded new B -> B \n20 new Use -> Use \nint p",
+        "int String A B Use void boolean \nB < A \n5 name b -> B \n200 name 0 -> int \n200 name true -> boolean \n200 name false -> boolean \n200 name \"\" -> String \n25 method m A -> int \n25 crowded new A -> A \n25 crowded new B -> B \n20 call Use.go B -> void \n20 new Use -> Use \nint p",
     ),
     (
         [
@@ -109,7 +109,7 @@ const ROWS: [([&str; 3], &str, &str); 13] = [
             "",
         ],
         "package q; class Use { static void go(String s) { int r = ",
-        "int Object String T Use boolean \nString < Object T < Object Use < Object \n5 name s -> String \n200 name 0 -> int \n200 name true -> boolean \n200 name false -> boolean \n200 name \"\" -> String \n25 crowded call T.m Object -> int \n25 crowded call T.m String -> int \n20 new Use -> Use \nint p",
+        "int Object String T Use void boolean \nString < Object T < Object Use < Object \n5 name s -> String \n200 name 0 -> int \n200 name true -> boolean \n200 name false -> boolean \n200 name \"\" -> String \n25 crowded call T.m Object -> int \n25 crowded call T.m String -> int \n20 call Use.go String -> void \n20 new Use -> Use \nint p",
     ),
     (
         [
@@ -118,7 +118,7 @@ const ROWS: [([&str; 3], &str, &str); 13] = [
             "package q; public class B implements I, J { private B() {} }",
         ],
         "package q; class Use { static void go(B b) { int r = ",
-        "int String B I J Use boolean \nB < I B < J \n5 name b -> B \n200 name 0 -> int \n200 name true -> boolean \n200 name false -> boolean \n200 name \"\" -> String \n25 crowded method m I -> int \n25 crowded method m J -> int \n20 new Use -> Use \n10 lambda I fun int -> I \n10 lambda J fun int -> J \nint p",
+        "int String B I J Use void boolean \nB < I B < J \n5 name b -> B \n200 name 0 -> int \n200 name true -> boolean \n200 name false -> boolean \n200 name \"\" -> String \n25 crowded method m I -> int \n25 crowded method m J -> int \n20 call Use.go B -> void \n20 new Use -> Use \n10 lambda I fun int -> I \n10 lambda J fun int -> J \nint p",
     ),
     (
         [
@@ -127,12 +127,12 @@ const ROWS: [([&str; 3], &str, &str); 13] = [
             "package java.io; public class BufferedReader extends Reader { public BufferedReader(Reader r) {} }",
         ],
         "import java.io.*; class Demo { static void go(String name) { Reader r = ",
-        "int Demo BufferedReader FileReader Reader String boolean \nBufferedReader < Reader FileReader < Reader \n5 name name -> String \n200 name 0 -> int \n200 name true -> boolean \n200 name false -> boolean \n200 name \"\" -> String \n20 new Demo -> Demo \n1000 new BufferedReader Reader -> BufferedReader \n1000 new FileReader String -> FileReader \nReader p",
+        "int Demo BufferedReader FileReader Reader String void boolean \nBufferedReader < Reader FileReader < Reader \n5 name name -> String \n200 name 0 -> int \n200 name true -> boolean \n200 name false -> boolean \n200 name \"\" -> String \n20 call Demo.go String -> void \n20 new Demo -> Demo \n1000 new BufferedReader Reader -> BufferedReader \n1000 new FileReader String -> FileReader \nReader p",
     ),
     (
         ["", "", ""],
         "class P { int k; void f(int k) { int z = ",
-        "int P String boolean \n\n5 this this -> P \n5 name k -> int \n200 name 0 -> int \n200 name true -> boolean \n200 name false -> boolean \n200 name \"\" -> String \n20 hidden k P -> int \n20 new P -> P \nint p",
+        "int P String void boolean \n\n5 this this -> P \n5 name k -> int \n200 name 0 -> int \n200 name true -> boolean \n200 name false -> boolean \n200 name \"\" -> String \n20 hidden k P -> int \n20 method f P int -> void \n20 new P -> P \nint p",
     ),
     (
         ["", "", ""],
@@ -146,7 +146,7 @@ const ROWS: [([&str; 3], &str, &str); 13] = [
             "",
         ],
         "package p; import q.A; class Use { static void go(int B) { int r = ",
-        "int String Use A boolean \n\n5 name B -> int \n200 name 0 -> int \n200 name true -> boolean \n200 name false -> boolean \n200 name \"\" -> String \n20 new Use -> Use \n1000 name A.s -> int \nint p",
+        "int String Use A void boolean \n\n5 name B -> int \n200 name 0 -> int \n200 name true -> boolean \n200 name false -> boolean \n200 name \"\" -> String \n20 call Use.go int -> void \n20 new Use -> Use \n1000 name A.s -> int \nint p",
     ),
     (
         [
@@ -155,7 +155,7 @@ const ROWS: [([&str; 3], &str, &str); 13] = [
             "",
         ],
         "package p; import q.A; class Use { static void go(int A) { int r = ",
-        "int String Use A boolean \n\n5 name A -> int \n200 name 0 -> int \n200 name true -> boolean \n200 name false -> boolean \n200 name \"\" -> String \n20 new Use -> Use \nint p",
+        "int String Use A void boolean \n\n5 name A -> int \n200 name 0 -> int \n200 name true -> boolean \n200 name false -> boolean \n200 name \"\" -> String \n20 call Use.go int -> void \n20 new Use -> Use \nint p",
     ),
     (
         [
@@ -164,7 +164,7 @@ const ROWS: [([&str; 3], &str, &str); 13] = [
             "",
         ],
         "package p; import q.I; class Use { static void go(I i) { long[] r = ",
-        "int String Use q.A I boolean long[] \n\n5 name i -> I \n200 name 0 -> int \n200 name true -> boolean \n200 name false -> boolean \n200 name \"\" -> String \n20 new Use -> Use \n1000 method m I long[] -> q.A \n10 lambda I fun long[] q.A -> I \nlong[] p",
+        "int String Use q.A I void boolean long[] \n\n5 name i -> I \n200 name 0 -> int \n200 name true -> boolean \n200 name false -> boolean \n200 name \"\" -> String \n20 call Use.go I -> void \n20 new Use -> Use \n1000 method m I long[] -> q.A \n10 lambda I fun long[] q.A -> I \nlong[] p",
     ),
     (
         [
@@ -173,22 +173,22 @@ const ROWS: [([&str; 3], &str, &str); 13] = [
             "",
         ],
         "package q; class A { static void go(long l) { int r = ",
-        "int long String A boolean \nint < long \n5 name l -> long \n200 name 0 -> int \n200 name true -> boolean \n200 name false -> boolean \n200 name \"\" -> String \n20 new A -> A \nint p",
+        "int long String A void boolean \nint < long \n5 name l -> long \n200 name 0 -> int \n200 name true -> boolean \n200 name false -> boolean \n200 name \"\" -> String \n20 call A.go long -> void \n20 new A -> A \nint p",
     ),
     (
         ["", "", ""],
         "class A extends A { int k; void f() { int r = ",
-        "int A String boolean \n\n5 this this -> A \n200 name 0 -> int \n200 name true -> boolean \n200 name false -> boolean \n200 name \"\" -> String \n20 field k A -> int \n20 new A -> A \nint p",
+        "int A String void boolean \n\n5 this this -> A \n200 name 0 -> int \n200 name true -> boolean \n200 name false -> boolean \n200 name \"\" -> String \n20 field k A -> int \n20 method f A -> void \n20 new A -> A \nint p",
     ),
     (
         ["", "", ""],
         "class A { int k; } class A { int j; void f() { int r = ",
-        "int A String boolean \n\n5 this this -> A \n200 name 0 -> int \n200 name true -> boolean \n200 name false -> boolean \n200 name \"\" -> String \n20 field j A -> int \n20 new A -> A \nint p",
+        "int A String void boolean \n\n5 this this -> A \n200 name 0 -> int \n200 name true -> boolean \n200 name false -> boolean \n200 name \"\" -> String \n20 field j A -> int \n20 method f A -> void \n20 new A -> A \nint p",
     ),
     (
         ["", "", ""],
         "import x.Y; import z.*; import static a.B.c; class A { void f() { int r = ",
-        "int A String boolean \n\n5 this this -> A \n200 name 0 -> int \n200 name true -> boolean \n200 name false -> boolean \n200 name \"\" -> String \n20 new A -> A \nint p",
+        "int A String void boolean \n\n5 this this -> A \n200 name 0 -> int \n200 name true -> boolean \n200 name false -> boolean \n200 name \"\" -> String \n20 method f A -> void \n20 new A -> A \nint p",
     ),
 ];
 
@@ -211,7 +211,7 @@ fn a_hole_stands_behind_a_comment(rt: HostRuntime) -> Result<(), Fail> {
     let all = shown(rt.alloc(), &env)?;
     assert_eq!(rt;
         all.as_str(),
-        "int D String boolean \n\n5 this this -> D \n200 name 0 -> int \n200 name true -> boolean \n200 name false -> boolean \n200 name \"\" -> String \n20 new D -> D \nint p"
+        "int D String void boolean \n\n5 this this -> D \n200 name 0 -> int \n200 name true -> boolean \n200 name false -> boolean \n200 name \"\" -> String \n20 method f D -> void \n20 new D -> D \nint p"
     );
     Ok(())
 }

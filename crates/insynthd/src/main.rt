@@ -95,12 +95,25 @@ fn print_status(rt: &HostRuntime, status: &Status) {
     }
 }
 
-/// Prints a status, and where and why in words.
+/// Prints that memory was wanting, in words.
+fn print_no_memory(rt: &HostRuntime) {
+    let _printed = eprintln!(rt; "insynthd: {NO_MEMORY}");
+}
+
+/// Prints a status, and where and why in words. Where the words ask for nothing, memory alone may have been wanting, before
+/// the first wrong one was found.
 fn print_ending(rt: &HostRuntime, words: &[String], status: &Status) {
     print_status(rt, status);
-    if let Ok(command) = read_command(words) {
-        if let Some(reason) = reason_of(&command, status) {
-            let _printed = eprintln!(rt; "insynthd: {reason}");
+    match read_command(words) {
+        Ok(command) => {
+            if let Some(reason) = reason_of(&command, status) {
+                let _printed = eprintln!(rt; "insynthd: {reason}");
+            }
+        }
+        Err(_) => {
+            if status.code == 6 {
+                print_no_memory(rt);
+            }
         }
     }
 }
@@ -116,7 +129,7 @@ fn print_unread(rt: &HostRuntime, fault: Unread) -> Status {
         Unread::OutOfMemory => {
             let status = Status::plain(6);
             print_status(rt, &status);
-            let _printed = eprintln!(rt; "insynthd: {NO_MEMORY}");
+            print_no_memory(rt);
             status
         }
     }

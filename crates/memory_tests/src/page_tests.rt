@@ -111,7 +111,7 @@ fn shares_page<E: Levels + Drop, R: Wait>(
     if asked.from > 1000 || asked.count == 0 || asked.count > 1000 {
         return Ok(false);
     }
-    let page = shared_page(rt, alloc, shelf, print, env, asked.from, asked.count)?;
+    let (page, _) = shared_page(rt, alloc, shelf, print, env, asked.from, asked.count)?;
     let is_last = asked.from + asked.count >= asked.whole as u64;
     Ok(are_items(page.items.as_slice(), asked) && page.last == is_last)
 }

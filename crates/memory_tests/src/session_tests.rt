@@ -8,6 +8,7 @@ use std::alloc::{AllocError, Global};
 use std::marker::Brand;
 use std::sync::Wait;
 use std::test::Fail;
+use std::thread::Threads;
 use version_board::{Naming, Opened, Pass, Snapshot, start_board};
 
 // Bodies of messages.
@@ -120,27 +121,29 @@ fn is_outcome(outcome: &Outcome, wanted: (&str, &str)) -> bool {
 
 /// Whether a message is answered so after the text was opened once more.
 fn is_answered_again<W: World>(
+    rt: &(impl Threads + Sync),
     alloc: Global,
     session: &mut Session,
     world: &mut W,
     line: Line<'_>,
 ) -> Result<bool, AllocError> {
-    let _opened = session.step(alloc, DEMO.as_bytes(), world)?;
-    let outcome = session.step(alloc, line.1.as_bytes(), world)?;
+    let _opened = session.step(rt, alloc, DEMO.as_bytes(), world)?;
+    let outcome = session.step(rt, alloc, line.1.as_bytes(), world)?;
     Ok(is_outcome(&outcome, line.2))
 }
 
 /// Whether a message is answered so, at once or again where memory was wanting.
 fn is_answered<W: World>(
+    rt: &(impl Threads + Sync),
     alloc: Global,
     session: &mut Session,
     world: &mut W,
     line: Line<'_>,
 ) -> Result<bool, AllocError> {
-    match session.step(alloc, line.1.as_bytes(), world) {
-        Ok(Outcome::NoMemory(_)) => is_answered_again(alloc, session, world, line),
+    match session.step(rt, alloc, line.1.as_bytes(), world) {
+        Ok(Outcome::NoMemory(_)) => is_answered_again(rt, alloc, session, world, line),
         Ok(outcome) => Ok(is_outcome(&outcome, line.2)),
-        Err(_) => is_answered_again(alloc, session, world, line),
+        Err(_) => is_answered_again(rt, alloc, session, world, line),
     }
 }
 
@@ -157,7 +160,7 @@ fn files(alloc: Global) -> Result<SteadyShelf, AllocError> {
 }
 
 /// Whether two clients of a hub are answered so, line by line.
-fn are_answered<J: Naming, R: Wait + Drop>(
+fn are_answered<J: Naming, R: Threads + Wait + Drop + Sync>(
     rt: &R,
     alloc: Global,
     hub: &Hub<J, R>,
@@ -170,20 +173,22 @@ fn are_answered<J: Naming, R: Wait + Drop>(
         hub,
         pass,
         shelf: files(alloc)?,
+        ahead: None,
     };
     let mut other_world = RunningWorld {
         rt,
         hub,
         pass: other_pass,
         shelf: files(alloc)?,
+        ahead: None,
     };
     let mut session = Session::new(alloc);
     let mut other = Session::new(alloc);
     for line in lines {
         let is_right = if line.0 {
-            is_answered(alloc, &mut session, &mut world, *line)?
+            is_answered(rt, alloc, &mut session, &mut world, *line)?
         } else {
-            is_answered(alloc, &mut other, &mut other_world, *line)?
+            is_answered(rt, alloc, &mut other, &mut other_world, *line)?
         };
         if !is_right {
             return Ok(false);
@@ -193,7 +198,7 @@ fn are_answered<J: Naming, R: Wait + Drop>(
 }
 
 /// The same over a new board.
-fn board_answers<J: Naming, R: Wait + Copy + Drop>(
+fn board_answers<J: Naming, R: Threads + Wait + Copy + Drop + Sync>(
     rt: R,
     alloc: Global,
     opened: Opened,
@@ -215,7 +220,11 @@ fn board_answers<J: Naming, R: Wait + Copy + Drop>(
 }
 
 /// The same from the version 0 on.
-fn answers<R: Wait>(rt: &R, alloc: Global, lines: &[Line<'_>]) -> Result<bool, AllocError> {
+fn answers<R: Threads + Wait + Sync>(
+    rt: &R,
+    alloc: Global,
+    lines: &[Line<'_>],
+) -> Result<bool, AllocError> {
     let first = Snapshot::empty(alloc)?;
     board_answers::<Brand, &R>(rt, alloc, Opened::new(), first, lines)
 }

@@ -40,7 +40,7 @@ fn outcome(alloc: Global, method: Method, params: &Value) -> (u32, u32) {
 }
 
 /// Parameters of a method, and the cause and the index with which they are refused, or 0.
-const ROWS: [(Method, &str, u32, u32); 78] = [
+const ROWS: [(Method, &str, u32, u32); 86] = [
     (Method::Initialize, "{}", 0, 0),
     (Method::Initialize, "null", 0, 0),
     (Method::Initialize, "[1]", 0, 0),
@@ -192,6 +192,54 @@ const ROWS: [(Method, &str, u32, u32); 78] = [
         Method::Execute,
         "{\"command\":\"insynth.withdraw\",\"arguments\":[{\"through\":\"1\"}]}",
         1,
+        0,
+    ),
+    (
+        Method::Execute,
+        "{\"command\":\"insynth.publish\",\"arguments\":[{\"sources\":[7]}]}",
+        1,
+        0,
+    ),
+    (
+        Method::Execute,
+        "{\"command\":\"insynth.publish\",\"arguments\":[{\"known\":\"a/B\"}]}",
+        1,
+        0,
+    ),
+    (
+        Method::Execute,
+        "{\"command\":\"insynth.publish\",\"arguments\":[{\"sources\":null,\"known\":null}]}",
+        0,
+        0,
+    ),
+    (
+        Method::Execute,
+        "{\"command\":\"insynth.publish\",\"arguments\":[{\"put\":[\"file:///a\"],\"sources\":[\"file:///b\",\"x\"],\"remove\":[\"a.b\"]}]}",
+        8,
+        2,
+    ),
+    (
+        Method::Execute,
+        "{\"command\":\"insynth.publish\",\"arguments\":[{\"put\":[\"x\"],\"sources\":[\"x\"]}]}",
+        8,
+        0,
+    ),
+    (
+        Method::Execute,
+        "{\"command\":\"insynth.publish\",\"arguments\":[{\"known\":[\"a.b\"],\"counts\":[[\"\",1]]}]}",
+        13,
+        0,
+    ),
+    (
+        Method::Execute,
+        "{\"command\":\"insynth.publish\",\"arguments\":[{\"known\":[\"a/B$C\",\"$\",\"a/B$\",\"a//B\"]}]}",
+        22,
+        3,
+    ),
+    (
+        Method::Execute,
+        "{\"command\":\"insynth.publish\",\"arguments\":[{\"put\":[\"file:///a\"],\"known\":[\"\"]}]}",
+        22,
         0,
     ),
     (
@@ -573,7 +621,7 @@ fn uris_are_decoded(rt: HostRuntime) -> Result<(), Fail> {
 }
 
 const PUBLICATION: &str =
-    "{\"command\":\"insynth.publish\",\"arguments\":[{\"remove\":[\"a/B\"],\"counts\":[[\"A.f:[I\",4294967295]]}]}";
+    "{\"command\":\"insynth.publish\",\"arguments\":[{\"remove\":[\"a/B\"],\"counts\":[[\"A.f:[I\",4294967295]],\"sources\":[\"file:///A.java\"],\"known\":[\"b/C\"]}]}";
 
 #[test]
 fn a_publication_is_read(rt: HostRuntime) -> Result<(), Fail> {
@@ -584,10 +632,14 @@ fn a_publication_is_read(rt: HostRuntime) -> Result<(), Fail> {
                 puts,
                 removes,
                 counts,
+                sources,
+                known,
             },
         ) => {
             assert!(rt; puts.is_empty());
             assert!(rt; matches!(removes.as_slice(), [name] if name.as_str() == "a/B"));
+            assert!(rt; matches!(sources.as_slice(), [path] if path.as_str() == "/A.java"));
+            assert!(rt; matches!(known.as_slice(), [name] if name.as_str() == "b/C"));
             match counts.as_slice() {
                 [(key, count)] => assert!(rt; key.as_str() == "A.f:[I" && *count == u32::MAX),
                 _ => assert!(rt; false, "not one count"),

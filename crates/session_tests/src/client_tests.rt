@@ -9,6 +9,7 @@ use std::alloc::{AllocError, Global};
 use std::marker::Brand;
 use std::sync::Wait;
 use std::test::Fail;
+use std::thread::Threads;
 use version_board::{Naming, Opened, Snapshot, start_board};
 
 const INITIALIZE: &str = r#"{"jsonrpc":"2.0","id":1,"method":"initialize","params":{}}"#;
@@ -39,7 +40,7 @@ pub(crate) struct Left {
 }
 
 /// A session from a version on, over a board of its own, without files.
-pub(crate) fn serve_from<J: Naming, R: Wait + Drop + Copy>(
+pub(crate) fn serve_from<J: Naming, R: Threads + Wait + Drop + Copy + Sync>(
     rt: R,
     alloc: Global,
     opened: Opened,
@@ -61,6 +62,7 @@ pub(crate) fn serve_from<J: Naming, R: Wait + Drop + Copy>(
         session: Session::new(alloc),
         frames: Frames::new(alloc),
         pass: passes.pop().unwrap(),
+        ahead: None,
     };
     let (client, ended) = serve_client(&rt, alloc, &hub, client);
     let output = client.end.sink.bytes.as_slice().to_vec(alloc)?;
@@ -68,7 +70,7 @@ pub(crate) fn serve_from<J: Naming, R: Wait + Drop + Copy>(
 }
 
 /// A session from the version 0 on.
-pub(crate) fn serve<R: Wait>(
+pub(crate) fn serve<R: Threads + Wait + Sync>(
     rt: &R,
     alloc: Global,
     source: MemSource<'_>,
@@ -94,7 +96,7 @@ fn is(ended: &Ended, code: u8, place: u64, cause: u32) -> bool {
 }
 
 /// Whether the session of these bytes ends so, and these are the bodies of its replies.
-fn ends<R: Wait>(
+fn ends<R: Threads + Wait + Sync>(
     rt: &R,
     alloc: Global,
     input: &[u8],

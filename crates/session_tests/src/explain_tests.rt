@@ -18,7 +18,7 @@ const EXPLAINED: [(&str, &str); 16] = [
     ),
     (
         r#"{"jsonrpc":"2.0","id":3,"method":"workspace/executeCommand","params":{"command":"insynth.explain","arguments":[{"cursor":1,"item":0}]}}"#,
-        r#"{"id":3,"jsonrpc":"2.0","result":{"rows":[[15,3,1005],[1,5,5]],"weight":1015}}"#,
+        r#"{"id":3,"jsonrpc":"2.0","result":{"rows":[[17,3,1005],[1,5,5]],"weight":1015}}"#,
     ),
     (
         r#"{"jsonrpc":"2.0","id":4,"method":"workspace/executeCommand","params":{"command":"insynth.explain","arguments":[{"cursor":1}]}}"#,
@@ -50,7 +50,7 @@ const EXPLAINED: [(&str, &str); 16] = [
     ),
     (
         r#"{"jsonrpc":"2.0","id":11,"method":"workspace/executeCommand","params":{"command":"insynth.explain","arguments":[{"cursor":1,"item":0}]}}"#,
-        r#"{"id":11,"jsonrpc":"2.0","result":{"rows":[[15,3,1005],[1,5,5]],"weight":1015}}"#,
+        r#"{"id":11,"jsonrpc":"2.0","result":{"rows":[[17,3,1005],[1,5,5]],"weight":1015}}"#,
     ),
     (
         r#"{"jsonrpc":"2.0","id":12,"method":"workspace/executeCommand","params":{"command":"insynth.explain","arguments":[{"cursor":1,"item":null}]}}"#,
@@ -118,7 +118,7 @@ const BETWEEN_PAGES: [(&str, &str); 7] = [
     ),
     (
         r#"{"jsonrpc":"2.0","id":5,"method":"workspace/executeCommand","params":{"command":"insynth.explain","arguments":[{"cursor":1,"item":2}]}}"#,
-        r#"{"id":5,"jsonrpc":"2.0","result":{"rows":[[13,2,2015],[15,3,1005],[1,5,5]],"weight":2025}}"#,
+        r#"{"id":5,"jsonrpc":"2.0","result":{"rows":[[15,2,2015],[17,3,1005],[1,5,5]],"weight":2025}}"#,
     ),
     (
         r#"{"jsonrpc":"2.0","id":6,"method":"workspace/executeCommand","params":{"command":"insynth.page","arguments":[{"cursor":1,"count":2}]}}"#,

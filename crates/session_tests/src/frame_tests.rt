@@ -3,6 +3,7 @@ use outside::{FaultPlan, MemSink, MemSource};
 use std::alloc::{AllocError, Global};
 use std::sync::Wait;
 use std::test::Fail;
+use std::thread::Threads;
 
 // Bodies of messages, each after its length in bytes.
 
@@ -11,7 +12,7 @@ pub(crate) const INITIALIZE: (usize, &str) = (
     r#"{"jsonrpc":"2.0","id":1,"method":"initialize","params":{}}"#,
 );
 
-const INITIALIZE_TO_30: (usize, &str) = (
+pub(crate) const INITIALIZE_TO_30: (usize, &str) = (
     94,
     r#"{"jsonrpc":"2.0","id":1,"method":"initialize","params":{"initializationOptions":{"limit":30}}}"#,
 );
@@ -25,12 +26,12 @@ const EARLY: (usize, &str) = (
     r#"{"jsonrpc":"2.0","id":1,"method":"textDocument/completion","params":{"textDocument":{"uri":"file:///Demo.java"},"position":{"line":0,"character":0}}}"#,
 );
 
-const FIELD_AND_PARAMETER: (usize, &str) = (
+pub(crate) const FIELD_AND_PARAMETER: (usize, &str) = (
     186,
     r#"{"jsonrpc":"2.0","method":"textDocument/didOpen","params":{"textDocument":{"uri":"file:///Demo.java","languageId":"java","version":1,"text":"class P { int k; void f(int k) { int z = "}}}"#,
 );
 
-const AFTER_FIELD: (usize, &str) = (
+pub(crate) const AFTER_FIELD: (usize, &str) = (
     150,
     r#"{"jsonrpc":"2.0","id":3,"method":"textDocument/completion","params":{"textDocument":{"uri":"file:///Demo.java"},"position":{"line":0,"character":41}}}"#,
 );
@@ -90,7 +91,7 @@ const CLOSE: (usize, &str) = (
     r#"{"jsonrpc":"2.0","method":"textDocument/didClose","params":{"textDocument":{"uri":"file:///Demo.java"}}}"#,
 );
 
-const PAGE: (usize, &str) = (
+pub(crate) const PAGE: (usize, &str) = (
     133,
     r#"{"jsonrpc":"2.0","id":4,"method":"workspace/executeCommand","params":{"command":"insynth.page","arguments":[{"cursor":1,"count":1}]}}"#,
 );
@@ -186,7 +187,7 @@ pub(crate) fn framed(alloc: Global, bodies: &[(usize, &str)]) -> Result<String, 
 }
 
 /// Whether a client that sends these frames is replied those, and its session ends by this code.
-fn gives<R: Wait>(
+fn gives<R: Threads + Wait + Sync>(
     rt: &R,
     alloc: Global,
     sent: &[(usize, &str)],
@@ -206,7 +207,7 @@ fn gives<R: Wait>(
 }
 
 /// Whether each row gives its replies and its code.
-fn all_give<R: Wait>(
+fn all_give<R: Threads + Wait + Sync>(
     rt: &R,
     alloc: Global,
     rows: &[(&[(usize, &str)], u8, &[(usize, &str)])],

@@ -4,6 +4,10 @@
 #![tactic(auto)]
 
 #[cfg(test)]
+mod ahead_tests;
+#[cfg(test)]
+mod batch_tests;
+#[cfg(test)]
 mod client_tests;
 #[cfg(test)]
 mod count_tests;
@@ -25,6 +29,8 @@ mod sample_tests;
 mod serve_tests;
 #[cfg(test)]
 mod several_tests;
+#[cfg(test)]
+mod source_file_tests;
 #[cfg(test)]
 mod two_client_tests;
 #[cfg(test)]

@@ -5,6 +5,7 @@ use sessions::{MemWorld, Outcome, Session, World};
 use std::alloc::{AllocError, Global};
 use std::sync::Wait;
 use std::test::Fail;
+use std::thread::Threads;
 
 /// `public class A extends java/lang/Object`, without members.
 const A: [u8; 53] = [
@@ -233,7 +234,8 @@ fn is_told(outcome: &Outcome, reply: &str) -> bool {
 }
 
 /// How many of these messages a new session answers as they say, up to the first that it doesn't.
-fn told<W: World>(
+pub(crate) fn told<W: World>(
+    rt: &(impl Threads + Sync),
     alloc: Global,
     world: &mut W,
     messages: &[(&str, &str)],
@@ -241,7 +243,7 @@ fn told<W: World>(
     let mut session = Session::new(alloc);
     let mut count: usize = 0;
     for (body, reply) in messages {
-        let outcome = session.step(alloc, body.as_bytes(), world)?;
+        let outcome = session.step(rt, alloc, body.as_bytes(), world)?;
         if !is_told(&outcome, reply) {
             return Ok(count);
         }
@@ -251,18 +253,18 @@ fn told<W: World>(
 }
 
 /// The same over the version 0, where loads fail by the plan.
-fn told_first<R: Wait>(
+fn told_first<R: Threads + Wait + Sync>(
     rt: &R,
     alloc: Global,
     plan: FaultPlan,
     messages: &[(&str, &str)],
 ) -> Result<usize, AllocError> {
     let mut world = MemWorld::new(rt, alloc, shelf(alloc, plan)?)?;
-    told(alloc, &mut world, messages)
+    told(rt, alloc, &mut world, messages)
 }
 
 /// The same over the version of the three readers.
-pub(crate) fn told_after<R: Wait>(
+pub(crate) fn told_after<R: Threads + Wait + Sync>(
     rt: &R,
     alloc: Global,
     messages: &[(&str, &str)],
@@ -270,7 +272,7 @@ pub(crate) fn told_after<R: Wait>(
     let shelf = MemShelf::new(Items::new(alloc), FaultPlan::none(alloc));
     let mut world = MemWorld::new(rt, alloc, shelf)?;
     match world.publish(alloc, readers(alloc)?) {
-        Ok(_) => told(alloc, &mut world, messages),
+        Ok(_) => told(rt, alloc, &mut world, messages),
         Err(_) => Err(AllocError),
     }
 }
@@ -282,13 +284,13 @@ fn files_are_refused_at_their_numbers(rt: HostRuntime) -> Result<(), Fail> {
     Ok(())
 }
 
-/// No file is loaded where parameters are refused, none after the one that is answered, and none twice.
+/// No file is loaded where parameters are refused, none after one that gives no bytes, and none twice.
 #[test]
 fn each_file_is_loaded_once(rt: HostRuntime) -> Result<(), Fail> {
     let shelf = shelf(rt.alloc(), FaultPlan::none(rt.alloc()))?;
     let mut world = MemWorld::new(&rt, rt.alloc(), shelf)?;
-    assert_eq!(rt; told(rt.alloc(), &mut world, &FILES_TOLD)?, 9);
-    assert_eq!(rt; world.shelf.plan.calls, 8);
+    assert_eq!(rt; told(&rt, rt.alloc(), &mut world, &FILES_TOLD)?, 9);
+    assert_eq!(rt; world.shelf.plan.calls, 9);
     Ok(())
 }
 
@@ -316,7 +318,7 @@ fn a_file_may_be_too_long(rt: HostRuntime) -> Result<(), Fail> {
         .files
         .push(file(rt.alloc(), "/huge.class", huge.as_slice())?)?;
     let mut world = MemWorld::new(&rt, rt.alloc(), shelf)?;
-    assert_eq!(rt; told(rt.alloc(), &mut world, &TOO_LONG_TOLD)?, 3);
+    assert_eq!(rt; told(&rt, rt.alloc(), &mut world, &TOO_LONG_TOLD)?, 3);
     Ok(())
 }
 

@@ -13,6 +13,7 @@ use std::alloc::{AllocError, Global};
 use std::marker::Brand;
 use std::sync::Wait;
 use std::test::Fail;
+use std::thread::Threads;
 use version_board::{Naming, Opened, Pass, Snapshot, start_board};
 
 pub(crate) const PUT_A: (usize, &str) = (
@@ -40,7 +41,7 @@ struct Script<'a> {
 }
 
 /// Whether a client of a hub that sends what the script says is written what it says.
-fn is_told<J: Naming, R: Wait + Drop>(
+fn is_told<J: Naming, R: Threads + Wait + Drop + Sync>(
     rt: R,
     alloc: Global,
     hub: &Hub<J, R>,
@@ -57,13 +58,14 @@ fn is_told<J: Naming, R: Wait + Drop>(
         session: Session::new(alloc),
         frames: Frames::new(alloc),
         pass,
+        ahead: None,
     };
     let (client, _) = serve_client(&rt, alloc, hub, client);
     client.end.sink.bytes.as_slice() == told
 }
 
 /// Whether two clients of one board are told what their scripts say, the second after the first one's session.
-fn are_told<J: Naming, R: Wait + Drop + Copy>(
+fn are_told<J: Naming, R: Threads + Wait + Drop + Copy + Sync>(
     rt: R,
     alloc: Global,
     opened: Opened,
@@ -82,7 +84,7 @@ fn are_told<J: Naming, R: Wait + Drop + Copy>(
 }
 
 /// The same over the version after a change.
-fn are_told_after<J: Naming, R: Wait>(
+fn are_told_after<J: Naming, R: Threads + Wait + Sync>(
     rt: &R,
     alloc: Global,
     opened: Opened,
@@ -99,7 +101,7 @@ fn are_told_after<J: Naming, R: Wait>(
 }
 
 /// Whether they are told so over the version of the three readers.
-fn follow<R: Wait>(
+fn follow<R: Threads + Wait + Sync>(
     rt: &R,
     alloc: Global,
     one: Script<'_>,

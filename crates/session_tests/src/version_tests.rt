@@ -12,6 +12,7 @@ use std::alloc::{AllocError, Global};
 use std::marker::Brand;
 use std::sync::Wait;
 use std::test::Fail;
+use std::thread::Threads;
 use type_names::{Base, Erased};
 use version_board::{Naming, Opened, Snapshot};
 
@@ -130,7 +131,7 @@ pub(crate) fn version_after(alloc: Global, change: &Change) -> Result<Snapshot, 
 }
 
 /// A session from the version after one change on.
-fn serve_after<J: Naming, R: Wait>(
+fn serve_after<J: Naming, R: Threads + Wait + Sync>(
     rt: &R,
     alloc: Global,
     opened: Opened,
@@ -148,7 +149,7 @@ fn serve_after<J: Naming, R: Wait>(
 }
 
 /// Whether a client that sends these frames over the version after a change is replied those.
-pub(crate) fn gives<R: Wait>(
+pub(crate) fn gives<R: Threads + Wait + Sync>(
     rt: &R,
     alloc: Global,
     change: &Change,

@@ -27,7 +27,13 @@ fn words_round(
 /// The start text of the words and the number of their pairs, where they ask for a server.
 fn asked(words: &[String]) -> Option<(Option<&str>, usize)> {
     match read_command(words) {
-        Ok(Command::Serve { start, pairs }) => Some((start, pairs as usize)),
+        Ok(
+            Command::Serve {
+                start,
+                pairs,
+                ahead: None,
+            },
+        ) => Some((start, pairs as usize)),
         _ => None,
     }
 }

@@ -95,7 +95,13 @@ fn words_of(alloc: Global, texts: &[&str]) -> Result<Vec<String>, AllocError> {
 /// The start text of the words, where they ask for a server with one.
 fn start_of(words: &[String]) -> Option<&str> {
     match read_command(words) {
-        Ok(Command::Serve { start, pairs: _ }) => start,
+        Ok(
+            Command::Serve {
+                start,
+                pairs: _,
+                ahead: _,
+            },
+        ) => start,
         _ => None,
     }
 }
@@ -215,7 +221,8 @@ fn a_server_has_at_most_63_pairs(rt: HostRuntime) -> Result<(), Fail> {
             read_command(words.as_slice()),
             Ok(Command::Serve {
                 start: None,
-                pairs: 63
+                pairs: 63,
+                ahead: None,
             })
         )
     );

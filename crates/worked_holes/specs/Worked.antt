@@ -1,5 +1,5 @@
 -- Versions with the classes of small texts, in which the holes worked out by hand have one environment.
-use Rattle.std.specs.Prelude.{◌≡◌, ◌↔◌, ℕ, List, [], ◌∷◌, codes}
+use Rattle.std.specs.Prelude.{◌≡◌, ◌↔◌, ℕ, List, [], ◌∷◌, codes, None}
 use Rattle.type_names.specs.Names.{object_name}
 use Rattle.known_classes.specs.declared.summary.ClassSummary.{ClassSummary}
 use Rattle.decl_index.specs.History.{State}
@@ -9,7 +9,7 @@ use Rattle.java_units.specs.declared.types.Unit as unit
 use Rattle.java_bodies.specs.declared.site.HoleSite.{HoleSite}
 use Rattle.offers.specs.Scenes.{of_class}
 use Rattle.scopes.specs.Environments.{IsEnvironmentAt}
-use Rattle.scopes.specs.Rows.{class_by, made, made_of, gives_int, reader}
+use Rattle.scopes.specs.Rows.{class_by, method_by, int, made, made_of, gives_int, reader}
 
 -- A version with these classes, in which no member was used and no weights were set.
 unfoldable pub version : List ClassSummary → ℕ → State
@@ -43,3 +43,7 @@ of_streams =
     class_by (codes "java/io/BufferedReader") 1 (reader ∷ []) [] (made_of reader ∷ [])
     ∷ class_by (codes "java/io/FileReader") 1 (reader ∷ []) [] (made_of (codes "java/lang/String") ∷ [])
     ∷ class_by reader 1025 (object_name ∷ []) [] [] ∷ []
+
+-- An interface of one method without result.
+unfoldable pub of_a_sink : List ClassSummary
+of_a_sink = class_by (codes "q/K") 1537 (object_name ∷ []) [] (method_by 1025 (codes "put") (int ∷ []) None ∷ []) ∷ []

@@ -65,7 +65,7 @@ fn gets_its_list<R: Wait>(
     let env = env_of(alloc, number)?;
     let print = if is_one_print { 7 } else { print_of(&env) };
     for _ in 0..50 {
-        let page = shared_page(rt, alloc, shelf, print, &env, 0, 9)?;
+        let (page, _) = shared_page(rt, alloc, shelf, print, &env, 0, 9)?;
         if !has_texts(&page, texts) {
             return Ok(false);
         }
@@ -118,6 +118,7 @@ fn take_pages<J: Naming, R: Wait + Drop>(
         shelf: SteadyShelf {
             files: Items::new(alloc),
         },
+        ahead: None,
     };
     let first = world.page(alloc, env, 0, 1)?;
     let second = world.page(alloc, env, 1, 2)?;
@@ -190,6 +191,7 @@ fn found_after<J: Naming, R: Wait + Drop>(
         shelf: SteadyShelf {
             files: Items::new(alloc),
         },
+        ahead: None,
     };
     for hole in 0..holes {
         let env = Fingerprinted::new(calls(alloc, "long", 1, hole.saturating_add(75))?);

@@ -5,6 +5,8 @@
 #![tactic(auto)]
 
 #[cfg(test)]
+mod ahead_tests;
+#[cfg(test)]
 mod board_tests;
 #[cfg(test)]
 mod fingerprint_tests;

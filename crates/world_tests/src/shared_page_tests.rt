@@ -127,7 +127,7 @@ fn gives<E: Levels + Drop, R: Wait>(
     if wanted.from > 1000 || wanted.count == 0 || wanted.count > 1000 {
         return Ok(false);
     }
-    let page = shared_page(rt, alloc, shelf, print, env, wanted.from, wanted.count)?;
+    let (page, _) = shared_page(rt, alloc, shelf, print, env, wanted.from, wanted.count)?;
     Ok(is_wanted(&page, wanted))
 }
 

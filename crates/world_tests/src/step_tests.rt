@@ -4,6 +4,7 @@ use sessions::{MemWorld, Outcome, Session, World};
 use std::alloc::{AllocError, Global};
 use std::sync::Wait;
 use std::test::Fail;
+use std::thread::Threads;
 
 const INITIALIZE: &str = r#"{"jsonrpc":"2.0","id":1,"method":"initialize","params":{}}"#;
 
@@ -23,6 +24,7 @@ const TOO_EARLY: &str =
 
 /// The outcome of the last of these bodies.
 fn step_each<W: World>(
+    rt: &(impl Threads + Sync),
     alloc: Global,
     session: &mut Session,
     world: &mut W,
@@ -30,21 +32,25 @@ fn step_each<W: World>(
 ) -> Result<Outcome, AllocError> {
     let mut outcome = Outcome::Silent;
     for body in bodies {
-        outcome = session.step(alloc, body.as_bytes(), world)?;
+        outcome = session.step(rt, alloc, body.as_bytes(), world)?;
     }
     Ok(outcome)
 }
 
 /// The same in a new session over the version 0.
-fn last<R: Wait>(rt: &R, alloc: Global, bodies: &[&str]) -> Result<Outcome, AllocError> {
+fn last<R: Threads + Wait + Sync>(
+    rt: &R,
+    alloc: Global,
+    bodies: &[&str],
+) -> Result<Outcome, AllocError> {
     let shelf = MemShelf::new(Items::new(alloc), FaultPlan::none(alloc));
     let mut world = MemWorld::new(rt, alloc, shelf)?;
     let mut session = Session::new(alloc);
-    step_each(alloc, &mut session, &mut world, bodies)
+    step_each(rt, alloc, &mut session, &mut world, bodies)
 }
 
 /// Whether the last of these bodies is replied so.
-fn replies<R: Wait>(
+fn replies<R: Threads + Wait + Sync>(
     rt: &R,
     alloc: Global,
     bodies: &[&str],
@@ -57,7 +63,7 @@ fn replies<R: Wait>(
 }
 
 /// Whether the last of these bodies ends the session, after `shutdown` or not.
-fn exits<R: Wait>(
+fn exits<R: Threads + Wait + Sync>(
     rt: &R,
     alloc: Global,
     bodies: &[&str],
