@@ -37,9 +37,9 @@ class Late(Exception):
 class Server:
     """A running server, one request at a time."""
 
-    def __init__(self, program, start, options, patience):
+    def __init__(self, program, start, options, patience, words=()):
         begin = time.perf_counter()
-        self.child = subprocess.Popen([program, "serve", "--start", start], stdin=subprocess.PIPE, stdout=subprocess.PIPE)
+        self.child = subprocess.Popen([program, "serve", "--start", start, *words], stdin=subprocess.PIPE, stdout=subprocess.PIPE)
         self.held, self.number, self.patience = b"", 0, patience
         self.request("initialize", {"capabilities": {}, "initializationOptions": options}, 600)
         self.notify("initialized", {})
